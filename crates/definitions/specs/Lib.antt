@@ -1,0 +1,9 @@
+-- What every word of the library means. Assumes nothing.
+pub mod Ints
+pub mod Areas
+pub mod Refusals
+pub mod Warnings
+pub mod Outcome
+pub mod Packed
+pub mod Stream
+pub mod Packer

@@ -1,0 +1,38 @@
+-- What a call comes to: a value or a refusal, each with the warnings counted up to there. Assumes nothing.
+use Prim.Native.Nat.{ℕ}
+use Rattle.definitions.specs.Warnings.{Counts, none, plus}
+
+pub data Outcome (A : Type 0) : Type 0 where
+  ok : A → Counts → Outcome A
+  err : ℕ → Counts → Outcome A
+
+module _ {A : Type 0} where
+  -- a value, without a warning
+  abbrev pub return : A → Outcome A
+  return a = ok a none
+
+  -- a refusal, without a warning
+  abbrev pub refuse : ℕ → Outcome A
+  refuse n = err n none
+
+  -- an outcome with earlier warnings added
+  abbrev pub after : Counts → Outcome A → Outcome A
+  after w (ok a v) = ok a (plus w v)
+  after w (err n v) = err n (plus w v)
+
+infixl 10 _>>=_ _>>_
+
+-- one step and then the next, which the first one's value goes into; a refusal ends both
+abbrev pub _>>=_ : {A B : Type 0} → Outcome A → (A → Outcome B) → Outcome B
+ok a w >>= f = after w (f a)
+err n w >>= f = err n w
+
+-- one step and then the next
+abbrev pub _>>_ : {A B : Type 0} → Outcome A → Outcome B → Outcome B
+ok a w >> o = after w o
+err n w >> o = err n w
+
+-- what a call comes to, and what the area that it writes then holds
+pub record Wrote (A E : Type 0) : Type 0 where
+  pub answer : Outcome A
+  pub out : mathlib.Core.List.List E

@@ -1,0 +1,91 @@
+-- The 13 kinds of warning, and a count for each. Assumes nothing.
+use mathlib.Core.Bool.{cond}
+use Prim.Native.Nat.{ℕ, _+_}
+use lib.Dec.{eqb}
+
+-- the kinds: two of the packer, eight of tables and deltas, two of the receiver, one of the store
+pub data Warning : Type 0 where
+  OverlongIntEncoding NonZeroIntPadding : Warning
+  NonZeroPadding DuplicateDelete DuplicateUpdate UnknownDelete : Warning
+  DeleteUpdate NumUpdatedItems ExcessSnapData ExcessUuidItemData : Warning
+  DuplicateSnap DifferingAttributes : Warning
+  WeirdNegativeDeltaTick : Warning
+
+-- the place of a kind where the counts stand in a row
+abbrev pub index : Warning → ℕ
+index OverlongIntEncoding = 0
+index NonZeroIntPadding = 1
+index NonZeroPadding = 2
+index DuplicateDelete = 3
+index DuplicateUpdate = 4
+index UnknownDelete = 5
+index DeleteUpdate = 6
+index NumUpdatedItems = 7
+index ExcessSnapData = 8
+index ExcessUuidItemData = 9
+index DuplicateSnap = 10
+index DifferingAttributes = 11
+index WeirdNegativeDeltaTick = 12
+
+-- how often each kind was counted
+pub record Counts : Type 0 where
+  pub overlongIntEncoding : ℕ
+  pub nonZeroIntPadding : ℕ
+  pub nonZeroPadding : ℕ
+  pub duplicateDelete : ℕ
+  pub duplicateUpdate : ℕ
+  pub unknownDelete : ℕ
+  pub deleteUpdate : ℕ
+  pub numUpdatedItems : ℕ
+  pub excessSnapData : ℕ
+  pub excessUuidItemData : ℕ
+  pub duplicateSnap : ℕ
+  pub differingAttributes : ℕ
+  pub weirdNegativeDeltaTick : ℕ
+
+-- what a number for each kind makes
+abbrev pub counted : (Warning → ℕ) → Counts
+counted f =
+    record {
+      overlongIntEncoding = f OverlongIntEncoding;
+      nonZeroIntPadding = f NonZeroIntPadding;
+      nonZeroPadding = f NonZeroPadding;
+      duplicateDelete = f DuplicateDelete;
+      duplicateUpdate = f DuplicateUpdate;
+      unknownDelete = f UnknownDelete;
+      deleteUpdate = f DeleteUpdate;
+      numUpdatedItems = f NumUpdatedItems;
+      excessSnapData = f ExcessSnapData;
+      excessUuidItemData = f ExcessUuidItemData;
+      duplicateSnap = f DuplicateSnap;
+      differingAttributes = f DifferingAttributes;
+      weirdNegativeDeltaTick = f WeirdNegativeDeltaTick;
+    }
+
+-- the count of a kind
+abbrev pub count : Counts → Warning → ℕ
+count c OverlongIntEncoding = c .overlongIntEncoding
+count c NonZeroIntPadding = c .nonZeroIntPadding
+count c NonZeroPadding = c .nonZeroPadding
+count c DuplicateDelete = c .duplicateDelete
+count c DuplicateUpdate = c .duplicateUpdate
+count c UnknownDelete = c .unknownDelete
+count c DeleteUpdate = c .deleteUpdate
+count c NumUpdatedItems = c .numUpdatedItems
+count c ExcessSnapData = c .excessSnapData
+count c ExcessUuidItemData = c .excessUuidItemData
+count c DuplicateSnap = c .duplicateSnap
+count c DifferingAttributes = c .differingAttributes
+count c WeirdNegativeDeltaTick = c .weirdNegativeDeltaTick
+
+-- no warning
+abbrev pub none : Counts
+none = counted (λ k. 0)
+
+-- one warning of a kind
+abbrev pub one : Warning → Counts
+one w = counted (λ k. cond (eqb (index k) (index w)) 1 0)
+
+-- both, added up
+abbrev pub plus : Counts → Counts → Counts
+plus a b = counted (λ k. count a k + count b k)

@@ -1,0 +1,3 @@
+-- What the refusals and the counted warnings of the code mean. Assumes nothing.
+pub mod Numbers
+pub mod Totals

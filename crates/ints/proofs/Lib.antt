@@ -1,0 +1,2 @@
+-- Facts that the proofs of `ints` share. Assumes nothing.
+pub mod Signs

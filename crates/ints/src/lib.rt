@@ -1,0 +1,94 @@
+// Signed 32-bit integers: their bits, wrapping sums, both orders, and slices of them.
+ghost use mathlib.Core.Path.{_≡_};
+ghost use Rattle.definitions.specs.Ints.{bits, fromBits, wrappingAdd, wrappingSub, signedLess, unsignedLess};
+ghost use Rattle.definitions.specs.Ints as Ints;
+ghost use Rattle.definitions.specs.Areas.{cleared};
+ghost use Rattle.ints.specs.Copies.{copyAt};
+
+// The bits of x.
+pub fn to_bits(x: i32) -> u32
+    ensures { λ r. ⌜ r ≡ bits x ⌝ }
+{
+    if x < 0 { !(!x as u32) } else { x as u32 }
+}
+
+// The int with the bits b.
+pub fn from_bits(b: u32) -> i32
+    ensures { λ r. ⌜ r ≡ fromBits b ⌝ }
+{
+    if b < 2147483648 {
+        b as i32
+    } else {
+        !(!b as i32)
+    }
+}
+
+// The sum modulo 2^32.
+pub fn wrapping_add(a: i32, b: i32) -> i32
+    ensures { λ r. ⌜ r ≡ wrappingAdd a b ⌝ }
+{
+    from_bits(std::num::wrapping_add_u32(to_bits(a), to_bits(b)))
+}
+
+// The difference modulo 2^32.
+pub fn wrapping_sub(a: i32, b: i32) -> i32
+    ensures { λ r. ⌜ r ≡ wrappingSub a b ⌝ }
+{
+    from_bits(std::num::wrapping_sub_u32(to_bits(a), to_bits(b)))
+}
+
+// Whether the key a comes before b where a table is walked.
+pub fn signed_less(a: i32, b: i32) -> bool
+    ensures { λ r. ⌜ r ≡ signedLess a b ⌝ }
+{
+    a < b
+}
+
+// Whether the key a comes before b where a table is written.
+pub fn unsigned_less(a: i32, b: i32) -> bool
+    ensures { λ r. ⌜ r ≡ unsignedLess a b ⌝ }
+{
+    to_bits(a) < to_bits(b)
+}
+
+// The sum of all, modulo 2^32.
+pub fn sum(xs: &[i32]) -> i32
+    ensures { λ r. ⌜ r ≡ Ints.sum (now (xs .entry)) ⌝ }
+{
+    let mut total: i32 = 0;
+    let mut i: usize = 0;
+    while i < xs.len() {
+        total = wrapping_add(total, xs[i]);
+        i += 1;
+    }
+    total
+}
+
+// Copies xs into out from a place on; where it does not fit: false, and out is left as it was.
+pub fn copy_into(out: &mut [i32], at: usize, xs: &[i32]) -> bool
+    ensures { λ r. ⌜ copyAt (now (out .entry)) at (now (xs .entry)) ≡ record { fits = r; out = now (out .exit) } ⌝ }
+{
+    if out.len() < at {
+        return false;
+    }
+    if out.len() - at < xs.len() {
+        return false;
+    }
+    let mut i: usize = 0;
+    while i < xs.len() {
+        out[at + i] = xs[i];
+        i += 1;
+    }
+    true
+}
+
+// Sets every entry of out to 0.
+pub fn clear(out: &mut [i32])
+    ensures { λ _. ⌜ now (out .exit) ≡ cleared (now (out .entry)) ⌝ }
+{
+    let mut i: usize = 0;
+    while i < out.len() {
+        out[i] = 0;
+        i += 1;
+    }
+}

@@ -1,0 +1,60 @@
+-- Laws of lent areas. Assumes nothing.
+use mathlib.Core.Path.{_≡_, refl, sym, ap, _∙_}
+use mathlib.Core.List.{List, [], _∷_, _++_}
+use Prim.Native.Nat.{ℕ, zero, suc, _+_, _≤_, _<_}
+use native.Mathlib.Numerals.{add-one}
+use native.Mathlib.Omega.{arith}
+use native.Mathlib.Nat.{add-assoc}
+use lib.ListN.{length, drop, getD, set, drop-of-length-le}
+use lib.Seq.{drop-cons}
+use Rattle.definitions.specs.Areas.{lay, layAt}
+
+module _ {E : Type 0} where
+  -- an area stays as long as it is
+  pub length-lay : (xs area : List E) → length (lay xs area) ≡ length area
+  length-lay [] area = refl
+  length-lay (x ∷ xs) [] = refl
+  length-lay (x ∷ xs) (a ∷ area) = ap suc (length-lay xs area)
+
+  pub length-layAt : (n : ℕ) (xs area : List E) → length (layAt n xs area) ≡ length area
+  length-layAt zero xs area = length-lay xs area
+  length-layAt (suc n) xs [] = refl
+  length-layAt (suc n) xs (a ∷ area) = ap suc (length-layAt n xs area)
+
+  -- nothing laid changes nothing
+  pub layAt-nothing : (n : ℕ) (area : List E) → layAt n [] area ≡ area
+  layAt-nothing zero area = refl
+  layAt-nothing (suc n) [] = refl
+  layAt-nothing (suc n) (a ∷ area) = ap (λ (l : List E). a ∷ l) (layAt-nothing n area)
+
+  -- past its end an area takes nothing
+  pub layAt-past : (n : ℕ) (xs area : List E) → length area ≤ n → layAt n xs area ≡ area
+  layAt-past zero [] area h = refl
+  layAt-past zero (x ∷ xs) [] h = refl
+  layAt-past zero (x ∷ xs) (a ∷ area) h = let z : ⊥ = omega arith in absurd z
+  layAt-past (suc n) xs [] h = refl
+  layAt-past (suc n) xs (a ∷ area) h = ap (λ (l : List E). a ∷ l) (layAt-past n xs area (omega arith))
+
+  next : (n : ℕ) (x : E) (xs area : List E) → n < length area → layAt n (x ∷ xs) area ≡ layAt (suc n) xs (set area n x)
+  next n x xs [] h = let z : ⊥ = omega arith in absurd z
+  next zero x xs (a ∷ area) h = refl
+  next (suc n) x xs (a ∷ area) h = ap (λ (l : List E). a ∷ l) (next n x xs area (omega arith))
+
+  -- the first entry is stored, and the others are laid behind it
+  pub layAt-set : (n : ℕ) (x : E) (xs area : List E) → n < length area → layAt n (x ∷ xs) area ≡ layAt (n + 1) xs (set area n x)
+  layAt-set n x xs area h = rw add-one (next n x xs area h)
+
+  -- what fits stands at the front, and then what the area held
+  pub lay-append : (xs area : List E) → length xs ≤ length area → lay xs area ≡ xs ++ drop (length xs) area
+  lay-append [] area h = refl
+  lay-append (x ∷ xs) [] h = let z : ⊥ = omega arith in absurd z
+  lay-append (x ∷ xs) (a ∷ area) h = ap (λ (l : List E). x ∷ l) (lay-append xs area (omega arith))
+
+  -- one more entry of a list is copied
+  pub layAt-copy : (at i : ℕ) (d : E) (xs area : List E) → i < length xs → at + i < length area → layAt (at + i) (drop i xs) area ≡ layAt (at + (i + 1)) (drop (i + 1) xs) (set area (at + i) (getD xs i d))
+  layAt-copy at i d xs area h k =
+      rw (drop-cons xs i d h, layAt-set (at + i) (getD xs i d) (drop (suc i) xs) area k, ← add-one i, add-assoc)
+
+  -- all of a list is copied
+  pub layAt-copied : (at i : ℕ) (xs area : List E) → length xs ≤ i → layAt (at + i) (drop i xs) area ≡ area
+  layAt-copied at i xs area h = rw (drop-of-length-le xs h) (layAt-nothing (at + i) area)

@@ -1,0 +1,9 @@
+-- What follows from the definitions alone, and document 01's marked cases. Assumes nothing.
+pub mod Tests
+pub mod IntLaws
+pub mod AreaLaws
+pub mod OutcomeLaws
+pub mod PackedLaws
+pub mod Shortest
+pub mod StreamLaws
+pub mod Cases

@@ -1,0 +1,78 @@
+-- Laws of the stream of integers. Assumes nothing.
+use mathlib.Core.Path.{_≡_, refl, sym, ap, _∙_}
+use mathlib.Core.List.{List, [], _∷_, _++_}
+use mathlib.Core.Bool.{Bool, true, false, cond}
+use Prim.Native.Nat.{ℕ, zero, suc, _+_, _-_, _*_, _/_, _%_, _^_, _≤_, _<_}
+use native.Mathlib.Omega.{arith}
+use lib.IntN.{ℤ}
+use lib.ListN.{length, drop, length-append}
+use mir.Syntax.{w32}
+use mir.Val.{SFits}
+use Rattle.definitions.specs.Warnings.{Counts, none}
+use Rattle.definitions.specs.Outcome.{Outcome, ok, err}
+use Rattle.definitions.specs.Packed.{Read, extend, sign, more, readInt, writeInt}
+use Rattle.definitions.specs.Stream.{Stream, int, end, cut, andThen, streamUpTo, stream}
+use Rattle.laws.specs.PackedLaws.{read-write}
+
+-- ---- what is left after an integer is a later part of the bytes
+
+pub data Within (l : List ℕ) : Outcome Read → Type 0 where
+  part : {r : Read} {w : Counts} → length (r .rest) < length l → r .rest ≡ drop (length l - length (r .rest)) l → Within l (ok r w)
+  nothing : {n : ℕ} {w : Counts} → Within l (err n w)
+
+either : {l : List ℕ} {x y : Outcome Read} (b : Bool) → Within l x → Within l y → Within l (cond b x y)
+either true h k = h
+either false h k = k
+
+later : {b : ℕ} {bs : List ℕ} {o : Outcome Read} → Within bs o → Within (b ∷ bs) o
+later {b} {bs} (part {r = r} h q) =
+    let e : suc (length bs) - length (r .rest) ≡ suc (length bs - length (r .rest)) = omega arith in
+    part {r = r} (omega arith) (q ∙ ap (λ (k : ℕ). drop k (b ∷ bs)) (sym e))
+later nothing = nothing
+
+here : {b : ℕ} {bs : List ℕ} {x : ℤ} {w : Counts} → Within (b ∷ bs) (ok (record { value = x; rest = bs }) w)
+here {b} {bs} {x} =
+    let e : suc (length bs) - length bs ≡ 1 = omega arith in
+    part {r = record { value = x; rest = bs }} (omega arith) (ap (λ (k : ℕ). drop k (b ∷ bs)) (sym e))
+
+more-within : (n w d : ℕ) (s : Bool) (l : List ℕ) → Within l (more n w d s l)
+unfolding more
+more-within n w d s [] = nothing
+more-within zero w d s (b ∷ bs) = here
+more-within (suc n) w d s (b ∷ bs) =
+    either (extend b) (later (more-within n (w * 128) (d + b % 128 * w) s bs)) here
+
+pub read-within : (l : List ℕ) → Within l (readInt l)
+unfolding readInt
+read-within [] = nothing
+read-within (b ∷ bs) = either (extend b) (later (more-within 3 64 (b % 64) (sign b) bs)) here
+
+-- ---- the bound on the number of integers does not matter
+
+then-same : {l : List ℕ} {o : Outcome Read} (f g : List ℕ → Stream) → Within l o → ((rest : List ℕ) → length rest < length l → f rest ≡ g rest) → andThen o f ≡ andThen o g
+then-same f g (part {r = r} {w = w} h q) k = ap (λ (t : Stream). int (r .value) w t) (k (r .rest) h)
+then-same f g nothing k = refl
+
+same : (n m : ℕ) (l : List ℕ) → length l ≤ n → length l ≤ m → streamUpTo n l ≡ streamUpTo m l
+same zero zero l h k = refl
+same zero (suc m) [] h k = refl
+same zero (suc m) (b ∷ bs) h k = let z : ⊥ = omega arith in absurd z
+same (suc n) zero [] h k = refl
+same (suc n) zero (b ∷ bs) h k = let z : ⊥ = omega arith in absurd z
+same (suc n) (suc m) [] h k = refl
+same (suc n) (suc m) (b ∷ bs) h k =
+    then-same (λ rest. streamUpTo n rest) (λ rest. streamUpTo m rest) (read-within (b ∷ bs))
+    (λ rest q. same n m rest (omega arith) (omega arith))
+
+-- no bytes are no integers
+pub stream-end : stream [] ≡ end
+unfolding stream
+stream-end = refl
+
+-- the first integer, and then the stream of what is left
+pub stream-step : (l : List ℕ) → 0 < length l → stream l ≡ andThen (readInt l) stream
+unfolding stream
+stream-step [] h = let z : ⊥ = omega arith in absurd z
+stream-step (b ∷ bs) h =
+    then-same (λ rest. streamUpTo (length bs) rest) stream (read-within (b ∷ bs))
+    (λ rest q. same (length bs) (length rest) rest (omega arith) (omega arith))

@@ -1,0 +1,1 @@
+// The laws stand in specs/. This crate has no code.

@@ -1,0 +1,4 @@
+-- Facts that the proofs of `packer` share. Assumes nothing.
+pub mod Steps
+pub mod Writes
+pub mod Answers

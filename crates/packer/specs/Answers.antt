@@ -1,0 +1,28 @@
+-- What the answers of `packer` mean: document 01's number and values of each case. Assumes nothing.
+use Prim.Native.Nat.{ℕ}
+use Rattle.definitions.specs.Refusals.{unexpectedEnd}
+use Rattle.definitions.specs.Warnings.{Counts}
+use Rattle.definitions.specs.Outcome.{Outcome, ok, err, return, refuse}
+use Rattle.definitions.specs.Packed.{warned}
+use Rattle.definitions.specs.Packer.{IntAt, Unpacked}
+use Rattle.format.specs.Numbers.{number}
+use Rattle.format.specs.Totals.{counts}
+use Rattle.packer.specs.declared.IntRead.{IntRead}
+use Rattle.packer.specs.declared.IntRead.the-variants.{Int, End}
+use Rattle.packer.specs.declared.IntWrite.{IntWrite}
+use Rattle.packer.specs.declared.IntWrite.the-variants as write
+
+use Rattle.packer.specs.declared.Unpack.{Unpack}
+use Rattle.packer.specs.declared.Unpack.the-variants as unpack
+
+abbrev pub intRead : IntRead → Outcome IntAt
+intRead (Int x next overlong padding) = ok (record { value = x; next = next }) (warned overlong padding)
+intRead End = refuse unexpectedEnd
+
+abbrev pub intWrite : IntWrite → Outcome ℕ
+intWrite (write.Next n) = return n
+intWrite (write.Refused e) = refuse (number e)
+-- an answer with the counts beside it
+abbrev pub unpacked : Unpack → Counts → Outcome Unpacked
+unpacked (unpack.Ints n c) w = ok (record { count = n; cut = c }) w
+unpacked (unpack.Refused e) w = err (number e) w

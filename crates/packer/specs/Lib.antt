@@ -1,0 +1,3 @@
+-- What the answers of `packer` mean. Assumes nothing.
+pub mod Answers
+pub mod Bytes

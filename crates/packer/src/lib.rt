@@ -1,0 +1,193 @@
+// Packed integers.
+// Format: ESDD_DDDD EDDD_DDDD EDDD_DDDD EDDD_DDDD PPPP_DDDD
+// E: another byte follows; S: sign; D: digits, the lowest first; P: padding, which must be 0.
+ghost use mathlib.Core.Path.{_≡_};
+ghost use mathlib.Core.Bool.{cond};
+ghost use Prim.Native.Nat.{_+_, _/_, _≤_, _<_, _^_};
+ghost use lib.ListN.{length};
+ghost use lib.Signed.{mag};
+ghost use Rattle.definitions.specs.Areas.{layAt};
+ghost use Rattle.definitions.specs.Packed.{signed, signBit, writeMore, writeInt};
+ghost use Rattle.definitions.specs.Stream.{stream};
+ghost use Rattle.definitions.specs.Packer.{readIntAt, writeIntAt, unpackInto};
+ghost use Rattle.format.specs.Totals.{counts};
+ghost use Rattle.packer.specs.Answers.{intRead, intWrite, unpacked};
+ghost use Rattle.packer.specs.Bytes.{moreAt};
+use format::Error;
+use format::Warnings;
+
+// What stands at a place: an int with the place after it and whether it has each warning; or the bytes end inside it.
+pub enum IntRead {
+    Int {
+        value: i32,
+        next: usize,
+        overlong: bool,
+        padding: bool,
+    },
+    End,
+}
+
+// The place after what was written, or why nothing was.
+pub enum IntWrite {
+    Next(usize),
+    Refused(Error),
+}
+
+// How many ints were unpacked and whether the last one of the bytes was cut, or why nothing was.
+pub enum Unpack {
+    Ints { count: usize, cut: bool },
+    Refused(Error),
+}
+
+pub struct Unpacked {
+    pub answer: Unpack,
+    pub warnings: Warnings,
+}
+
+// The int with the digits d; the sign turns all bits over.
+fn signed_value(sign: bool, d: u32) -> i32
+    ensures { λ r. ⌜ r ≡ signed sign d ⌝ }
+{
+    if sign {
+        ints::from_bits(!d)
+    } else {
+        ints::from_bits(d)
+    }
+}
+
+// The integer at a place of src.
+pub fn read_int(src: &[u8], at: usize) -> IntRead
+    ensures { λ r. ⌜ readIntAt (now (src .entry)) at ≡ intRead r ⌝ }
+{
+    if src.len() <= at {
+        return IntRead::End;
+    }
+    let b = src[at] as u32;
+    let sign = b / 64 % 2 == 1;
+    if b < 128 {
+        return IntRead::Int {
+            value: signed_value(sign, b % 64),
+            next: at + 1,
+            overlong: false,
+            padding: false,
+        };
+    }
+    read_more(src, at + 1, sign, b % 64)
+}
+
+// The bytes of an integer after its first, whose digits are first.
+fn read_more(src: &[u8], start: usize, sign: bool, first: u32) -> IntRead
+    requires { ⌜ first < 64 ⌝ }
+    ensures { λ r. ⌜ moreAt (now (src .entry)) start 3 64 first sign ≡ intRead r ⌝ }
+{
+    let mut at = start;
+    let mut digits = first;
+    let mut weight: u32 = 64;
+    let mut left: u32 = 3;
+    while 0 < left {
+        if src.len() <= at {
+            return IntRead::End;
+        }
+        let b = src[at] as u32;
+        if b < 128 {
+            return IntRead::Int {
+                value: signed_value(sign, digits + b * weight),
+                next: at + 1,
+                overlong: b == 0,
+                padding: false,
+            };
+        }
+        digits += b % 128 * weight;
+        weight *= 128;
+        left -= 1;
+        at += 1;
+    }
+    read_fifth(src, at, sign, digits)
+}
+
+// The fifth byte of an integer: bit 4 lands in bit 31, and the bits above vanish.
+fn read_fifth(src: &[u8], at: usize, sign: bool, digits: u32) -> IntRead
+    requires { ⌜ digits < 2 ^ 27 ⌝ }
+    ensures { λ r. ⌜ moreAt (now (src .entry)) at 0 134217728 digits sign ≡ intRead r ⌝ }
+{
+    if src.len() <= at {
+        return IntRead::End;
+    }
+    let b = src[at] as u32;
+    IntRead::Int {
+        value: signed_value(sign, digits + b % 32 * 134217728),
+        next: at + 1,
+        overlong: b == 0,
+        padding: 16 <= b,
+    }
+}
+
+// The digits of an int: x, or -1 - x of a negative x.
+fn magnitude(x: i32) -> u32
+    ensures { λ r. ⌜ (r ≡ mag x) × (r < 2 ^ 31) ⌝ }
+{
+    if x < 0 { !x as u32 } else { x as u32 }
+}
+
+// The sign's bit in the first byte.
+fn sign_bit(x: i32) -> u32
+    ensures { λ r. ⌜ (r ≡ signBit x) × (r ≤ 64) ⌝ }
+{
+    if x < 0 { 64 } else { 0 }
+}
+
+// How many bytes the shortest form of an int has.
+pub fn written_len(int: i32) -> usize
+    ensures { λ r. ⌜ r ≡ length (writeInt int) ⌝ }
+{
+    let digits = magnitude(int);
+    if digits < 64 {
+        return 1;
+    }
+    if digits < 8192 {
+        return 2;
+    }
+    if digits < 1048576 {
+        return 3;
+    }
+    if digits < 134217728 {
+        return 4;
+    }
+    5
+}
+
+// The shortest form of an int, into out at a place; where it does not fit, out is left as it was.
+pub fn write_int(out: &mut [u8], at: usize, int: i32) -> IntWrite
+    ensures { λ r. ⌜ writeIntAt (now (out .entry)) at int ≡ record { answer = intWrite r; out = now (out .exit) } ⌝ }
+{
+    if out.len() < at {
+        return IntWrite::Refused(Error::CapacityError);
+    }
+    if out.len() - at < written_len(int) {
+        return IntWrite::Refused(Error::CapacityError);
+    }
+    let digits = magnitude(int);
+    let sign = sign_bit(int);
+    if digits < 64 {
+        out[at] = (sign + digits) as u8;
+        return IntWrite::Next(at + 1);
+    }
+    out[at] = (128 + sign + digits % 64) as u8;
+    IntWrite::Next(write_more(out, at + 1, digits / 64))
+}
+
+// The digits above the first six, into out from a place on; the place after them.
+fn write_more(out: &mut [u8], start: usize, digits: u32) -> usize
+    requires { ⌜ (digits < 2 ^ 25) × (start + length (writeMore 3 digits) ≤ length (now out)) ⌝ }
+    ensures { λ r. ⌜ (r ≡ start + length (writeMore 3 digits)) × (now (out .exit) ≡ layAt start (writeMore 3 digits) (now (out .entry))) ⌝ }
+{
+    let mut at = start;
+    let mut left = digits;
+    while 128 <= left {
+        out[at] = (128 + left % 128) as u8;
+        left /= 128;
+        at += 1;
+    }
+    out[at] = left as u8;
+    at + 1
+}

@@ -1,0 +1,136 @@
+/*
+ * cefdugar: the way of a rule table from the controller to the printer.
+ *
+ * Link with the static library libcapi.a (x86-64), which `rt staticlib capi`
+ * proves and writes to target/staticlib.
+ *
+ * A function answers CEF_OK or the number of its refusal. What it sets and
+ * what it leaves stands beside each one.
+ *
+ * Every pointer must be valid for the length that goes with it, and not null
+ * even where that length is 0. What a function writes to must not overlap
+ * with anything else that it is given. A function keeps no pointer and has no
+ * state of its own.
+ */
+
+#ifndef CEFDUGAR_H
+#define CEFDUGAR_H
+
+#include <stddef.h>
+#include <stdint.h>
+
+#ifdef __cplusplus
+extern "C" {
+#endif
+
+/* ---- Answers ---- */
+
+#define CEF_OK 0u
+
+/* Packed integers, tables, deltas, types. */
+#define CEF_UNEXPECTED_END 1u
+#define CEF_INT_OUT_OF_RANGE 2u
+#define CEF_DELETED_ITEMS_UNPACKING 3u
+#define CEF_ITEM_DIFFS_UNPACKING 4u
+#define CEF_TYPE_ID_RANGE 5u
+#define CEF_ID_RANGE 6u
+#define CEF_NEGATIVE_SIZE 7u
+#define CEF_TOO_LONG_SNAP 8u
+#define CEF_TOO_MANY_ITEMS 9u
+#define CEF_DELTA_DIFFERING_SIZES 10u
+#define CEF_OFFSETS_UNPACKING 11u
+#define CEF_INVALID_OFFSET 12u
+#define CEF_ITEMS_UNPACKING 13u
+#define CEF_DUPLICATE_KEY 14u
+#define CEF_DUPLICATE_UUID_TYPE 15u
+#define CEF_INVALID_UUID_TYPE 16u
+#define CEF_MISSING_UUID_TYPE 17u
+
+/* Receiver. */
+#define CEF_RECEIVER_OLD_DELTA 20u
+#define CEF_INVALID_NUM_PARTS 21u
+#define CEF_INVALID_PART 22u
+#define CEF_DUPLICATE_PART 23u
+
+/* Store. */
+#define CEF_STORAGE_OLD_DELTA 30u
+#define CEF_UNKNOWN_SNAP 31u
+#define CEF_INVALID_CRC 32u
+
+/* Lent areas, lengths and forms. */
+#define CEF_CAPACITY_ERROR 40u
+#define CEF_SCRATCH_TOO_SHORT 41u
+#define CEF_INPUT_TOO_LONG 42u
+#define CEF_PART_TOO_LONG 43u
+#define CEF_STORE_FULL 44u
+#define CEF_INVALID_TYPE_ID 45u
+#define CEF_KNOWN_SIZE_DIFFERS 46u
+#define CEF_NOT_IN_FORM 47u
+
+/* ---- Warnings: the place of each kind in an array of counts ---- */
+
+#define CEF_WARN_OVERLONG_INT_ENCODING 0
+#define CEF_WARN_NON_ZERO_INT_PADDING 1
+#define CEF_WARN_NON_ZERO_PADDING 2
+#define CEF_WARN_DUPLICATE_DELETE 3
+#define CEF_WARN_DUPLICATE_UPDATE 4
+#define CEF_WARN_UNKNOWN_DELETE 5
+#define CEF_WARN_DELETE_UPDATE 6
+#define CEF_WARN_NUM_UPDATED_ITEMS 7
+#define CEF_WARN_EXCESS_SNAP_DATA 8
+#define CEF_WARN_EXCESS_UUID_ITEM_DATA 9
+#define CEF_WARN_DUPLICATE_SNAP 10
+#define CEF_WARN_DIFFERING_ATTRIBUTES 11
+#define CEF_WARN_WEIRD_NEGATIVE_DELTA_TICK 12
+#define CEF_WARNINGS 13
+
+/* ---- Packed integers ---- */
+
+/* The most bytes that a packed integer takes. */
+#define CEF_INT_BYTES 5
+
+/*
+ * Reads the packed integer that begins at place `at` of the `src_len` bytes
+ * at `src`.
+ *
+ * CEF_OK: *value is the integer, *next the place after it.
+ * CEF_UNEXPECTED_END: the bytes end inside it, or at >= src_len. *value and
+ * *next are left.
+ *
+ * `warnings`: all counts of this call are set, refused or not.
+ */
+uint32_t cef_read_int(const uint8_t *src, size_t src_len, size_t at,
+                      int32_t *value, size_t *next,
+                      size_t warnings[CEF_WARNINGS]);
+
+/*
+ * Writes `value` in its shortest form at place `at` of the `out_len` bytes at
+ * `out`.
+ *
+ * CEF_OK: *next is the place after it. All other bytes of `out` are left.
+ * CEF_CAPACITY_ERROR: it does not fit, or at > out_len. `out` and *next are
+ * left.
+ */
+uint32_t cef_write_int(uint8_t *out, size_t out_len, size_t at, int32_t value,
+                       size_t *next);
+
+/*
+ * Reads all the packed integers of the `src_len` bytes at `src` into the front
+ * of the `out_len` ints at `out`.
+ *
+ * CEF_OK: *count ints are written, those behind them are left. *cut is 1
+ * where the end of the bytes cut off the last integer, which is then not
+ * among the ints, else 0.
+ * CEF_CAPACITY_ERROR: the ints do not fit. `out`, *count and *cut are left.
+ *
+ * `warnings`: all counts of the whole input are set in both cases.
+ */
+uint32_t cef_unpack(const uint8_t *src, size_t src_len, int32_t *out,
+                    size_t out_len, size_t *count, uint32_t *cut,
+                    size_t warnings[CEF_WARNINGS]);
+
+#ifdef __cplusplus
+}
+#endif
+
+#endif

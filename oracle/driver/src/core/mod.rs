@@ -1,0 +1,12 @@
+//! What all parts share.
+
+pub mod area;
+pub mod bench;
+pub mod damage;
+pub mod oracle;
+pub mod random;
+pub mod record;
+pub mod report;
+pub mod shrink;
+pub mod text;
+pub mod told;

@@ -1,0 +1,31 @@
+//! Bytes and numbers as text.
+
+/// Two digits a byte, lowercase; `-` for no bytes.
+pub fn hex(bytes: &[u8]) -> String {
+    if bytes.is_empty() {
+        return "-".to_string();
+    }
+    bytes.iter().map(|byte| format!("{byte:02x}")).collect()
+}
+
+/// [`hex`], cut where it gets long.
+pub fn hex_short(bytes: &[u8]) -> String {
+    const MOST: usize = 400;
+    match bytes.len() {
+        0..=MOST => hex(bytes),
+        len => format!("{}.. ({len} bytes)", hex(&bytes[..MOST])),
+    }
+}
+
+/// A number with a comma before every three digits.
+pub fn thousands(number: u64) -> String {
+    let digits = number.to_string();
+    let mut text = String::new();
+    for (i, digit) in digits.chars().enumerate() {
+        if i > 0 && (digits.len() - i) % 3 == 0 {
+            text.push(',');
+        }
+        text.push(digit);
+    }
+    text
+}

@@ -1,0 +1,40 @@
+//! The parts: one for each subject.
+//!
+//! A new part is a module with a function `part`, listed in [`all`]. What the
+//! Rust says stands in its `oracle`, what both sides do on one input in its
+//! `calls`, and which inputs they get in its `compare`.
+
+mod examples;
+mod packer;
+
+use crate::core::bench::Table;
+use crate::core::random::Random;
+use crate::core::record::Record;
+use crate::core::report::Difference;
+use crate::core::report::Run;
+
+/// How many rounds of random inputs a run makes.
+pub struct Rounds {
+    pub quick: u64,
+    pub full: u64,
+}
+
+/// A sample of the Rust's answers.
+pub struct Recorded {
+    /// The program crate that replays it.
+    pub replayed_by: &'static str,
+    pub fill: fn(&mut Record, &mut Random),
+}
+
+pub struct Part {
+    pub name: &'static str,
+    pub rounds: Rounds,
+    /// Compares until the first difference.
+    pub compare: fn(&mut Run) -> Result<(), Difference>,
+    pub record: Option<Recorded>,
+    pub bench: Option<fn(&mut Table)>,
+}
+
+pub fn all() -> Vec<Part> {
+    vec![examples::part(), packer::part()]
+}

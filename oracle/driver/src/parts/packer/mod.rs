@@ -1,0 +1,205 @@
+//! Packed integers: `read_int`, `write_int`, `unpack`.
+
+mod bench;
+mod calls;
+mod inputs;
+mod oracle;
+mod record;
+
+use super::Part;
+use super::Recorded;
+use super::Rounds;
+use crate::core::damage::damage;
+use crate::core::random::Random;
+use crate::core::report::Difference;
+use crate::core::report::Length;
+use crate::core::report::Run;
+use calls::Calls;
+
+pub use inputs::MARKED;
+
+pub fn part() -> Part {
+    Part {
+        name: "packer",
+        rounds: Rounds {
+            quick: 20,
+            full: 20_000,
+        },
+        compare,
+        record: Some(Recorded {
+            replayed_by: "replay_packer",
+            fill: record::fill,
+        }),
+        bench: Some(bench::bench),
+    }
+}
+
+type Result = std::result::Result<(), Difference>;
+
+fn compare(run: &mut Run) -> Result {
+    let mut calls = Calls::new();
+    short_strings(run, &mut calls)?;
+    telling_strings(run, &mut calls)?;
+    ints(run, &mut calls)?;
+    lists(run, &mut calls)?;
+    for round in 0..run.rounds {
+        let mut random = run.random(round);
+        random_ints(run, &mut calls, &mut random)?;
+        random_strings(run, &mut calls, &mut random)?;
+        damaged_lists(run, &mut calls, &mut random)?;
+    }
+    Ok(())
+}
+
+/// Reads at every place of `src` and outside of it.
+fn read_everywhere(run: &mut Run, calls: &mut Calls, src: &[u8]) -> Result {
+    for at in 0..=src.len() + 2 {
+        calls.read(run, src, at)?;
+    }
+    for at in inputs::FAR {
+        calls.read(run, src, at)?;
+    }
+    Ok(())
+}
+
+/// Unpacks `src` into an area of exactly enough room, one less, one more and
+/// none.
+fn unpack_all_rooms(run: &mut Run, calls: &mut Calls, src: &[u8]) -> Result {
+    for spare in [0, -1, 1, isize::MIN] {
+        calls.unpack(run, src, spare)?;
+    }
+    Ok(())
+}
+
+/// All byte strings of up to two bytes in every way, all of three, and in a
+/// full run all of four.
+fn short_strings(run: &mut Run, calls: &mut Calls) -> Result {
+    read_everywhere(run, calls, &[])?;
+    unpack_all_rooms(run, calls, &[])?;
+    for a in 0..=255 {
+        read_everywhere(run, calls, &[a])?;
+        unpack_all_rooms(run, calls, &[a])?;
+        for b in 0..=255 {
+            read_everywhere(run, calls, &[a, b])?;
+            unpack_all_rooms(run, calls, &[a, b])?;
+            for c in 0..=255 {
+                calls.read(run, &[a, b, c], 0)?;
+                for spare in [1, 0, -1] {
+                    calls.unpack(run, &[a, b, c], spare)?;
+                }
+                if run.length == Length::Full {
+                    for d in 0..=255 {
+                        calls.read(run, &[a, b, c, d], 0)?;
+                        calls.unpack(run, &[a, b, c, d], 1)?;
+                    }
+                }
+            }
+        }
+    }
+    Ok(())
+}
+
+/// All strings of four to six bytes over a small alphabet: what the fourth
+/// byte, the fifth and the one behind it do.
+fn telling_strings(run: &mut Run, calls: &mut Calls) -> Result {
+    for len in 4..=6 {
+        for number in 0..inputs::TELLING.len().pow(len) {
+            let src = inputs::numbered(number, len, &inputs::TELLING);
+            calls.read(run, &src, 0)?;
+            calls.unpack(run, &src, 1)?;
+        }
+    }
+    Ok(())
+}
+
+/// Writes `int` into areas of every room, at several places.
+fn write_all_rooms(run: &mut Run, calls: &mut Calls, int: i32) -> Result {
+    for at in [0, 1, 7] {
+        for room in 0..=6 {
+            calls.write(run, at + room, at, int)?;
+        }
+    }
+    Ok(())
+}
+
+/// All ints around each boundary and all small ones.
+fn ints(run: &mut Run, calls: &mut Calls) -> Result {
+    for int in inputs::boundary_ints() {
+        write_all_rooms(run, calls, int)?;
+        for len in 0..=6 {
+            for at in len + 1..=len + 3 {
+                calls.write(run, len, at, int)?;
+            }
+            for at in inputs::FAR {
+                calls.write(run, len, at, int)?;
+            }
+        }
+    }
+    for int in -70_000..=70_000 {
+        write_all_rooms(run, calls, int)?;
+    }
+    Ok(())
+}
+
+/// All lists of up to four ints over a small alphabet, written and unpacked.
+fn lists(run: &mut Run, calls: &mut Calls) -> Result {
+    for len in 0..=4 {
+        for number in 0..inputs::LIST_INTS.len().pow(len) {
+            let list = inputs::numbered(number, len, &inputs::LIST_INTS);
+            calls.write_list(run, &list)?;
+            unpack_all_rooms(run, calls, &oracle::packed(&list))?;
+        }
+    }
+    Ok(())
+}
+
+fn random_ints(run: &mut Run, calls: &mut Calls, random: &mut Random) -> Result {
+    for _ in 0..10_000 {
+        let int = if random.chance(1, 2) {
+            random.int()
+        } else {
+            random.bits() as i32
+        };
+        let at = random.below(12);
+        let room = random.below(8);
+        calls.write(run, at + room, at, int)?;
+    }
+    Ok(())
+}
+
+fn random_strings(run: &mut Run, calls: &mut Calls, random: &mut Random) -> Result {
+    for (len, times) in inputs::LENGTHS {
+        for _ in 0..times {
+            let src = inputs::bytes(len, random);
+            unpack_all_rooms(run, calls, &src)?;
+            if len <= 1_000 {
+                read_everywhere(run, calls, &src)?;
+            } else {
+                for _ in 0..20 {
+                    let at = random.below(len + 2);
+                    calls.read(run, &src, at)?;
+                }
+                for at in len - 6..=len + 1 {
+                    calls.read(run, &src, at)?;
+                }
+            }
+        }
+    }
+    Ok(())
+}
+
+fn damaged_lists(run: &mut Run, calls: &mut Calls, random: &mut Random) -> Result {
+    for _ in 0..1_000 {
+        let len = random.below(40);
+        let list: Vec<i32> = (0..len).map(|_| random.int()).collect();
+        calls.write_list(run, &list)?;
+        let mut src = oracle::packed(&list);
+        for _ in 0..random.between(1, 3) {
+            damage(&mut src, random);
+        }
+        unpack_all_rooms(run, calls, &src)?;
+        let at = random.below(src.len() + 1);
+        calls.read(run, &src, at)?;
+    }
+    Ok(())
+}

@@ -1,0 +1,78 @@
+//! What the Rust says of packed integers, and document 01 where the Rust has
+//! no such call: a place outside of the bytes, and ints that do not fit.
+
+use crate::core::oracle::Number;
+use crate::core::oracle::Tally;
+use crate::core::told::told;
+use crate::core::told::Told;
+use cefdugar::Warnings;
+use libtw2_packer::with_packer;
+use libtw2_packer::Unpacker;
+
+/// The int at place `at`, and the place after it.
+pub fn read_int(src: &[u8], at: usize) -> (Told<(i32, usize)>, Warnings) {
+    let mut tally = Tally::default();
+    let Some(rest) = src.get(at..) else {
+        return (Told::Refused(1), tally.0);
+    };
+    let said = told(|| {
+        let mut unpacker = Unpacker::new(rest);
+        match unpacker.read_int(&mut tally) {
+            Ok(int) => Ok((int, at + unpacker.num_bytes_read())),
+            Err(error) => Err(error.number()),
+        }
+    });
+    (said, tally.0)
+}
+
+/// The place after the int.
+pub fn write_int(out: &mut [u8], at: usize, int: i32) -> Told<usize> {
+    let Some(rest) = out.get_mut(at..) else {
+        return Told::Refused(40);
+    };
+    told(|| {
+        with_packer(rest, |mut packer| match packer.write_int(int) {
+            Ok(()) => Ok(at + packer.written().len()),
+            Err(error) => Err(error.number()),
+        })
+    })
+}
+
+/// All ints of some bytes, in the way of `RawSnap::read`.
+#[derive(Clone, Debug, Default, Eq, PartialEq)]
+pub struct Unpacked {
+    pub ints: Vec<i32>,
+    pub cut: bool,
+}
+
+/// Reads all ints of `src` into `unpacked`.
+pub fn unpack(src: &[u8], unpacked: &mut Unpacked) -> (Told<()>, Warnings) {
+    let mut tally = Tally::default();
+    unpacked.ints.clear();
+    unpacked.cut = false;
+    let said = told(|| {
+        let mut unpacker = Unpacker::new(src);
+        while !unpacker.is_empty() {
+            match unpacker.read_int(&mut tally) {
+                Ok(int) => unpacked.ints.push(int),
+                Err(libtw2_packer::UnexpectedEnd) => {
+                    unpacked.cut = true;
+                    break;
+                }
+            }
+        }
+        Ok(())
+    });
+    (said, tally.0)
+}
+
+/// The bytes of `list`, one int behind the other.
+pub fn packed(list: &[i32]) -> Vec<u8> {
+    let mut bytes = Vec::with_capacity(5 * list.len());
+    with_packer(&mut bytes, |mut packer| {
+        for &int in list {
+            packer.write_int(int).expect("five bytes an int suffice");
+        }
+    });
+    bytes
+}

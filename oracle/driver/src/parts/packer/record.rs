@@ -1,0 +1,163 @@
+//! Recorded answers on packed integers.
+//!
+//!     r AT HEX        VALUE NEXT OVERLONG PADDING, or refused 1
+//!     w ROOM AT INT   NEXT HEX, or refused 40 HEX (an area of ROOM bytes aa)
+//!     u ROOM HEX      COUNT CUT OVERLONG PADDING INT.., or refused 40 OVERLONG PADDING
+
+use super::inputs;
+use super::oracle;
+use crate::core::damage::damage;
+use crate::core::random::Random;
+use crate::core::record::Record;
+use crate::core::text::hex;
+use crate::core::told::Told;
+use cefdugar::Warnings;
+
+const MOST_BYTES: usize = 64;
+const MOST_INTS: usize = 64;
+const MOST_ROOM: usize = 16;
+
+fn counts(warnings: &Warnings) -> String {
+    let overlong = warnings.0[Warnings::OVERLONG_INT_ENCODING];
+    let padding = warnings.0[Warnings::NON_ZERO_INT_PADDING];
+    format!("{overlong} {padding}")
+}
+
+fn read(record: &mut Record, src: &[u8], at: usize) {
+    let (said, warnings) = oracle::read_int(src, at);
+    let answer = match said {
+        Told::Value((value, next)) => format!("{value} {next} {}", counts(&warnings)),
+        Told::Refused(number) => format!("refused {number}"),
+        Told::Panicked => unreachable!("the Rust reads without a panic"),
+    };
+    record.case(&format!("r {at} {}", hex(src)), &answer);
+}
+
+fn write(record: &mut Record, room: usize, at: usize, int: i32) {
+    assert!(room <= MOST_ROOM);
+    let mut out = vec![0xaa; room];
+    let answer = match oracle::write_int(&mut out, at, int) {
+        Told::Value(next) => format!("{next} {}", hex(&out)),
+        Told::Refused(number) => format!("refused {number} {}", hex(&out)),
+        Told::Panicked => unreachable!("the Rust writes without a panic"),
+    };
+    record.case(&format!("w {room} {at} {int}"), &answer);
+}
+
+fn unpack(record: &mut Record, src: &[u8], spare: isize) {
+    assert!(src.len() <= MOST_BYTES);
+    let mut unpacked = oracle::Unpacked::default();
+    let (said, warnings) = oracle::unpack(src, &mut unpacked);
+    assert!(said == Told::Value(()));
+    let needed = unpacked.ints.len();
+    let room = (needed as isize + spare).clamp(0, MOST_INTS as isize) as usize;
+    let answer = if needed > room {
+        format!("refused 40 {}", counts(&warnings))
+    } else {
+        let cut = u32::from(unpacked.cut);
+        let ints: String = unpacked.ints.iter().map(|int| format!(" {int}")).collect();
+        format!("{needed} {cut} {}{ints}", counts(&warnings))
+    };
+    record.case(&format!("u {room} {}", hex(src)), &answer);
+}
+
+/// Document 01's marked cases, the boundaries, then random ones.
+pub fn fill(record: &mut Record, random: &mut Random) {
+    marked(record);
+    boundaries(record);
+    random_cases(record, random);
+}
+
+fn marked(record: &mut Record) {
+    for (int, bytes) in inputs::MARKED {
+        read(record, bytes, 0);
+        write(record, bytes.len(), 0, int);
+    }
+    read(record, &[0x80, 0x00], 0);
+    read(record, &[0x80, 0x80, 0x80, 0x80, 0x10], 0);
+    let list = inputs::MARKED.map(|(int, _)| int);
+    unpack(record, &oracle::packed(&list), 0);
+}
+
+fn boundaries(record: &mut Record) {
+    // The ends of each length in bytes, both signs, with room and without.
+    for digits in [6, 13, 20, 27, 31] {
+        let last = ((1u32 << digits) - 1) as i32;
+        for int in [last, last.wrapping_add(1), !last, !last.wrapping_add(1)] {
+            let bytes = oracle::packed(&[int]);
+            read(record, &bytes, 0);
+            write(record, bytes.len() + 1, 1, int);
+            write(record, bytes.len(), 1, int);
+            write(record, bytes.len() - 1, 0, int);
+        }
+    }
+    // Every end inside of an int, and places outside.
+    let whole = [0x80, 0x80, 0x80, 0x80, 0x01, 0x02];
+    for len in 0..whole.len() {
+        for at in 0..=len + 1 {
+            read(record, &whole[..len], at);
+        }
+        unpack(record, &whole[..len], 0);
+        unpack(record, &whole[..len], 1);
+    }
+    read(record, &[], usize::MAX);
+    read(record, &whole, usize::MAX - 1);
+    write(record, 0, 0, 0);
+    write(record, 1, 2, 0);
+    write(record, 16, 16, 0);
+    write(record, 16, 15, 0);
+    write(record, 16, 11, i32::MIN);
+    write(record, 16, 12, i32::MIN);
+    write(record, 16, usize::MAX, i32::MIN);
+    // Each bit of the fifth byte, over either sign.
+    for first in [0x80, 0xff] {
+        for fifth in [0x00, 0x01, 0x02, 0x04, 0x08, 0x10, 0x20, 0x40, 0x80, 0xff] {
+            read(record, &[first, 0x80, 0x80, 0x80, fifth], 0);
+        }
+    }
+    // Overlong ints of each length.
+    for len in 1..=5 {
+        for first in [0x80, 0xc0, 0xbf] {
+            let mut bytes = vec![0x80; len];
+            bytes[0] = if len == 1 { first & 0x7f } else { first };
+            if len > 1 {
+                bytes[len - 1] = 0;
+            }
+            read(record, &bytes, 0);
+        }
+    }
+    // As many ints as a replay takes, and rooms around it.
+    for spare in [-64, -1, 0] {
+        unpack(record, &[0x40; 64], spare);
+        unpack(record, &[0xff; 64], spare);
+        unpack(record, &[0x80; 64], spare);
+    }
+    unpack(record, &[], 0);
+    unpack(record, &[], 3);
+}
+
+fn random_cases(record: &mut Record, random: &mut Random) {
+    for _ in 0..150 {
+        let len = random.between(1, 8);
+        let src = inputs::bytes(len, random);
+        let at = random.below(len + 1) * random.below(2);
+        read(record, &src, at);
+    }
+    for _ in 0..130 {
+        let room = random.below(MOST_ROOM + 1);
+        let at = room.saturating_sub(random.below(7));
+        write(record, room, at, random.int());
+    }
+    for i in 0..130 {
+        let len = random.below(if i % 4 == 0 { MOST_BYTES + 1 } else { 20 });
+        let mut src = inputs::bytes(len, random);
+        if i % 2 == 0 {
+            let list: Vec<i32> = (0..len / 4).map(|_| random.int()).collect();
+            src = oracle::packed(&list);
+            damage(&mut src, random);
+            src.truncate(MOST_BYTES);
+        }
+        let spare = random.pick(&[0, 0, 1, 2, -1, -2, -64]);
+        unpack(record, &src, spare);
+    }
+}

@@ -1,0 +1,22 @@
+//! Says where the archive libcapi.a stands: the folder CEFDUGAR_LIB_DIR, or
+//! target/staticlib of this repository, where `rt staticlib capi` writes it.
+
+use std::env;
+use std::path::PathBuf;
+
+fn main() {
+    let folder = match env::var_os("CEFDUGAR_LIB_DIR") {
+        Some(folder) => PathBuf::from(folder),
+        None => {
+            let here = PathBuf::from(env::var_os("CARGO_MANIFEST_DIR").unwrap());
+            here.join("../../target/staticlib")
+        }
+    };
+    println!("cargo:rerun-if-env-changed=CEFDUGAR_LIB_DIR");
+    println!(
+        "cargo:rerun-if-changed={}",
+        folder.join("libcapi.a").display()
+    );
+    println!("cargo:rustc-link-search=native={}", folder.display());
+    println!("cargo:rustc-link-lib=static=capi");
+}
