@@ -21,7 +21,6 @@ module _ {A : Type 0} where
   after w (err n v) = err n (plus w v)
 
 infixl 10 _>>=_ _>>_
-
 -- one step and then the next, which the first one's value goes into; a refusal ends both
 abbrev pub _>>=_ : {A B : Type 0} → Outcome A → (A → Outcome B) → Outcome B
 ok a w >>= f = after w (f a)

@@ -21,6 +21,11 @@ module _ {E : Type 0} where
   length-layAt (suc n) xs [] = refl
   length-layAt (suc n) xs (a ∷ area) = ap suc (length-layAt n xs area)
 
+  -- an area of no entries takes nothing
+  pub lay-nowhere : (xs : List E) → lay xs [] ≡ []
+  lay-nowhere [] = refl
+  lay-nowhere (x ∷ xs) = refl
+
   -- nothing laid changes nothing
   pub layAt-nothing : (n : ℕ) (area : List E) → layAt n [] area ≡ area
   layAt-nothing zero area = refl
@@ -58,3 +63,13 @@ module _ {E : Type 0} where
   -- all of a list is copied
   pub layAt-copied : (at i : ℕ) (xs area : List E) → length xs ≤ i → layAt (at + i) (drop i xs) area ≡ area
   layAt-copied at i xs area h = rw (drop-of-length-le xs h) (layAt-nothing (at + i) area)
+
+  split : (n : ℕ) (x : E) (xs area : List E) → layAt n (x ∷ xs) area ≡ layAt (suc n) xs (layAt n (x ∷ []) area)
+  split zero x xs [] = refl
+  split zero x xs (a ∷ area) = refl
+  split (suc n) x xs [] = refl
+  split (suc n) x xs (a ∷ area) = ap (λ (l : List E). a ∷ l) (split n x xs area)
+
+  -- the first entry is laid, and then the others behind it
+  pub layAt-split : (n : ℕ) (x : E) (xs area : List E) → layAt n (x ∷ xs) area ≡ layAt (n + 1) xs (layAt n (x ∷ []) area)
+  layAt-split n x xs area = rw add-one (split n x xs area)

@@ -1,6 +1,7 @@
 -- Laws of warning counts and of outcomes. Assumes nothing.
 use mathlib.Core.Path.{_≡_, refl, sym, ap, _∙_}
 use Prim.Native.Nat.{ℕ, _+_}
+use native.Mathlib.Omega.{arith}
 use native.Mathlib.Nat.{add-assoc, add-comm, add-zero, zero-add}
 use Rattle.definitions.specs.Warnings.{Warning, Counts, count, counted, none, plus}
 use Rattle.definitions.specs.Outcome.{Outcome, ok, err, return, after, _>>=_}
@@ -24,6 +25,20 @@ plus-assoc a b c =
 pub plus-comm : (a b : Counts) → plus a b ≡ plus b a
 plus-comm a b =
     counted-same (λ k. count a k + count b k) (λ k. count b k + count a k) (λ k. add-comm (count a k) (count b k))
+
+-- ---- what an outcome tells
+
+module _ {A : Type 0} where
+  pub ok-value : {a b : A} {v w : Counts} → ok a v ≡ ok b w → a ≡ b
+  ok-value e = cc
+
+  pub ok-warnings : {a b : A} {v w : Counts} → ok a v ≡ ok b w → v ≡ w
+  ok-warnings e = cc
+
+  pub ok-not-err : {a : A} {n : ℕ} {v w : Counts} → ok a v ≡ err n w → ⊥
+  ok-not-err e = let z : _≡_ {A = ℕ} 0 1 = cc in omega arith
+
+-- ---- steps one after the other
 
 module _ {A : Type 0} where
   -- no earlier warning changes nothing

@@ -5,14 +5,14 @@ use mathlib.Core.Bool.{Bool, true, false, cond}
 use Prim.Native.Nat.{ℕ, zero, suc, _+_, _-_, _*_, _/_, _%_, _^_, _≤_, _<_}
 use native.Mathlib.Omega.{arith}
 use lib.IntN.{ℤ}
-use lib.ListN.{length, drop, length-append}
-use mir.Syntax.{w32}
-use mir.Val.{SFits}
-use Rattle.definitions.specs.Warnings.{Counts, none}
+use lib.ListN.{length, drop, length-drop}
+use lib.Seq.{drop-drop}
+use Rattle.definitions.specs.Warnings.{Counts}
 use Rattle.definitions.specs.Outcome.{Outcome, ok, err}
-use Rattle.definitions.specs.Packed.{Read, extend, sign, more, readInt, writeInt}
-use Rattle.definitions.specs.Stream.{Stream, int, end, cut, andThen, streamUpTo, stream}
-use Rattle.laws.specs.PackedLaws.{read-write}
+use Rattle.definitions.specs.Packed.{Read, extend, sign, more, readInt}
+use Rattle.definitions.specs.Packer.{IntAt, placed, readIntAt}
+use Rattle.definitions.specs.Stream.{Stream, int, end, cut, andThen, streamUpTo, stream, ints}
+use Rattle.laws.specs.OutcomeLaws.{ok-value, ok-warnings, ok-not-err}
 
 -- ---- what is left after an integer is a later part of the bytes
 
@@ -76,3 +76,53 @@ stream-step [] h = let z : ⊥ = omega arith in absurd z
 stream-step (b ∷ bs) h =
     then-same (λ rest. streamUpTo (length bs) rest) stream (read-within (b ∷ bs))
     (λ rest q. same (length bs) (length rest) rest (omega arith) (omega arith))
+
+-- ---- there are no more integers than bytes
+
+few-then : {l : List ℕ} {o : Outcome Read} (k : List ℕ → Stream) → Within l o → ((rest : List ℕ) → length (ints (k rest)) ≤ length rest) → length (ints (andThen o k)) ≤ length l
+few-then k (part {r = r} h q) f = omega (arith, f (r .rest))
+few-then k nothing f = omega arith
+
+few-up-to : (n : ℕ) (l : List ℕ) → length (ints (streamUpTo n l)) ≤ length l
+few-up-to zero l = omega arith
+few-up-to (suc n) [] = omega arith
+few-up-to (suc n) (b ∷ bs) = few-then (λ rest. streamUpTo n rest) (read-within (b ∷ bs)) (λ rest. few-up-to n rest)
+
+pub few-ints : (l : List ℕ) → length (ints (stream l)) ≤ length l
+unfolding stream
+few-ints l = few-up-to (length l) l
+
+-- ---- at a place of a slice
+
+module _ (src : List ℕ) (at : ℕ) where
+  -- an integer was read: it comes first, and the place moves on
+  pub record Found (x : ℤ) (next : ℕ) (w : Counts) : Type 0 where
+    pub step : stream (drop at src) ≡ int x w (stream (drop next src))
+    pub on : at < next
+    pub inside : next ≤ length src
+
+  found-in : (x : ℤ) (next : ℕ) (w : Counts) (o : Outcome Read) → Within (drop at src) o → (0 < length (drop at src) → stream (drop at src) ≡ andThen o stream) → placed (length src) o ≡ ok (record { value = x; next = next }) w → Found x next w
+  found-in x next w (ok r v) (part h q) s e =
+      let ev : r .value ≡ x = ap (λ (a : IntAt). a .value) (ok-value e) in
+      let en : length src - length (r .rest) ≡ next = ap (λ (a : IntAt). a .next) (ok-value e) in
+      let ew : v ≡ w = ok-warnings e in
+      let l : length (drop at src) ≡ length src - at = length-drop at src in
+      let k : at + (length (drop at src) - length (r .rest)) ≡ next = omega arith in
+      let q' : r .rest ≡ drop next src = q ∙ drop-drop (length (drop at src) - length (r .rest)) at src ∙ ap (λ (j : ℕ). drop j src) k in
+      record { step = s (omega arith) ∙ rw (ev, ew, q'); on = omega arith; inside = omega arith }
+  found-in x next w (err n v) h s e = absurd (ok-not-err (sym e))
+
+  pub found : (x : ℤ) (next : ℕ) (w : Counts) → readIntAt src at ≡ ok (record { value = x; next = next }) w → Found x next w
+  unfolding readIntAt
+  found x next w e = found-in x next w (readInt (drop at src)) (read-within (drop at src)) (stream-step (drop at src)) e
+
+  cut-in : (n : ℕ) (w : Counts) (o : Outcome Read) → placed (length src) o ≡ err n w → andThen o stream ≡ cut
+  cut-in n w (ok r v) e = absurd (ok-not-err e)
+  cut-in n w (err m v) e = refl
+
+  -- the bytes ended inside an integer
+  pub ended : (n : ℕ) (w : Counts) → at < length src → readIntAt src at ≡ err n w → stream (drop at src) ≡ cut
+  unfolding readIntAt
+  ended n w h e =
+      stream-step (drop at src) (simp length-drop (omega arith))
+      ∙ cut-in n w (readInt (drop at src)) e

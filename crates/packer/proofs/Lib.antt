@@ -2,3 +2,4 @@
 pub mod Steps
 pub mod Writes
 pub mod Answers
+pub mod Scanning

@@ -11,9 +11,8 @@ use Rattle.packer.specs.declared.IntRead.{IntRead}
 use Rattle.packer.specs.declared.IntRead.the-variants.{Int, End}
 use Rattle.packer.specs.declared.IntWrite.{IntWrite}
 use Rattle.packer.specs.declared.IntWrite.the-variants as write
-
-use Rattle.packer.specs.declared.Unpack.{Unpack}
-use Rattle.packer.specs.declared.Unpack.the-variants as unpack
+use Rattle.packer.specs.declared.IntsRead.{IntsRead}
+use Rattle.packer.specs.declared.IntsRead.the-variants as all
 
 abbrev pub intRead : IntRead → Outcome IntAt
 intRead (Int x next overlong padding) = ok (record { value = x; next = next }) (warned overlong padding)
@@ -22,7 +21,8 @@ intRead End = refuse unexpectedEnd
 abbrev pub intWrite : IntWrite → Outcome ℕ
 intWrite (write.Next n) = return n
 intWrite (write.Refused e) = refuse (number e)
+
 -- an answer with the counts beside it
-abbrev pub unpacked : Unpack → Counts → Outcome Unpacked
-unpacked (unpack.Ints n c) w = ok (record { count = n; cut = c }) w
-unpacked (unpack.Refused e) w = err (number e) w
+abbrev pub unpacked : IntsRead → Counts → Outcome Unpacked
+unpacked (all.Ints n c) w = ok (record { count = n; cut = c }) w
+unpacked (all.Refused e) w = err (number e) w

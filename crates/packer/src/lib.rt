@@ -2,17 +2,20 @@
 // Format: ESDD_DDDD EDDD_DDDD EDDD_DDDD EDDD_DDDD PPPP_DDDD
 // E: another byte follows; S: sign; D: digits, the lowest first; P: padding, which must be 0.
 ghost use mathlib.Core.Path.{_≡_};
+ghost use mathlib.Core.List.{[], _∷_};
 ghost use mathlib.Core.Bool.{cond};
 ghost use Prim.Native.Nat.{_+_, _/_, _≤_, _<_, _^_};
 ghost use lib.ListN.{length};
 ghost use lib.Signed.{mag};
 ghost use Rattle.definitions.specs.Areas.{layAt};
 ghost use Rattle.definitions.specs.Packed.{signed, signBit, writeMore, writeInt};
+ghost use Rattle.definitions.specs.Stream as Stream;
 ghost use Rattle.definitions.specs.Stream.{stream};
 ghost use Rattle.definitions.specs.Packer.{readIntAt, writeIntAt, unpackInto};
 ghost use Rattle.format.specs.Totals.{counts};
 ghost use Rattle.packer.specs.Answers.{intRead, intWrite, unpacked};
 ghost use Rattle.packer.specs.Bytes.{moreAt};
+ghost use Rattle.packer.specs.Scans.{Scanned, packed};
 use format::Error;
 use format::Warnings;
 
@@ -34,13 +37,13 @@ pub enum IntWrite {
 }
 
 // How many ints were unpacked and whether the last one of the bytes was cut, or why nothing was.
-pub enum Unpack {
+pub enum IntsRead {
     Ints { count: usize, cut: bool },
     Refused(Error),
 }
 
 pub struct Unpacked {
-    pub answer: Unpack,
+    pub answer: IntsRead,
     pub warnings: Warnings,
 }
 
@@ -190,4 +193,118 @@ fn write_more(out: &mut [u8], start: usize, digits: u32) -> usize
     }
     out[at] = left as u8;
     at + 1
+}
+
+// What one pass over packed integers tells.
+struct Totals {
+    count: usize,
+    cut: bool,
+    overlong: usize,
+    padding: usize,
+}
+
+// 1 where b holds, else 0.
+fn one_if(b: bool) -> usize
+    ensures { λ r. ⌜ r ≡ cond b 1 0 ⌝ }
+{
+    if b { 1 } else { 0 }
+}
+
+// An int into out at a place, where out goes that far.
+fn put(out: &mut [i32], at: usize, x: i32)
+    ensures { λ _. ⌜ now (out .exit) ≡ layAt at (x ∷ []) (now (out .entry)) ⌝ }
+{
+    if at < out.len() {
+        out[at] = x;
+    }
+}
+
+// All the integers of src over the front of out, as far as it goes.
+fn scan(src: &[u8], out: &mut [i32]) -> Totals
+    ensures { λ r. ⌜ Scanned (stream (now (src .entry))) (now (out .entry)) r (now (out .exit)) ⌝ }
+{
+    let mut at: usize = 0;
+    let mut count: usize = 0;
+    let mut overlongs: usize = 0;
+    let mut paddings: usize = 0;
+    while at < src.len() {
+        let IntRead::Int {
+            value,
+            next,
+            overlong,
+            padding,
+        } = read_int(src, at)
+        else {
+            return Totals {
+                count,
+                cut: true,
+                overlong: overlongs,
+                padding: paddings,
+            };
+        };
+        put(out, count, value);
+        count += 1;
+        overlongs += one_if(overlong);
+        paddings += one_if(padding);
+        at = next;
+    }
+    Totals {
+        count,
+        cut: false,
+        overlong: overlongs,
+        padding: paddings,
+    }
+}
+
+// The warnings that a pass counted.
+fn scan_warnings(t: Totals) -> Warnings
+    ensures { λ r. ⌜ counts r ≡ packed (t .overlong) (t .padding) ⌝ }
+{
+    Warnings {
+        overlong_int_encoding: t.overlong,
+        non_zero_int_padding: t.padding,
+        non_zero_padding: 0,
+        duplicate_delete: 0,
+        duplicate_update: 0,
+        unknown_delete: 0,
+        delete_update: 0,
+        num_updated_items: 0,
+        excess_snap_data: 0,
+        excess_uuid_item_data: 0,
+        duplicate_snap: 0,
+        differing_attributes: 0,
+        weird_negative_delta_tick: 0,
+    }
+}
+
+// All the packed integers of src, into the front of out, which has room for them.
+fn unpack_all(src: &[u8], out: &mut [i32]) -> Unpacked
+    requires { ⌜ length (Stream.ints (stream (now src))) ≤ length (now out) ⌝ }
+    ensures { λ r. ⌜ unpackInto (now (src .entry)) (now (out .entry)) ≡ record { answer = unpacked (r .answer) (counts (r .warnings)); out = now (out .exit) } ⌝ }
+{
+    let all = scan(src, out);
+    Unpacked {
+        answer: IntsRead::Ints {
+            count: all.count,
+            cut: all.cut,
+        },
+        warnings: scan_warnings(all),
+    }
+}
+
+// All the packed integers of src, into the front of out; where they do not fit, out is left as it was.
+pub fn unpack(src: &[u8], out: &mut [i32]) -> Unpacked
+    ensures { λ r. ⌜ unpackInto (now (src .entry)) (now (out .entry)) ≡ record { answer = unpacked (r .answer) (counts (r .warnings)); out = now (out .exit) } ⌝ }
+{
+    if src.len() <= out.len() {
+        return unpack_all(src, out);
+    }
+    let all = scan(src, &mut out[..0]);
+    if out.len() < all.count {
+        return Unpacked {
+            answer: IntsRead::Refused(Error::CapacityError),
+            warnings: scan_warnings(all),
+        };
+    }
+    unpack_all(src, out)
 }

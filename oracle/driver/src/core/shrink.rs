@@ -41,15 +41,22 @@ pub fn smallest<I: Shrink, D>(first: I, mut differs: impl FnMut(&I) -> Option<D>
 
 macro_rules! shrink_number {
     ($($number:ty),*) => {$(
+        /// Nearer to 0, and rather above it than below.
         impl Shrink for $number {
             fn offer(&self, take: &mut dyn FnMut($number) -> bool) -> bool {
                 let n = *self;
-                if n == 0 {
-                    return false;
-                }
                 #[allow(unused_comparisons)]
-                let nearer = if n < 0 { n + 1 } else { n - 1 };
-                take(0) || (n / 2 != 0 && take(n / 2)) || (nearer != 0 && take(nearer))
+                if n < 0 && n.wrapping_neg() != n && take(n.wrapping_neg()) {
+                    return true;
+                }
+                let mut step = n;
+                while step != 0 {
+                    if take(n - step) {
+                        return true;
+                    }
+                    step /= 2;
+                }
+                false
             }
         }
     )*};

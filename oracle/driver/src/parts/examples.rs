@@ -12,6 +12,7 @@ use crate::core::told::told;
 use crate::core::told::Told;
 use cefdugar::Warnings;
 use libtw2_gamenet_snap::SnapMsg;
+use libtw2_gamenet_snap::SnapSingle;
 use libtw2_packer::with_packer;
 use libtw2_packer::IntUnpacker;
 use libtw2_packer::Unpacker;
@@ -22,6 +23,7 @@ use libtw2_snapshot::snap::delta_chunks;
 use libtw2_snapshot::snap::RawBuilder;
 use libtw2_snapshot::snap::RawSnap;
 use libtw2_snapshot::Delta;
+use libtw2_snapshot::Manager;
 use std::fmt::Debug;
 
 pub fn part() -> Part {
@@ -65,6 +67,7 @@ fn compare(run: &mut Run) -> Result<(), Difference> {
     item_deltas(&mut examples)?;
     packed_ints(&mut examples)?;
     tables(&mut examples)?;
+    warnings(&mut examples)?;
     chunks(&mut examples)?;
     panics(&mut examples)
 }
@@ -185,6 +188,41 @@ fn tables(examples: &mut Examples) -> Result<(), Difference> {
     };
     examples.is("an item of 16,380 ints", ints(16_380), Told::Value(()))?;
     examples.is("an item of 16,381 ints", ints(16_381), Told::Refused(8))
+}
+
+/// Warnings come through all layers, each once.
+fn warnings(examples: &mut Examples) -> Result<(), Difference> {
+    // An overlong int, a padded one that is 0, and one that is cut.
+    let bytes = [0x80, 0x00, 0x80, 0x80, 0x80, 0x80, 0x20, 0x80];
+    let mut expected = Warnings::default();
+    expected.0[Warnings::OVERLONG_INT_ENCODING] = 1;
+    expected.0[Warnings::NON_ZERO_INT_PADDING] = 1;
+    expected.0[Warnings::EXCESS_SNAP_DATA] = 1;
+    let lines = "items 0 sum 0\n".to_string();
+    let expected = (Told::Value(lines), expected);
+    examples.is("a table with warnings", listed(&bytes), expected)?;
+
+    // An overlong int and a padding of 1, against the base -2.
+    let message = SnapSingle {
+        tick: 5,
+        delta_tick: 7,
+        crc: 0,
+        data: &[0x80, 0x00, 0x00, 0x01],
+    };
+    let mut tally = Tally::default();
+    let mut manager = Manager::new();
+    let said = told(|| {
+        let result = manager.snap_single(&mut tally, |_| None, message);
+        let taken = result.map_err(|error| error.number())?;
+        Ok(taken.map(|table| table.items().len()))
+    });
+    let mut expected = Warnings::default();
+    expected.0[Warnings::OVERLONG_INT_ENCODING] = 1;
+    expected.0[Warnings::NON_ZERO_PADDING] = 1;
+    expected.0[Warnings::WEIRD_NEGATIVE_DELTA_TICK] = 1;
+    let found = (said, tally.0, manager.ack_tick());
+    let expected = (Told::Value(Some(0)), expected, Some(5));
+    examples.is("a message with warnings", found, expected)
 }
 
 /// Document 01's parts.

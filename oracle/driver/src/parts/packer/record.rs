@@ -17,6 +17,9 @@ const MOST_BYTES: usize = 64;
 const MOST_INTS: usize = 64;
 const MOST_ROOM: usize = 16;
 
+/// A place far outside, of ten digits.
+const FAR: usize = u32::MAX as usize;
+
 fn counts(warnings: &Warnings) -> String {
     let overlong = warnings.0[Warnings::OVERLONG_INT_ENCODING];
     let padding = warnings.0[Warnings::NON_ZERO_INT_PADDING];
@@ -100,15 +103,15 @@ fn boundaries(record: &mut Record) {
         unpack(record, &whole[..len], 0);
         unpack(record, &whole[..len], 1);
     }
-    read(record, &[], usize::MAX);
-    read(record, &whole, usize::MAX - 1);
+    read(record, &[], FAR);
+    read(record, &whole, FAR);
     write(record, 0, 0, 0);
     write(record, 1, 2, 0);
     write(record, 16, 16, 0);
     write(record, 16, 15, 0);
     write(record, 16, 11, i32::MIN);
     write(record, 16, 12, i32::MIN);
-    write(record, 16, usize::MAX, i32::MIN);
+    write(record, 16, FAR, i32::MIN);
     // Each bit of the fifth byte, over either sign.
     for first in [0x80, 0xff] {
         for fifth in [0x00, 0x01, 0x02, 0x04, 0x08, 0x10, 0x20, 0x40, 0x80, 0xff] {

@@ -1,0 +1,116 @@
+-- A pass over the integers of some bytes, one at a time. Assumes nothing.
+use mathlib.Core.Path.{_≡_, refl, sym, ap, _∙_}
+use mathlib.Core.List.{List, [], _∷_, _++_}
+use mathlib.Core.Bool.{Bool, true, false, cond}
+use Prim.Native.Nat.{ℕ, suc, _+_, _≤_, _<_}
+use native.Mathlib.Nat.{zero-add}
+use native.Mathlib.Omega.{arith}
+use borrow.Author.Tests.{le-leb, lt-leb}
+use lib.IntN.{ℤ}
+use lib.ListN.{length, drop, drop-of-length-le}
+use Rattle.definitions.specs.Areas.{lay, layAt}
+use Rattle.definitions.specs.Warnings.{Counts, none, plus}
+use Rattle.definitions.specs.Refusals.{capacityError}
+use Rattle.definitions.specs.Outcome.{ok, err, Wrote}
+use Rattle.definitions.specs.Packed.{warned}
+use Rattle.definitions.specs.Packer.{Unpacked, unpackInto}
+use Rattle.definitions.specs.Stream.{Stream, int, end, cut, stream, ints, warnings, isCut}
+use Rattle.laws.specs.AreaLaws.{lay-nowhere, layAt-split, layAt-nothing, length-layAt}
+use Rattle.laws.specs.OutcomeLaws.{none-plus, plus-none, plus-assoc}
+use Rattle.laws.specs.StreamLaws.{stream-end, Found}
+use Rattle.packer.specs.Scans.{packed, Scanned}
+use Rattle.packer.specs.declared.Totals.{Totals}
+
+-- what is counted and laid so far, and what is left from a place on, make the whole
+pub record Scanning (src : List ℕ) (before out : List ℤ) (at count o p : ℕ) : Type 0 where
+  pub inside : at ≤ length src
+  pub few : count ≤ at
+  pub few-overlong : o ≤ at
+  pub few-padding : p ≤ at
+  pub same : length out ≡ length before
+  pub counted : count + length (ints (stream (drop at src))) ≡ length (ints (stream src))
+  pub ends : isCut (stream (drop at src)) ≡ isCut (stream src)
+  pub warns : plus (packed o p) (warnings (stream (drop at src))) ≡ warnings (stream src)
+  pub laid : layAt count (ints (stream (drop at src))) out ≡ lay (ints (stream src)) before
+
+pub start : (src : List ℕ) (before : List ℤ) → Scanning src before before 0 0 0 0
+start src before =
+    record {
+      inside = omega arith;
+      few = omega arith;
+      few-overlong = omega arith;
+      few-padding = omega arith;
+      same = refl;
+      counted = zero-add (length (ints (stream src)));
+      ends = refl;
+      warns = none-plus (warnings (stream src));
+      laid = refl;
+    }
+
+-- an integer's warnings, as counts
+warned-packed : (overlong padding : Bool) → warned overlong padding ≡ packed (cond overlong 1 0) (cond padding 1 0)
+warned-packed true true = refl
+warned-packed true false = refl
+warned-packed false true = refl
+warned-packed false false = refl
+
+pub at-most-one : (b : Bool) → cond b 1 0 ≤ 1
+at-most-one true = omega arith
+at-most-one false = omega arith
+
+module _ {src : List ℕ} {before out : List ℤ} {at count o p : ℕ} where
+  -- one more integer
+  pub turn : {x : ℤ} {next : ℕ} (overlong padding : Bool) → Scanning src before out at count o p → Found src at x next (warned overlong padding) → Scanning src before (layAt count (x ∷ []) out) next (count + 1) (o + cond overlong 1 0) (p + cond padding 1 0)
+  turn {x} {next} overlong padding s f =
+      let rest = stream (drop next src) in
+      let c : count + suc (length (ints rest)) ≡ length (ints (stream src)) = rw (f .step) at (s .counted) in
+      record {
+        inside = f .inside;
+        few = omega (arith, s .few, f .on);
+        few-overlong = omega (arith, s .few-overlong, f .on, at-most-one overlong);
+        few-padding = omega (arith, s .few-padding, f .on, at-most-one padding);
+        same = length-layAt count (x ∷ []) out ∙ s .same;
+        counted = omega arith;
+        ends = rw (f .step) at (s .ends);
+        warns =
+            plus-assoc (packed o p) (packed (cond overlong 1 0) (cond padding 1 0)) (warnings rest)
+            ∙ ap (λ (w : Counts). plus (packed o p) (plus w (warnings rest))) (sym (warned-packed overlong padding))
+            ∙ (rw (f .step) at (s .warns));
+        laid = sym (layAt-split count x (ints rest) out) ∙ (rw (f .step) at (s .laid));
+      }
+
+  -- nothing more comes
+  pub last : {t : Stream} → Scanning src before out at count o p → stream (drop at src) ≡ t → ints t ≡ [] → warnings t ≡ none → Scanned (stream src) before (record { count = count; cut = isCut t; overlong = o; padding = p }) out
+  last {t} s e i w =
+      let c : count + length (ints t) ≡ length (ints (stream src)) = rw e at (s .counted) in
+      let l : layAt count (ints t) out ≡ lay (ints (stream src)) before = rw e at (s .laid) in
+      let v : plus (packed o p) (warnings t) ≡ warnings (stream src) = rw e at (s .warns) in
+      record {
+        count-is = omega (arith, ap length i);
+        cut-is = rw e at (s .ends);
+        warnings-are = sym (plus-none (packed o p)) ∙ (rw w at v);
+        out-is = sym (layAt-nothing count out) ∙ (rw i at l);
+      }
+
+  -- all bytes are read
+  pub at-end : Scanning src before out at count o p → length src ≤ at → Scanned (stream src) before (record { count = count; cut = false; overlong = o; padding = p }) out
+  at-end s h = last s (ap stream (drop-of-length-le src h) ∙ stream-end) refl refl
+
+  -- the bytes end inside an integer
+  pub at-cut : Scanning src before out at count o p → stream (drop at src) ≡ cut → Scanned (stream src) before (record { count = count; cut = true; overlong = o; padding = p }) out
+  at-cut s e = last s e refl refl
+
+-- ---- what the pass comes to
+
+module _ (src : List ℕ) (before : List ℤ) (t : Totals) (w : Counts) (e : w ≡ packed (t .overlong) (t .padding)) where
+  pub all-unpacked : (out : List ℤ) → length (ints (stream src)) ≤ length before → Scanned (stream src) before t out → unpackInto src before ≡ record { answer = ok (record { count = t .count; cut = t .cut }) w; out = out }
+  unfolding unpackInto
+  all-unpacked out h s =
+      rw (le-leb (length (ints (stream src))) (length before) h, e, s .warnings-are, s .count-is, s .cut-is, s .out-is)
+
+  -- a pass that laid nothing found too many
+  pub no-room : (front : List ℤ) → length (front ++ before) < t .count → Scanned (stream src) [] t front → unpackInto src before ≡ record { answer = err capacityError w; out = front ++ before }
+  unfolding unpackInto
+  no-room front h s =
+      let f : front ≡ [] = s .out-is ∙ lay-nowhere (ints (stream src)) in
+      rw (lt-leb (length (ints (stream src))) (length before) (omega (arith, s .count-is, ap (λ (l : List ℤ). length (l ++ before)) f)), e, s .warnings-are, f)
