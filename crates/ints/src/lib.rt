@@ -1,5 +1,6 @@
 // Signed 32-bit integers: their bits, wrapping sums, both orders, and slices of them.
 ghost use mathlib.Core.Path.{_≡_};
+ghost use mathlib.Core.Bool.{cond};
 ghost use Rattle.definitions.specs.Ints.{bits, fromBits, wrappingAdd, wrappingSub, signedLess, unsignedLess};
 ghost use Rattle.definitions.specs.Ints as Ints;
 ghost use Rattle.definitions.specs.Areas.{cleared};
@@ -21,6 +22,13 @@ pub fn from_bits(b: u32) -> i32
     } else {
         !(!b as i32)
     }
+}
+
+// 1 where b holds, else 0.
+pub fn one_if(b: bool) -> usize
+    ensures { λ r. ⌜ r ≡ cond b 1 0 ⌝ }
+{
+    if b { 1 } else { 0 }
 }
 
 // The sum modulo 2^32.

@@ -2,6 +2,7 @@
 pub mod Tests
 pub mod IntLaws
 pub mod AreaLaws
+pub mod WarningLaws
 pub mod OutcomeLaws
 pub mod PackedLaws
 pub mod Shortest

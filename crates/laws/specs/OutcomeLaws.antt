@@ -1,30 +1,10 @@
--- Laws of warning counts and of outcomes. Assumes nothing.
+-- Laws of outcomes. Assumes nothing.
 use mathlib.Core.Path.{_≡_, refl, sym, ap, _∙_}
-use Prim.Native.Nat.{ℕ, _+_}
+use Prim.Native.Nat.{ℕ}
 use native.Mathlib.Omega.{arith}
-use native.Mathlib.Nat.{add-assoc, add-comm, add-zero, zero-add}
-use Rattle.definitions.specs.Warnings.{Warning, Counts, count, counted, none, plus}
+use Rattle.definitions.specs.Warnings.{Counts, none, plus}
 use Rattle.definitions.specs.Outcome.{Outcome, ok, err, return, after, _>>=_}
-
--- equal numbers for each kind are equal counts
-pub counted-same : (f g : Warning → ℕ) → ((k : Warning) → f k ≡ g k) → counted f ≡ counted g
-counted-same f g e = λ i. counted (λ k. e k i)
-
--- no warning adds nothing
-pub none-plus : (c : Counts) → plus none c ≡ c
-none-plus c = counted-same (λ k. 0 + count c k) (λ k. count c k) (λ k. zero-add (count c k))
-
-pub plus-none : (c : Counts) → plus c none ≡ c
-plus-none c = counted-same (λ k. count c k + 0) (λ k. count c k) (λ k. add-zero (count c k))
-
-pub plus-assoc : (a b c : Counts) → plus (plus a b) c ≡ plus a (plus b c)
-plus-assoc a b c =
-    counted-same (λ k. count a k + count b k + count c k) (λ k. count a k + (count b k + count c k))
-    (λ k. add-assoc (count a k) (count b k) (count c k))
-
-pub plus-comm : (a b : Counts) → plus a b ≡ plus b a
-plus-comm a b =
-    counted-same (λ k. count a k + count b k) (λ k. count b k + count a k) (λ k. add-comm (count a k) (count b k))
+use Rattle.laws.specs.WarningLaws.{none-plus, plus-none, plus-assoc}
 
 -- ---- what an outcome tells
 

@@ -16,9 +16,9 @@ use Rattle.definitions.specs.Packed.{warned}
 use Rattle.definitions.specs.Packer.{Unpacked, unpackInto}
 use Rattle.definitions.specs.Stream.{Stream, int, end, cut, stream, ints, warnings, isCut}
 use Rattle.laws.specs.AreaLaws.{lay-nowhere, layAt-split, layAt-nothing, length-layAt}
-use Rattle.laws.specs.OutcomeLaws.{none-plus, plus-none, plus-assoc}
+use Rattle.laws.specs.WarningLaws.{none-plus, plus-none, plus-assoc, packed, warned-packed}
 use Rattle.laws.specs.StreamLaws.{stream-end, Found}
-use Rattle.packer.specs.Scans.{packed, Scanned}
+use Rattle.packer.specs.Scans.{Scanned}
 use Rattle.packer.specs.declared.Totals.{Totals}
 
 -- what is counted and laid so far, and what is left from a place on, make the whole
@@ -46,13 +46,6 @@ start src before =
       warns = none-plus (warnings (stream src));
       laid = refl;
     }
-
--- an integer's warnings, as counts
-warned-packed : (overlong padding : Bool) → warned overlong padding ≡ packed (cond overlong 1 0) (cond padding 1 0)
-warned-packed true true = refl
-warned-packed true false = refl
-warned-packed false true = refl
-warned-packed false false = refl
 
 pub at-most-one : (b : Bool) → cond b 1 0 ≤ 1
 at-most-one true = omega arith

@@ -3,7 +3,6 @@
 // E: another byte follows; S: sign; D: digits, the lowest first; P: padding, which must be 0.
 ghost use mathlib.Core.Path.{_≡_};
 ghost use mathlib.Core.List.{[], _∷_};
-ghost use mathlib.Core.Bool.{cond};
 ghost use Prim.Native.Nat.{_+_, _/_, _≤_, _<_, _^_};
 ghost use lib.ListN.{length};
 ghost use lib.Signed.{mag};
@@ -12,10 +11,11 @@ ghost use Rattle.definitions.specs.Packed.{signed, signBit, writeMore, writeInt
 ghost use Rattle.definitions.specs.Stream as Stream;
 ghost use Rattle.definitions.specs.Stream.{stream};
 ghost use Rattle.definitions.specs.Packer.{readIntAt, writeIntAt, unpackInto};
+ghost use Rattle.laws.specs.WarningLaws.{packed};
 ghost use Rattle.format.specs.Totals.{counts};
 ghost use Rattle.packer.specs.Answers.{intRead, intWrite, unpacked};
 ghost use Rattle.packer.specs.Bytes.{moreAt};
-ghost use Rattle.packer.specs.Scans.{Scanned, packed};
+ghost use Rattle.packer.specs.Scans.{Scanned};
 use format::Error;
 use format::Warnings;
 
@@ -203,13 +203,6 @@ struct Totals {
     padding: usize,
 }
 
-// 1 where b holds, else 0.
-fn one_if(b: bool) -> usize
-    ensures { λ r. ⌜ r ≡ cond b 1 0 ⌝ }
-{
-    if b { 1 } else { 0 }
-}
-
 // An int into out at a place, where out goes that far.
 fn put(out: &mut [i32], at: usize, x: i32)
     ensures { λ _. ⌜ now (out .exit) ≡ layAt at (x ∷ []) (now (out .entry)) ⌝ }
@@ -244,8 +237,8 @@ fn scan(src: &[u8], out: &mut [i32]) -> Totals
         };
         put(out, count, value);
         count += 1;
-        overlongs += one_if(overlong);
-        paddings += one_if(padding);
+        overlongs += ints::one_if(overlong);
+        paddings += ints::one_if(padding);
         at = next;
     }
     Totals {
@@ -256,13 +249,13 @@ fn scan(src: &[u8], out: &mut [i32]) -> Totals
     }
 }
 
-// The warnings that a pass counted.
-fn scan_warnings(t: Totals) -> Warnings
-    ensures { λ r. ⌜ counts r ≡ packed (t .overlong) (t .padding) ⌝ }
+// Warnings of the packer's two kinds.
+pub fn packed_warnings(overlong: usize, padding: usize) -> Warnings
+    ensures { λ r. ⌜ counts r ≡ packed overlong padding ⌝ }
 {
     Warnings {
-        overlong_int_encoding: t.overlong,
-        non_zero_int_padding: t.padding,
+        overlong_int_encoding: overlong,
+        non_zero_int_padding: padding,
         non_zero_padding: 0,
         duplicate_delete: 0,
         duplicate_update: 0,
@@ -288,7 +281,7 @@ fn unpack_all(src: &[u8], out: &mut [i32]) -> Unpacked
             count: all.count,
             cut: all.cut,
         },
-        warnings: scan_warnings(all),
+        warnings: packed_warnings(all.overlong, all.padding),
     }
 }
 
@@ -303,7 +296,7 @@ pub fn unpack(src: &[u8], out: &mut [i32]) -> Unpacked
     if out.len() < all.count {
         return Unpacked {
             answer: IntsRead::Refused(Error::CapacityError),
-            warnings: scan_warnings(all),
+            warnings: packed_warnings(all.overlong, all.padding),
         };
     }
     unpack_all(src, out)

@@ -1,0 +1,44 @@
+-- An outcome as C sees it: a number, outputs behind pointers, the counts in a row. Assumes nothing.
+use mathlib.Core.List.{List, [], _∷_}
+use mathlib.Core.Bool.{Bool, cond}
+use Prim.Native.Nat.{ℕ}
+use Rattle.definitions.specs.Warnings.{Counts}
+use Rattle.definitions.specs.Outcome.{Outcome, ok, err}
+
+-- the 13 counts in their order
+abbrev pub row : Counts → List ℕ
+row c =
+    c .overlongIntEncoding
+    ∷ c .nonZeroIntPadding
+    ∷ c .nonZeroPadding
+    ∷ c .duplicateDelete
+    ∷ c .duplicateUpdate
+    ∷ c .unknownDelete
+    ∷ c .deleteUpdate
+    ∷ c .numUpdatedItems
+    ∷ c .excessSnapData
+    ∷ c .excessUuidItemData
+    ∷ c .duplicateSnap
+    ∷ c .differingAttributes
+    ∷ c .weirdNegativeDeltaTick
+    ∷ []
+
+-- 1 for true, 0 for false
+abbrev pub flag : Bool → ℕ
+flag b = cond b 1 0
+
+module _ {A : Type 0} where
+  -- 0, or the refusal's number
+  abbrev pub status : Outcome A → ℕ
+  status (ok a w) = 0
+  status (err n w) = n
+
+  -- the warnings counted, refused or not
+  abbrev pub warningsOf : Outcome A → Counts
+  warningsOf (ok a w) = w
+  warningsOf (err n w) = w
+
+  -- an output: a part of the value, or what stood there where the call was refused
+  abbrev pub output : {B : Type 0} → (A → B) → B → Outcome A → B
+  output f before (ok a w) = f a
+  output f before (err n w) = before

@@ -1,0 +1,2 @@
+-- What the C functions answer and leave. Assumes nothing.
+pub mod Boundary

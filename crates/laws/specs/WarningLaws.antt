@@ -1,0 +1,55 @@
+-- Laws of warning counts. Assumes nothing.
+use mathlib.Core.Path.{_≡_, refl}
+use mathlib.Core.Bool.{Bool, true, false, cond}
+use Prim.Native.Nat.{ℕ, _+_}
+use native.Mathlib.Nat.{add-assoc, add-comm, add-zero, zero-add}
+use Rattle.definitions.specs.Warnings.{Warning, Counts, count, counted, none, plus}
+use Rattle.definitions.specs.Packed.{warned}
+
+-- equal numbers for each kind are equal counts
+pub counted-same : (f g : Warning → ℕ) → ((k : Warning) → f k ≡ g k) → counted f ≡ counted g
+counted-same f g e = λ i. counted (λ k. e k i)
+
+-- no warning adds nothing
+pub none-plus : (c : Counts) → plus none c ≡ c
+none-plus c = counted-same (λ k. 0 + count c k) (λ k. count c k) (λ k. zero-add (count c k))
+
+pub plus-none : (c : Counts) → plus c none ≡ c
+plus-none c = counted-same (λ k. count c k + 0) (λ k. count c k) (λ k. add-zero (count c k))
+
+pub plus-assoc : (a b c : Counts) → plus (plus a b) c ≡ plus a (plus b c)
+plus-assoc a b c =
+    counted-same (λ k. count a k + count b k + count c k) (λ k. count a k + (count b k + count c k))
+    (λ k. add-assoc (count a k) (count b k) (count c k))
+
+pub plus-comm : (a b : Counts) → plus a b ≡ plus b a
+plus-comm a b =
+    counted-same (λ k. count a k + count b k) (λ k. count b k + count a k) (λ k. add-comm (count a k) (count b k))
+
+-- ---- the packer's warnings
+
+-- counts of the packer's two kinds
+abbrev pub packed : ℕ → ℕ → Counts
+packed o p =
+    record {
+      overlongIntEncoding = o;
+      nonZeroIntPadding = p;
+      nonZeroPadding = 0;
+      duplicateDelete = 0;
+      duplicateUpdate = 0;
+      unknownDelete = 0;
+      deleteUpdate = 0;
+      numUpdatedItems = 0;
+      excessSnapData = 0;
+      excessUuidItemData = 0;
+      duplicateSnap = 0;
+      differingAttributes = 0;
+      weirdNegativeDeltaTick = 0;
+    }
+
+-- an integer's warnings
+pub warned-packed : (overlong padding : Bool) → warned overlong padding ≡ packed (cond overlong 1 0) (cond padding 1 0)
+warned-packed true true = refl
+warned-packed true false = refl
+warned-packed false true = refl
+warned-packed false false = refl
