@@ -212,15 +212,25 @@ fn put(out: &mut [i32], at: usize, x: i32)
     }
 }
 
-// All the integers of src over the front of out, as far as it goes.
+// All the integers of src over the front of out, as far as it goes. Those of one byte are read on the spot.
 fn scan(src: &[u8], out: &mut [i32]) -> Totals
     ensures { λ r. ⌜ Scanned (stream (now (src .entry))) (now (out .entry)) r (now (out .exit)) ⌝ }
 {
     let mut at: usize = 0;
-    let mut count: usize = 0;
-    let mut overlongs: usize = 0;
-    let mut paddings: usize = 0;
+    let mut t = Totals {
+        count: 0,
+        cut: false,
+        overlong: 0,
+        padding: 0,
+    };
     while at < src.len() {
+        let b = src[at] as u32;
+        if b < 128 {
+            put(out, t.count, signed_value(b / 64 % 2 == 1, b % 64));
+            t.count += 1;
+            at += 1;
+            continue;
+        }
         let IntRead::Int {
             value,
             next,
@@ -228,25 +238,16 @@ fn scan(src: &[u8], out: &mut [i32]) -> Totals
             padding,
         } = read_int(src, at)
         else {
-            return Totals {
-                count,
-                cut: true,
-                overlong: overlongs,
-                padding: paddings,
-            };
+            t.cut = true;
+            return t;
         };
-        put(out, count, value);
-        count += 1;
-        overlongs += ints::one_if(overlong);
-        paddings += ints::one_if(padding);
+        put(out, t.count, value);
+        t.count += 1;
+        t.overlong += ints::one_if(overlong);
+        t.padding += ints::one_if(padding);
         at = next;
     }
-    Totals {
-        count,
-        cut: false,
-        overlong: overlongs,
-        padding: paddings,
-    }
+    t
 }
 
 // Warnings of the packer's two kinds.

@@ -1,33 +1,45 @@
 -- `packer::scan` meets its contract. The loop's invariant: what is counted and laid so far, and what is left, make the whole. Assumes nothing.
 use mathlib.Core.Path.{_≡_, refl, sym, ap, _∙_}
 use mathlib.Core.List.{List}
-use mathlib.Core.Bool.{Bool}
-use Prim.Native.Nat.{ℕ, _+_, _-_, _≤_, _<_}
+use mathlib.Core.Bool.{Bool, false}
+use Prim.Native.Nat.{ℕ, _+_, _-_, _%_, _≤_, _<_}
 use native.Mathlib.Omega.{arith}
 use lib.IntN.{ℤ}
-use lib.ListN.{length}
+use lib.ListN.{length, getD}
 use mir.Syntax.{w32}
 use mir.Facts.{toZ-ofZ}
 use Rattle.definitions.specs.Refusals.{unexpectedEnd}
 use Rattle.definitions.specs.Warnings.{none}
-use Rattle.definitions.specs.Packed.{warned}
+use Rattle.definitions.specs.Packed.{sign, signed, warned}
 use Rattle.laws.specs.StreamLaws.{Found, found, ended}
 use Rattle.packer.specs.Answers.{intRead}
-use Rattle.packer.proofs.Scanning.{Scanning, start, at-most-one, turn, at-end, at-cut}
+use Rattle.packer.proofs.Steps.{read-one}
+use Rattle.packer.proofs.Scanning.{Scanning, start, at-most-one, turn, turn-plain, at-end, at-cut}
 use borrow.Author.Needs.{needs}
 use Rattle.packer.proofs.scan.Statement.{statement}
 use Rattle.packer.proofs.scan.Tie as tie
 
 abbrev Inv-loop : tie.InvT-loop
-Inv-loop src out₀ at₀ count₀ overlongs₀ paddings₀ out at count overlongs paddings = Scanning src out₀ out at count overlongs paddings
+Inv-loop src out₀ at₀ t₀ out at t = Scanning src out₀ out at t
 
 abbrev μ-loop : tie.MeasureT-loop
-μ-loop src out₀ at₀ count₀ overlongs₀ paddings₀ out at count overlongs paddings = length src - at
+μ-loop src out₀ at₀ t₀ out at t = length src - at
+
+abbrev byte : tie.Then1 Inv-loop μ-loop → ℕ
+byte c = getD (c .before .before .before .before .before .args .src .now) (c .before .before .before .loop .at) 0
+
+-- an integer of one byte
+short : (c : tie.Then1 Inv-loop μ-loop) → Found (c .before .before .before .before .before .args .src .now) (c .before .before .before .loop .at) (signed (sign (byte c)) (byte c % 64)) (c .before .before .before .loop .at + 1) (warned false false)
+short c =
+    let src = c .before .before .before .before .before .args .src .now in
+    let at = c .before .before .before .loop .at in
+    found src at (signed (sign (byte c)) (byte c % 64)) (at + 1) (warned false false)
+    (read-one src at (c .before .before .loop-test .taken) (c .if1 .taken))
 
 -- the integer that was read
 module _ (c : tie.After-value Inv-loop μ-loop) where
   abbrev src : List ℕ
-  src = c .before .before .before .before .before .before .args .src .now
+  src = c .before .before .before .before .before .before .before .before .args .src .now
 
   abbrev value : ℤ
   value = c .value .given .0 .0
@@ -41,13 +53,40 @@ module _ (c : tie.After-value Inv-loop μ-loop) where
   abbrev padding : Bool
   padding = c .value .given .0 .1 .1 .1 .0
 
-  got : Found src (c .before .before .before .before .loop .at) value next (warned overlong padding)
+  got : Found src (c .before .before .before .before .before .before .loop .at) value next (warned overlong padding)
   got =
-      found src (c .before .before .before .before .loop .at) value next (warned overlong padding)
+      found src (c .before .before .before .before .before .before .loop .at) value next (warned overlong padding)
       (c .before .before .read-int .ensures ∙ ap intRead (c .value .given .1))
 
 loop-holds : tie.Need-loop-holds Inv-loop μ-loop
 loop-holds c = start (c .before .args .src .now) (c .before .args .out .now)
+
+shared-slice-read-b : tie.Need-shared-slice-read-b Inv-loop μ-loop
+shared-slice-read-b c = search needs
+
+cast-b : tie.Need-cast-b Inv-loop μ-loop
+cast-b c = omega (arith, c .shared-slice-known2 .given (c .before .before .loop .at))
+
+signed-value-requires : tie.Need-signed-value-requires Inv-loop μ-loop
+signed-value-requires c κs = search needs
+
+put-requires : tie.Need-put-requires Inv-loop μ-loop
+put-requires c κs = search needs
+
+add-t : tie.Need-add-t Inv-loop μ-loop
+add-t c = omega (arith, c .before .before .before .before .before .before .before .before .loop .inv .few, c .before .before .before .before .before .before .before .loop-test .taken)
+
+add-at : tie.Need-add-at Inv-loop μ-loop
+add-at c = search needs
+
+loop-less : tie.Need-loop-less Inv-loop μ-loop
+loop-less c = omega arith
+
+loop-again : tie.Need-loop-again Inv-loop μ-loop
+loop-again c =
+    let l = c .before .before .before .before .before .before .before .before .loop in
+    let v = c .before .before .before .signed-value in
+    rw (c .before .before .put .ensures, toZ-ofZ (record { sfits = v .ok }), v .ensures) (turn-plain (l .inv) (short (c .before .before .before .before .before)))
 
 read-int-requires : tie.Need-read-int-requires Inv-loop μ-loop
 read-int-requires c κs = search needs
@@ -59,55 +98,52 @@ enum-told : tie.Need-enum-told Inv-loop μ-loop
 enum-told c = search needs
 
 same-length : tie.Need-same-length Inv-loop μ-loop
-same-length c = c .before .before .before .before .loop .inv .same
+same-length c = c .before .before .before .before .before .before .loop .inv .same
 
 returns : tie.Need-returns Inv-loop μ-loop
 returns c =
-    let l = c .before .before .before .before .loop in
+    let l = c .before .before .before .before .before .before .loop in
     at-cut (l .inv)
-    (ended (c .before .before .before .before .before .before .args .src .now) (l .at) unexpectedEnd none (c .before .before .before .loop-test .taken)
+    (ended (c .before .before .before .before .before .before .before .before .args .src .now) (l .at) unexpectedEnd none (c .before .before .before .before .before .loop-test .taken)
     (c .before .before .read-int .ensures ∙ ap intRead (c .enum-told .given .1)))
 
-put-requires : tie.Need-put-requires Inv-loop μ-loop
-put-requires c κs = search needs
+put-requires-2 : tie.Need-put-requires-2 Inv-loop μ-loop
+put-requires-2 c κs = search needs
 
-add-count : tie.Need-add-count Inv-loop μ-loop
-add-count c =
-    let i = c .before .before .before .before .before .before .before .before .loop .inv in
-    let g = got (c .before .before .before .before) in
-    omega (arith, i .few, g .on, g .inside)
+add-t-2 : tie.Need-add-t-2 Inv-loop μ-loop
+add-t-2 c =
+    let i = c .before .before .before .before .before .before .before .before .before .before .before .loop .inv in
+    omega (arith, i .few, c .before .before .before .before .before .before .before .before .before .before .loop-test .taken)
 
 one-if-requires : tie.Need-one-if-requires Inv-loop μ-loop
 one-if-requires c κs = search needs
 
-add-overlongs : tie.Need-add-overlongs Inv-loop μ-loop
-add-overlongs c =
-    let i = c .before .before .before .before .before .before .before .before .before .loop .inv in
-    let g = got (c .before .before .before .before .before) in
-    let o : c .one-if .result ≤ 1 = rw (c .one-if .ensures) (at-most-one (overlong (c .before .before .before .before .before))) in
-    omega (arith, i .few-overlong, g .on, g .inside)
+add-t-3 : tie.Need-add-t-3 Inv-loop μ-loop
+add-t-3 c =
+    let i = c .before .before .before .before .before .before .before .before .before .before .before .before .before .loop .inv in
+    let o : c .before .one-if .result ≤ 1 = rw (c .before .one-if .ensures) (at-most-one (overlong (c .before .before .before .before .before .before .before))) in
+    omega (arith, i .few-overlong, c .before .before .before .before .before .before .before .before .before .before .before .before .loop-test .taken)
 
 one-if-requires-2 : tie.Need-one-if-requires-2 Inv-loop μ-loop
 one-if-requires-2 c κs = search needs
 
-add-paddings : tie.Need-add-paddings Inv-loop μ-loop
-add-paddings c =
-    let i = c .before .before .before .before .before .before .before .before .before .before .loop .inv in
-    let g = got (c .before .before .before .before .before .before) in
-    let p : c .one-if2 .result ≤ 1 = rw (c .one-if2 .ensures) (at-most-one (padding (c .before .before .before .before .before .before))) in
-    omega (arith, i .few-padding, g .on, g .inside)
+add-t-4 : tie.Need-add-t-4 Inv-loop μ-loop
+add-t-4 c =
+    let i = c .before .before .before .before .before .before .before .before .before .before .before .before .before .before .before .loop .inv in
+    let p : c .before .one-if2 .result ≤ 1 = rw (c .before .one-if2 .ensures) (at-most-one (padding (c .before .before .before .before .before .before .before .before .before))) in
+    omega (arith, i .few-padding, c .before .before .before .before .before .before .before .before .before .before .before .before .before .before .loop-test .taken)
 
-loop-less : tie.Need-loop-less Inv-loop μ-loop
-loop-less c =
-    let g = got (c .before .before .before .before .before .before) in
+loop-less-2 : tie.Need-loop-less-2 Inv-loop μ-loop
+loop-less-2 c =
+    let g = got (c .before .before .before .before .before .before .before .before .before) in
     omega (arith, g .on, g .inside)
 
-loop-again : tie.Need-loop-again Inv-loop μ-loop
-loop-again c =
-    let b = c .before .before .before .before .before .before in
-    let z = toZ-ofZ {w = w32} {z = value b} (record { sfits = c .before .before .before .before .before .known-told .given .0 .1 }) in
-    rw (c .before .before .before .put .ensures, c .before .one-if .ensures, c .one-if2 .ensures, z)
-    (turn (overlong b) (padding b) (c .before .before .before .before .before .before .before .before .before .before .loop .inv) (got b))
+loop-again-2 : tie.Need-loop-again-2 Inv-loop μ-loop
+loop-again-2 c =
+    let b = c .before .before .before .before .before .before .before .before .before in
+    let z = toZ-ofZ {w = w32} {z = value b} (record { sfits = c .before .before .before .before .before .before .before .before .known-told .given .0 .1 }) in
+    rw (c .before .before .before .before .before .before .put2 .ensures, c .before .before .before .one-if .ensures, c .before .one-if2 .ensures, z)
+    (turn (overlong b) (padding b) (c .before .before .before .before .before .before .before .before .before .before .before .before .before .before .before .loop .inv) (got b))
 
 same-length-2 : tie.Need-same-length-2 Inv-loop μ-loop
 same-length-2 c = c .before .loop .inv .same
@@ -122,18 +158,26 @@ scan-spec =
     Inv-loop
     μ-loop
     loop-holds
+    shared-slice-read-b
+    cast-b
+    signed-value-requires
+    put-requires
+    add-t
+    add-at
+    loop-less
+    loop-again
     read-int-requires
     enum-known-value
     enum-told
     same-length
     returns
-    put-requires
-    add-count
+    put-requires-2
+    add-t-2
     one-if-requires
-    add-overlongs
+    add-t-3
     one-if-requires-2
-    add-paddings
-    loop-less
-    loop-again
+    add-t-4
+    loop-less-2
+    loop-again-2
     same-length-2
     returns-2)

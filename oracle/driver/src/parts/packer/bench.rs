@@ -170,7 +170,8 @@ fn unpack(table: &mut Table, name: &str, list: &[i32]) {
         ints: Vec::with_capacity(list.len()),
         cut: false,
     };
-    let mut out = vec![0; list.len()];
+    // One int a byte, as reading bytes asks of scratch.
+    let mut out = vec![0; bytes.len()];
     table.race(
         &format!("unpack, {name}"),
         list.len(),
@@ -183,7 +184,7 @@ fn unpack(table: &mut Table, name: &str, list: &[i32]) {
             let _ = black_box((said, &out));
         },
     );
-    assert!(unpacked.ints == list && out == list);
+    assert!(unpacked.ints == list && out[..list.len()] == *list);
 }
 
 /// Writes each int behind the other.
