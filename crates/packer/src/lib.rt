@@ -236,7 +236,7 @@ fn scan(src: &[u8], out: &mut [i32]) -> Totals
             next,
             overlong,
             padding,
-        } = read_int(src, at)
+        } = read_more(src, at + 1, b / 64 % 2 == 1, b % 64)
         else {
             t.cut = true;
             return t;

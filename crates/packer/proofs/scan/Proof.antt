@@ -11,9 +11,10 @@ use mir.Facts.{toZ-ofZ}
 use Rattle.definitions.specs.Refusals.{unexpectedEnd}
 use Rattle.definitions.specs.Warnings.{none}
 use Rattle.definitions.specs.Packed.{sign, signed, warned}
+use Rattle.definitions.specs.Packer.{readIntAt}
 use Rattle.laws.specs.StreamLaws.{Found, found, ended}
 use Rattle.packer.specs.Answers.{intRead}
-use Rattle.packer.proofs.Steps.{read-one}
+use Rattle.packer.proofs.Steps.{read-one, read-more}
 use Rattle.packer.proofs.Scanning.{Scanning, start, at-most-one, turn, turn-plain, at-end, at-cut}
 use borrow.Author.Needs.{needs}
 use Rattle.packer.proofs.scan.Statement.{statement}
@@ -36,7 +37,13 @@ short c =
     found src at (signed (sign (byte c)) (byte c % 64)) (at + 1) (warned false false)
     (read-one src at (c .before .before .loop-test .taken) (c .if1 .taken))
 
--- the integer that was read
+-- an integer of more bytes
+long : (c : tie.After-read-more Inv-loop μ-loop) → readIntAt (c .before .before .before .before .before .before .args .src .now) (c .before .before .before .before .loop .at) ≡ intRead (c .read-more .result)
+long c =
+    read-more (c .before .before .before .before .before .before .args .src .now) (c .before .before .before .before .loop .at) (c .before .before .before .loop-test .taken) (c .before .if1 .left)
+    ∙ c .read-more .ensures
+
+-- what it told
 module _ (c : tie.After-value Inv-loop μ-loop) where
   abbrev src : List ℕ
   src = c .before .before .before .before .before .before .before .before .args .src .now
@@ -56,7 +63,7 @@ module _ (c : tie.After-value Inv-loop μ-loop) where
   got : Found src (c .before .before .before .before .before .before .loop .at) value next (warned overlong padding)
   got =
       found src (c .before .before .before .before .before .before .loop .at) value next (warned overlong padding)
-      (c .before .before .read-int .ensures ∙ ap intRead (c .value .given .1))
+      (long (c .before .before) ∙ ap intRead (c .value .given .1))
 
 loop-holds : tie.Need-loop-holds Inv-loop μ-loop
 loop-holds c = start (c .before .args .src .now) (c .before .args .out .now)
@@ -88,8 +95,11 @@ loop-again c =
     let v = c .before .before .before .signed-value in
     rw (c .before .before .put .ensures, toZ-ofZ (record { sfits = v .ok }), v .ensures) (turn-plain (l .inv) (short (c .before .before .before .before .before)))
 
-read-int-requires : tie.Need-read-int-requires Inv-loop μ-loop
-read-int-requires c κs = search needs
+add-read-more : tie.Need-add-read-more Inv-loop μ-loop
+add-read-more c = search needs
+
+read-more-requires : tie.Need-read-more-requires Inv-loop μ-loop
+read-more-requires c κs = search needs
 
 enum-known-value : tie.Need-enum-known-value Inv-loop μ-loop
 enum-known-value c = search needs
@@ -105,7 +115,7 @@ returns c =
     let l = c .before .before .before .before .before .before .loop in
     at-cut (l .inv)
     (ended (c .before .before .before .before .before .before .before .before .args .src .now) (l .at) unexpectedEnd none (c .before .before .before .before .before .loop-test .taken)
-    (c .before .before .read-int .ensures ∙ ap intRead (c .enum-told .given .1)))
+    (long (c .before .before) ∙ ap intRead (c .enum-told .given .1)))
 
 put-requires-2 : tie.Need-put-requires-2 Inv-loop μ-loop
 put-requires-2 c κs = search needs
@@ -166,7 +176,8 @@ scan-spec =
     add-at
     loop-less
     loop-again
-    read-int-requires
+    add-read-more
+    read-more-requires
     enum-known-value
     enum-told
     same-length
