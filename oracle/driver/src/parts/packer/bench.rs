@@ -1,8 +1,8 @@
 //! Times of packed integers.
 //!
-//! `each`: the Rust in a loop, as its users write it, against one call of the
-//! port an int. `each call`: the Rust behind the same C boundary as the port,
-//! so that what remains is the work itself.
+//! `unpack`: all ints of a byte string by one call, against the Rust's loop as
+//! its users write it. `write_int each`: one call of the port an int, against
+//! such a loop. `each call`: the Rust behind the same C boundary as the port.
 
 use super::oracle;
 use crate::core::bench::Table;
@@ -123,27 +123,7 @@ fn write_by(
     at
 }
 
-/// Reads each int; both sides add them up.
-fn read(table: &mut Table, name: &str, list: &[i32]) {
-    let bytes = oracle::packed(list);
-    table.race(
-        &format!("read_int each, {name}"),
-        list.len(),
-        &mut || {
-            let mut tally = Tally::default();
-            let mut unpacker = Unpacker::new(black_box(&bytes));
-            let mut sum = 0i32;
-            while let Ok(int) = unpacker.read_int(&mut tally) {
-                sum = sum.wrapping_add(int);
-            }
-            black_box((sum, tally.0));
-        },
-        &mut || {
-            black_box(read_by(black_box(&bytes), plain::read_int));
-        },
-    );
-}
-
+/// Reads each int by a call; both sides behind the same C boundary.
 fn read_calls(table: &mut Table, name: &str, list: &[i32]) {
     let bytes = oracle::packed(list);
     table.race(
