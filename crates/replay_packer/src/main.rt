@@ -1,0 +1,157 @@
+// Replays recorded cases on packed integers: each line of the standard input is a case, and gets one line of answer.
+//     r AT HEX        an int is read: VALUE NEXT OVERLONG PADDING, or refused 1
+//     w ROOM AT INT   an int is written into ROOM bytes aa: NEXT HEX, or refused 40 HEX
+//     u ROOM HEX      all ints are unpacked: COUNT CUT OVERLONG PADDING INT.., or refused 40 OVERLONG PADDING
+use format::Error;
+use format::Warnings;
+use libc::STDIN_FILENO;
+use libc::STDOUT_FILENO;
+use packer::IntRead;
+use packer::IntWrite;
+use packer::IntsRead;
+use replay_text::put;
+use replay_text::put_byte;
+use replay_text::put_hex;
+use replay_text::put_int;
+use replay_text::put_ints;
+use replay_text::put_number;
+use replay_text::word;
+
+// A space and a number.
+fn put_next(out: &mut [u8], at: usize, n: usize) -> usize {
+    let end = put_byte(out, at, b' ');
+    put_number(out, end, n)
+}
+
+// The answer of a call that is refused.
+fn put_refused(out: &mut [u8], e: Error) -> usize {
+    let end = put(out, 0, b"refused ");
+    put_number(out, end, format::error_number(e) as usize)
+}
+
+// The answer of a line that is no case.
+fn put_odd(out: &mut [u8]) -> usize {
+    put(out, 0, b"odd")
+}
+
+// The counts of the packer's two warnings.
+fn put_warnings(out: &mut [u8], at: usize, w: Warnings) -> usize {
+    let end = put_next(out, at, w.overlong_int_encoding);
+    put_next(out, end, w.non_zero_int_padding)
+}
+
+// The answer of r AT HEX.
+fn read_case(line: &[u8], out: &mut [u8]) -> usize {
+    let mut src = [0u8; 64];
+    let len = replay_text::bytes(word(line, 2), &mut src);
+    let at = replay_text::number(word(line, 1));
+    let IntRead::Int {
+        value,
+        next,
+        overlong,
+        padding,
+    } = packer::read_int(&src[..len], at)
+    else {
+        return put_refused(out, Error::UnexpectedEnd);
+    };
+    let end = put_int(out, 0, value);
+    let end = put_next(out, end, next);
+    let end = put_next(out, end, ints::one_if(overlong));
+    put_next(out, end, ints::one_if(padding))
+}
+
+// The answer of w ROOM AT INT.
+fn write_case(line: &[u8], out: &mut [u8]) -> usize {
+    let mut area = [0xaau8; 16];
+    let room = replay_text::number(word(line, 1));
+    if 16 < room {
+        return put_odd(out);
+    }
+    write_into(line, &mut area[..room], out)
+}
+
+// The answer of w ROOM AT INT, with an area of ROOM bytes.
+fn write_into(line: &[u8], area: &mut [u8], out: &mut [u8]) -> usize {
+    let at = replay_text::number(word(line, 2));
+    let int = replay_text::int(word(line, 3));
+    let answer = packer::write_int(area, at, int);
+    let end = put_written(out, answer);
+    let end = put_byte(out, end, b' ');
+    put_hex(out, end, area)
+}
+
+// Where the write ended, or the refusal.
+fn put_written(out: &mut [u8], answer: IntWrite) -> usize {
+    match answer {
+        IntWrite::Next(next) => put_number(out, 0, next),
+        IntWrite::Refused(e) => put_refused(out, e),
+    }
+}
+
+// The answer of u ROOM HEX.
+fn unpack_case(line: &[u8], out: &mut [u8]) -> usize {
+    let mut src = [0u8; 64];
+    let mut area = [0i32; 64];
+    let len = replay_text::bytes(word(line, 2), &mut src);
+    let room = replay_text::number(word(line, 1));
+    if 64 < room {
+        return put_odd(out);
+    }
+    unpack_into(&src[..len], &mut area[..room], out)
+}
+
+// The answer of u ROOM HEX, with the bytes and an area of ROOM ints.
+fn unpack_into(src: &[u8], area: &mut [i32], out: &mut [u8]) -> usize {
+    let unpacked = packer::unpack(src, area);
+    let answer = unpacked.answer;
+    match answer {
+        IntsRead::Ints { count, cut } => {
+            let end = put_number(out, 0, count);
+            let end = put_next(out, end, ints::one_if(cut));
+            let end = put_warnings(out, end, unpacked.warnings);
+            put_ints(out, end, area, count)
+        }
+        IntsRead::Refused(e) => {
+            let end = put_refused(out, e);
+            put_warnings(out, end, unpacked.warnings)
+        }
+    }
+}
+
+// The answer of a line, at the front of out; where it ends.
+fn answer(line: &[u8], out: &mut [u8]) -> usize {
+    if line.len() == 0 {
+        return put_odd(out);
+    }
+    match line[0] {
+        b'r' => read_case(line, out),
+        b'w' => write_case(line, out),
+        b'u' => unpack_case(line, out),
+        _ => put_odd(out),
+    }
+}
+
+// Writes the answer of a line.
+fn reply(line: &[u8]) {
+    let mut out = [0u8; 1024];
+    let end = answer(line, &mut out);
+    let end = put_byte(&mut out, end, b'\n');
+    io::write_all(STDOUT_FILENO, &out[..end]);
+}
+
+// Writes the answer of each line.
+fn replay(cases: &[u8]) {
+    let mut at: usize = 0;
+    while at < cases.len() {
+        let line = replay_text::until(&cases[at..], b'\n');
+        reply(line);
+        at += line.len() + 1;
+    }
+}
+
+// Reads all cases, and answers them.
+fn main() {
+    let mut cases = io::large_buffer();
+    let len = io::read_full(STDIN_FILENO, &mut cases);
+    replay(&cases[..len]);
+}

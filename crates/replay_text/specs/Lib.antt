@@ -1,0 +1,4 @@
+-- The text of replayed cases. Assumes nothing.
+pub mod Words
+pub mod Buffer
+pub mod Numbers
