@@ -7,3 +7,7 @@ pub mod Outcome
 pub mod Packed
 pub mod Stream
 pub mod Packer
+pub mod Stored
+pub mod Tables
+pub mod TableReading
+pub mod TableCalls

@@ -1,6 +1,8 @@
 -- What a call comes to: a value or a refusal, each with the warnings counted up to there. Assumes nothing.
+use mathlib.Core.Bool.{Bool, cond}
+use mathlib.Core.List.{List}
 use Prim.Native.Nat.{ℕ}
-use Rattle.definitions.specs.Warnings.{Counts, none, plus}
+use Rattle.definitions.specs.Warnings.{Warning, Counts, none, one, plus}
 
 pub data Outcome (A : Type 0) : Type 0 where
   ok : A → Counts → Outcome A
@@ -31,7 +33,19 @@ abbrev pub _>>_ : {A B : Type 0} → Outcome A → Outcome B → Outcome B
 ok a w >> o = after w o
 err n w >> o = err n w
 
+-- a condition without which the call is refused
+abbrev pub require : Bool → ℕ → Outcome (Unit {0})
+require b n = cond b (return tt) (refuse n)
+
+-- these warnings
+abbrev pub warn : Counts → Outcome (Unit {0})
+warn w = ok tt w
+
+-- a warning of a kind, where there is cause
+abbrev pub warnIf : Bool → Warning → Outcome (Unit {0})
+warnIf b k = cond b (warn (one k)) (warn none)
+
 -- what a call comes to, and what the area that it writes then holds
 pub record Wrote (A E : Type 0) : Type 0 where
   pub answer : Outcome A
-  pub out : mathlib.Core.List.List E
+  pub out : List E

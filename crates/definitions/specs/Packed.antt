@@ -1,7 +1,7 @@
 -- Packed integers, by the packer's format line. Assumes nothing.
 --   ESDD_DDDD EDDD_DDDD EDDD_DDDD EDDD_DDDD PPPP_DDDD
 --   E: another byte follows; S: sign; D: digits, the lowest first; P: padding
-use mathlib.Core.List.{List, [], _∷_}
+use mathlib.Core.List.{List, [], _∷_, _++_}
 use mathlib.Core.Bool.{Bool, true, false, cond}
 use Prim.Native.Nat.{ℕ, zero, suc, _+_, _-_, _*_, _/_, _%_, _^_}
 use lib.Dec.{eqb, leb, ltb}
@@ -72,3 +72,8 @@ writeInt x =
     cond (ltb (mag x) 64)
     ((signBit x + mag x) ∷ [])
     ((128 + signBit x + mag x % 64) ∷ writeMore 3 (mag x / 64))
+
+-- the packed form of some ints
+unfoldable pub packInts : List ℤ → List ℕ
+packInts [] = []
+packInts (x ∷ xs) = writeInt x ++ packInts xs

@@ -4,10 +4,11 @@ use mathlib.Core.List.{List, [], _∷_, _++_}
 use Prim.Native.Nat.{ℕ, zero, suc, _+_, _≤_, _<_}
 use native.Mathlib.Numerals.{add-one}
 use native.Mathlib.Omega.{arith}
-use native.Mathlib.Nat.{add-assoc}
+use native.Mathlib.Nat.{add-assoc, add-zero}
 use lib.ListN.{length, drop, getD, set, drop-of-length-le}
 use lib.Seq.{drop-cons}
-use Rattle.definitions.specs.Areas.{lay, layAt}
+use lib.IntN.{ℤ, pos}
+use Rattle.definitions.specs.Areas.{lay, layAt, cleared}
 
 module _ {E : Type 0} where
   -- an area stays as long as it is
@@ -73,3 +74,17 @@ module _ {E : Type 0} where
   -- the first entry is laid, and then the others behind it
   pub layAt-split : (n : ℕ) (x : E) (xs area : List E) → layAt n (x ∷ xs) area ≡ layAt (n + 1) xs (layAt n (x ∷ []) area)
   layAt-split n x xs area = rw add-one (split n x xs area)
+
+  -- one list is laid, and then the other behind it
+  pub layAt-append : (n : ℕ) (xs ys area : List E) → layAt n (xs ++ ys) area ≡ layAt (n + length xs) ys (layAt n xs area)
+  layAt-append n [] ys area = rw (layAt-nothing n area, add-zero n)
+  layAt-append n (x ∷ xs) ys area =
+      let e : n + 1 + length xs ≡ n + suc (length xs) = omega arith in
+      rw (layAt-split n x (xs ++ ys) area, layAt-split n x xs area, layAt-append (n + 1) xs ys (layAt n (x ∷ []) area), e)
+
+-- areas of one length are cleared alike
+pub cleared-same : (a b : List ℤ) → length a ≡ length b → cleared a ≡ cleared b
+cleared-same [] [] e = refl
+cleared-same [] (y ∷ b) e = let z : ⊥ = omega arith in absurd z
+cleared-same (x ∷ a) [] e = let z : ⊥ = omega arith in absurd z
+cleared-same (x ∷ a) (y ∷ b) e = ap (λ (l : List ℤ). pos 0 ∷ l) (cleared-same a b (omega arith))

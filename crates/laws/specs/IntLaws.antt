@@ -8,7 +8,7 @@ use native.Mathlib.Omega.{arith}
 use borrow.Author.Tests.{lt-ltb, le-ltb}
 use lib.Dec.{ltb}
 use lib.IntN.{ℤ, pos, negsuc}
-use lib.Signed.{ltZ}
+use lib.Signed.{ltZ, mag}
 use mir.Syntax.{w32}
 use mir.Val.{Fits, SFits}
 use mir.Facts.{toZ-ofZ, ofZ-toZ, fits-ofZ, sfits-toZ, sfits-lit}
@@ -97,6 +97,20 @@ wrappingAdd-zero {x} f =
 
 pub zero-wrappingAdd : {x : ℤ} → SFits w32 x → wrappingAdd (pos 0) x ≡ x
 zero-wrappingAdd {x} f = wrappingAdd-comm (pos 0) x ∙ wrappingAdd-zero f
+
+-- ---- by the digits of an int
+
+pub bits-below : (z : ℤ) → mag z < 2 ^ 31 → bits z < 2 ^ 32
+bits-below z h = bits-lt {x = z} (record { sfits = h })
+
+pub whole-bits : (z : ℤ) → mag z < 2 ^ 31 → fromBits (bits z) ≡ z
+whole-bits z h = fromBits-bits {x = z} (record { sfits = h })
+
+pub bits-back : (n : ℕ) → n < 2 ^ 32 → bits (fromBits n) ≡ n
+bits-back n h = bits-fromBits h
+
+pub digits-below : (n : ℕ) → n < 2 ^ 32 → mag (fromBits n) < 2 ^ 31
+digits-below n h = fromBits-fits h .sfits
 
 -- ---- sums
 

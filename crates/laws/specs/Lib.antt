@@ -7,4 +7,12 @@ pub mod OutcomeLaws
 pub mod PackedLaws
 pub mod Shortest
 pub mod StreamLaws
+pub mod PackLaws
+pub mod TableShape
+pub mod TableForm
+pub mod TableRoundTrip
+pub mod TableFind
+pub mod TableHeader
+pub mod TableReadBack
+pub mod TableWalk
 pub mod Cases

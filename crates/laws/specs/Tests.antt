@@ -1,8 +1,9 @@
 -- Tests of numbers. Assumes nothing.
 use mathlib.Core.Path.{_≡_, refl, sym, _∙_}
-use mathlib.Core.Bool.{Bool, true, false}
+use mathlib.Core.Bool.{Bool, true, false, cond}
 use mathlib.Core.Logic.{_⊎_, inl, inr, ⊎-elim}
 use Prim.Native.Nat.{ℕ, _≤_, _<_}
+use native.Mathlib.Omega.{arith}
 use borrow.Author.Tests.{lt-ltb, le-ltb, ltb-true, ltb-false}
 use lib.Dec.{ltb}
 
@@ -21,3 +22,8 @@ ltb-same a b c d h-lt h-le =
     (λ (h : a < b). lt-ltb a b h ∙ sym (lt-ltb c d (h-lt h)))
     (λ (h : b ≤ a). le-ltb a b h ∙ sym (le-ltb c d (h-le h)))
     (below a b)
+
+-- a test counts at most one
+pub at-most-one : (b : Bool) → cond b 1 0 ≤ 1
+at-most-one true = omega arith
+at-most-one false = omega arith
