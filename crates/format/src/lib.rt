@@ -1,6 +1,9 @@
-// What the calls share: why one is refused, and how many warnings of each kind it counted.
+// What the calls share: keys, why a call is refused, and how many warnings of each kind it counted.
 ghost use mathlib.Core.Path.{_≡_};
+ghost use Prim.Native.Nat.{_/_, _%_};
+ghost use Rattle.definitions.specs.Ints.{bits};
 ghost use Rattle.definitions.specs.Warnings.{none};
+ghost use Rattle.definitions.specs.Tables.{keyOf};
 ghost use Rattle.format.specs.Numbers.{number};
 ghost use Rattle.format.specs.Totals.{counts};
 
@@ -127,4 +130,25 @@ impl Warnings {
             weird_negative_delta_tick: 0,
         }
     }
+}
+
+// The key of a type and an id.
+pub fn key(raw_type_id: u16, id: u16) -> i32
+    ensures { λ r. ⌜ bits r ≡ keyOf «raw_type_id» id ⌝ }
+{
+    ints::from_bits(raw_type_id as u32 * 65536 + id as u32)
+}
+
+// The type of a key.
+pub fn key_to_raw_type_id(key: i32) -> u16
+    ensures { λ r. ⌜ r ≡ bits key / 65536 ⌝ }
+{
+    (ints::to_bits(key) / 65536) as u16
+}
+
+// The id of a key.
+pub fn key_to_id(key: i32) -> u16
+    ensures { λ r. ⌜ r ≡ bits key % 65536 ⌝ }
+{
+    (ints::to_bits(key) % 65536) as u16
 }

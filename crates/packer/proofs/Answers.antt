@@ -1,7 +1,7 @@
--- What `write_int` comes to, case by case. Assumes nothing.
-use mathlib.Core.Path.{_≡_, refl, sym, ap, _∙_}
+-- What `put_int` and `write_int` come to, case by case. Assumes nothing.
+use mathlib.Core.Path.{_≡_, refl, sym, ap}
 use mathlib.Core.List.{List, [], _∷_}
-use Prim.Native.Nat.{ℕ, suc, _+_, _/_, _%_, _≤_, _<_}
+use Prim.Native.Nat.{ℕ, _+_, _/_, _%_, _≤_, _<_}
 use native.Mathlib.Omega.{arith}
 use borrow.Author.Tests.{le-leb, lt-leb, lt-ltb, le-ltb}
 use lib.IntN.{ℤ}
@@ -9,7 +9,7 @@ use lib.ListN.{length, set}
 use lib.Signed.{mag}
 use Rattle.definitions.specs.Areas.{layAt}
 use Rattle.definitions.specs.Refusals.{capacityError}
-use Rattle.definitions.specs.Outcome.{return, refuse, Wrote}
+use Rattle.definitions.specs.Outcome.{return, refuse}
 use Rattle.definitions.specs.Packed.{signBit, writeMore, writeInt}
 use Rattle.definitions.specs.Packer.{writeIntAt}
 use Rattle.laws.specs.AreaLaws.{layAt-set, layAt-nothing}
@@ -29,25 +29,29 @@ module _ (out : List ℕ) (at : ℕ) (x : ℤ) where
   unfolding writeIntAt
   full h = rw (lt-leb (at + length (writeInt x)) (length out) h)
 
-  -- there is room: the sign's bit is g and the digits are m
-  module _ (fits : at + length (writeInt x) ≤ length out) (g m : ℕ) (e : g ≡ signBit x) (f : m ≡ mag x) where
-    pub one-written : m < 64 → writeIntAt out at x ≡ record { answer = return (at + 1); out = set out at (g + m) }
+  module _ (fits : at + length (writeInt x) ≤ length out) where
+    -- there is room
+    pub laid : (r : ℕ) (o : List ℕ) → r ≡ at + length (writeInt x) → o ≡ layAt at (writeInt x) out → writeIntAt out at x ≡ record { answer = return r; out = o }
     unfolding writeIntAt
-    one-written h =
-        let w = one-byte x (omega arith) in
-        let i : at < length out = omega (arith, ap length w) in
-        rw (le-leb (at + length (writeInt x)) (length out) fits, w, e, f, layAt-set at (signBit x + mag x) [] out i)
-        (ap (λ (o : List ℕ). record { answer = return (at + 1); out = o }) (layAt-nothing (at + 1) (set out at (signBit x + mag x))))
+    laid r o p q = rw (le-leb (at + length (writeInt x)) (length out) fits, p, q)
 
-    pub room : 64 ≤ m → at + 1 + length (writeMore 3 (m / 64)) ≤ length out
-    room h =
-        let q : length (writeMore 3 (m / 64)) ≡ length (writeMore 3 (mag x / 64)) = ap (λ (k : ℕ). length (writeMore 3 (k / 64))) f in
-        omega (arith, ap length (more-bytes x (omega arith)))
+    -- the sign's bit is g and the digits are m
+    module _ (g m : ℕ) (e : g ≡ signBit x) (f : m ≡ mag x) where
+      pub one-written : m < 64 → (at + 1 ≡ at + length (writeInt x)) × (set out at (g + m) ≡ layAt at (writeInt x) out)
+      one-written h =
+          let w = one-byte x (omega arith) in
+          let i : at < length out = omega (arith, ap length w) in
+          rw (w, e, f, layAt-set at (signBit x + mag x) [] out i)
+          (refl, sym (layAt-nothing (at + 1) (set out at (signBit x + mag x))))
 
-    pub more-written : 64 ≤ m → (r : ℕ) (o : List ℕ) → r ≡ at + 1 + length (writeMore 3 (m / 64)) → o ≡ layAt (at + 1) (writeMore 3 (m / 64)) (set out at (128 + g + m % 64)) → writeIntAt out at x ≡ record { answer = return r; out = o }
-    unfolding writeIntAt
-    more-written h r o p q =
-        let w = more-bytes x (omega arith) in
-        let i : at < length out = omega (arith, ap length w) in
-        let k : at + suc (length (writeMore 3 (mag x / 64))) ≡ at + 1 + length (writeMore 3 (mag x / 64)) = omega arith in
-        rw (le-leb (at + length (writeInt x)) (length out) fits, w, p, q, e, f, k, layAt-set at (128 + signBit x + mag x % 64) (writeMore 3 (mag x / 64)) out i)
+      pub room : 64 ≤ m → at + 1 + length (writeMore 3 (m / 64)) ≤ length out
+      room h =
+          let q : length (writeMore 3 (m / 64)) ≡ length (writeMore 3 (mag x / 64)) = ap (λ (k : ℕ). length (writeMore 3 (k / 64))) f in
+          omega (arith, ap length (more-bytes x (omega arith)))
+
+      pub more-written : 64 ≤ m → (r : ℕ) (o : List ℕ) → r ≡ at + 1 + length (writeMore 3 (m / 64)) → o ≡ layAt (at + 1) (writeMore 3 (m / 64)) (set out at (128 + g + m % 64)) → (r ≡ at + length (writeInt x)) × (o ≡ layAt at (writeInt x) out)
+      more-written h r o p q =
+          let w = more-bytes x (omega arith) in
+          let i : at < length out = omega (arith, ap length w) in
+          rw (w, p, q, e, f, layAt-set at (128 + signBit x + mag x % 64) (writeMore 3 (mag x / 64)) out i)
+          (omega arith, refl)

@@ -3,3 +3,4 @@ pub mod Steps
 pub mod Writes
 pub mod Answers
 pub mod Scanning
+pub mod Packing

@@ -15,11 +15,12 @@ use Rattle.definitions.specs.Outcome.{ok, err, Wrote}
 use Rattle.definitions.specs.Packed.{warned}
 use Rattle.definitions.specs.Packer.{Unpacked, unpackInto}
 use Rattle.definitions.specs.Stream.{Stream, int, end, cut, stream, ints, warnings, isCut}
+use Rattle.laws.specs.Tests.{at-most-one}
 use Rattle.laws.specs.AreaLaws.{lay-nowhere, layAt-split, layAt-nothing, length-layAt}
 use Rattle.laws.specs.WarningLaws.{none-plus, plus-none, plus-assoc, packed, warned-packed}
 use Rattle.laws.specs.StreamLaws.{stream-end, Found}
 use Rattle.packer.specs.Scans.{Scanned}
-use Rattle.packer.specs.declared.Totals.{Totals}
+use Rattle.packer.specs.declared.checked.Totals.{Totals}
 
 -- what is counted and laid so far, and what is left from a place on, make the whole
 pub record Scanning (src : List ℕ) (before out : List ℤ) (at : ℕ) (t : Totals) : Type 0 where
@@ -48,10 +49,6 @@ start src before =
       warns = none-plus (warnings (stream src));
       laid = refl;
     }
-
-pub at-most-one : (b : Bool) → cond b 1 0 ≤ 1
-at-most-one true = omega arith
-at-most-one false = omega arith
 
 -- one integer more, with these warnings
 abbrev counting : Totals → ℕ → ℕ → Totals

@@ -6,7 +6,7 @@ use lib.ListN.{length}
 use Rattle.definitions.specs.Areas.{lay}
 use Rattle.definitions.specs.Stream.{Stream, ints, warnings, isCut}
 use Rattle.laws.specs.WarningLaws.{packed}
-use Rattle.packer.specs.declared.Totals.{Totals}
+use Rattle.packer.specs.declared.checked.Totals.{Totals}
 
 -- what a pass over a stream tells, and the area with its ints over the front, as far as it goes
 pub record Scanned (s : Stream) (before : List ℤ) (r : Totals) (out : List ℤ) : Type 0 where

@@ -4,10 +4,13 @@
 ghost use mathlib.Core.Path.{_≡_};
 ghost use mathlib.Core.List.{[], _∷_};
 ghost use Prim.Native.Nat.{_+_, _/_, _≤_, _<_, _^_};
+ghost use lib.Dec.{leb};
 ghost use lib.ListN.{length};
 ghost use lib.Signed.{mag};
-ghost use Rattle.definitions.specs.Areas.{layAt};
-ghost use Rattle.definitions.specs.Packed.{signed, signBit, writeMore, writeInt};
+ghost use Rattle.definitions.specs.Areas.{lay, layAt};
+ghost use Rattle.definitions.specs.Outcome.{return};
+ghost use Rattle.definitions.specs.Packed.{signed, signBit, writeMore, writeInt, packInts};
+ghost use Rattle.definitions.specs.Stored.{stored};
 ghost use Rattle.definitions.specs.Stream as Stream;
 ghost use Rattle.definitions.specs.Stream.{stream};
 ghost use Rattle.definitions.specs.Packer.{readIntAt, writeIntAt, unpackInto};
@@ -15,9 +18,11 @@ ghost use Rattle.laws.specs.WarningLaws.{packed};
 ghost use Rattle.format.specs.Totals.{counts};
 ghost use Rattle.packer.specs.Answers.{intRead, intWrite, unpacked};
 ghost use Rattle.packer.specs.Bytes.{moreAt};
-ghost use Rattle.packer.specs.Scans.{Scanned};
+use checked::scan;
 use format::Error;
 use format::Warnings;
+
+pub mod checked;
 
 // What stands at a place: an int with the place after it and whether it has each warning; or the bytes end inside it.
 pub enum IntRead {
@@ -169,14 +174,22 @@ pub fn write_int(out: &mut [u8], at: usize, int: i32) -> IntWrite
     if out.len() - at < written_len(int) {
         return IntWrite::Refused(Error::CapacityError);
     }
+    IntWrite::Next(put_int(out, at, int))
+}
+
+// The shortest form of an int, into out at a place, where it fits; the place after it.
+fn put_int(out: &mut [u8], at: usize, int: i32) -> usize
+    requires { ⌜ at + length (writeInt int) ≤ length (now out) ⌝ }
+    ensures { λ r. ⌜ (r ≡ at + length (writeInt int)) × (now (out .exit) ≡ layAt at (writeInt int) (now (out .entry))) ⌝ }
+{
     let digits = magnitude(int);
     let sign = sign_bit(int);
     if digits < 64 {
         out[at] = (sign + digits) as u8;
-        return IntWrite::Next(at + 1);
+        return at + 1;
     }
     out[at] = (128 + sign + digits % 64) as u8;
-    IntWrite::Next(write_more(out, at + 1, digits / 64))
+    write_more(out, at + 1, digits / 64)
 }
 
 // The digits above the first six, into out from a place on; the place after them.
@@ -195,14 +208,6 @@ fn write_more(out: &mut [u8], start: usize, digits: u32) -> usize
     at + 1
 }
 
-// What one pass over packed integers tells.
-struct Totals {
-    count: usize,
-    cut: bool,
-    overlong: usize,
-    padding: usize,
-}
-
 // An int into out at a place, where out goes that far.
 fn put(out: &mut [i32], at: usize, x: i32)
     ensures { λ _. ⌜ now (out .exit) ≡ layAt at (x ∷ []) (now (out .entry)) ⌝ }
@@ -210,44 +215,6 @@ fn put(out: &mut [i32], at: usize, x: i32)
     if at < out.len() {
         out[at] = x;
     }
-}
-
-// All the integers of src over the front of out, as far as it goes. Those of one byte are read on the spot.
-fn scan(src: &[u8], out: &mut [i32]) -> Totals
-    ensures { λ r. ⌜ Scanned (stream (now (src .entry))) (now (out .entry)) r (now (out .exit)) ⌝ }
-{
-    let mut at: usize = 0;
-    let mut t = Totals {
-        count: 0,
-        cut: false,
-        overlong: 0,
-        padding: 0,
-    };
-    while at < src.len() {
-        let b = src[at] as u32;
-        if b < 128 {
-            put(out, t.count, signed_value(b / 64 % 2 == 1, b % 64));
-            t.count += 1;
-            at += 1;
-            continue;
-        }
-        let IntRead::Int {
-            value,
-            next,
-            overlong,
-            padding,
-        } = read_more(src, at + 1, b / 64 % 2 == 1, b % 64)
-        else {
-            t.cut = true;
-            return t;
-        };
-        put(out, t.count, value);
-        t.count += 1;
-        t.overlong += ints::one_if(overlong);
-        t.padding += ints::one_if(padding);
-        at = next;
-    }
-    t
 }
 
 // Warnings of the packer's two kinds.
@@ -301,4 +268,48 @@ pub fn unpack(src: &[u8], out: &mut [i32]) -> Unpacked
         };
     }
     unpack_all(src, out)
+}
+
+// Whether the packed form of src has at most room bytes. Where five bytes an int have room, no int is looked at.
+fn packs_into(src: &[i32], room: usize) -> bool
+    ensures { λ r. ⌜ r ≡ leb (length (packInts (now (src .entry)))) room ⌝ }
+{
+    if src.len() <= room / 5 {
+        return true;
+    }
+    let mut left = room;
+    let mut i: usize = 0;
+    while i < src.len() {
+        let n = written_len(src[i]);
+        if left < n {
+            return false;
+        }
+        left -= n;
+        i += 1;
+    }
+    true
+}
+
+// The packed form of all of src, into the front of out, which has room for it; how many bytes.
+fn pack_all(src: &[i32], out: &mut [u8]) -> usize
+    requires { ⌜ length (packInts (now src)) ≤ length (now out) ⌝ }
+    ensures { λ r. ⌜ (r ≡ length (packInts (now (src .entry)))) × (now (out .exit) ≡ lay (packInts (now (src .entry))) (now (out .entry))) ⌝ }
+{
+    let mut at: usize = 0;
+    let mut i: usize = 0;
+    while i < src.len() {
+        at = put_int(out, at, src[i]);
+        i += 1;
+    }
+    at
+}
+
+// The packed form of all of src, into the front of out: how many bytes; where it does not fit, out is left as it was.
+pub fn pack(src: &[i32], out: &mut [u8]) -> IntWrite
+    ensures { λ r. ⌜ stored (now (out .entry)) (return (packInts (now (src .entry)))) ≡ record { answer = intWrite r; out = now (out .exit) } ⌝ }
+{
+    if packs_into(src, out.len()) {
+        return IntWrite::Next(pack_all(src, out));
+    }
+    IntWrite::Refused(Error::CapacityError)
 }

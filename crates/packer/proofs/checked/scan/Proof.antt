@@ -1,4 +1,4 @@
--- `packer::scan` meets its contract. The loop's invariant: what is counted and laid so far, and what is left, make the whole. Assumes nothing.
+-- `packer::checked::scan` meets its contract. The loop's invariant: what is counted and laid so far, and what is left, make the whole. Assumes nothing.
 use mathlib.Core.Path.{_≡_, refl, sym, ap, _∙_}
 use mathlib.Core.List.{List}
 use mathlib.Core.Bool.{Bool, false}
@@ -12,13 +12,14 @@ use Rattle.definitions.specs.Refusals.{unexpectedEnd}
 use Rattle.definitions.specs.Warnings.{none}
 use Rattle.definitions.specs.Packed.{sign, signed, warned}
 use Rattle.definitions.specs.Packer.{readIntAt}
+use Rattle.laws.specs.Tests.{at-most-one}
 use Rattle.laws.specs.StreamLaws.{Found, found, ended}
 use Rattle.packer.specs.Answers.{intRead}
 use Rattle.packer.proofs.Steps.{read-one, read-more}
-use Rattle.packer.proofs.Scanning.{Scanning, start, at-most-one, turn, turn-plain, at-end, at-cut}
+use Rattle.packer.proofs.Scanning.{Scanning, start, turn, turn-plain, at-end, at-cut}
 use borrow.Author.Needs.{needs}
-use Rattle.packer.proofs.scan.Statement.{statement}
-use Rattle.packer.proofs.scan.Tie as tie
+use Rattle.packer.proofs.checked.scan.Statement.{statement}
+use Rattle.packer.proofs.checked.scan.Tie as tie
 
 abbrev Inv-loop : tie.InvT-loop
 Inv-loop src out₀ at₀ t₀ out at t = Scanning src out₀ out at t
