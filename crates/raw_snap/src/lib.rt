@@ -1,0 +1,188 @@
+// Tables of keyed items in lent areas of ints.
+ghost use mathlib.Core.Path.{_≡_};
+ghost use lib.ListN.{length};
+ghost use Rattle.definitions.specs.Areas.{cleared};
+ghost use Rattle.definitions.specs.Tables.{keyOf};
+ghost use Rattle.definitions.specs.TableCalls.{emptyCall, readCall, readFromIntsCall, writeToIntsCall, writeCall, numItemsCall, hasItemCall, itemCall, crcCall, walkKeyCall, walkItemCall};
+ghost use Rattle.packer.specs.Answers.{intWrite};
+ghost use Rattle.format.specs.Totals.{counts};
+ghost use Rattle.raw_snap.specs.Answers.{tableWrite, tableRead, itemCount, hasItem, checksum, walked};
+use checked::TableForm;
+use format::Error;
+use format::Warnings;
+use packer::IntWrite;
+
+pub mod checked;
+pub mod raw_builder;
+
+// How many ints the table takes that was written, or why none was.
+pub enum TableWrite {
+    Ints(usize),
+    Refused(Error),
+}
+
+// What reading a table comes to, with the warnings counted.
+pub struct TableRead {
+    pub answer: TableWrite,
+    pub warnings: Warnings,
+}
+
+// Whether a table has an item.
+pub enum Has {
+    Yes,
+    No,
+    Refused(Error),
+}
+
+// How many items a table has.
+pub enum Count {
+    Items(usize),
+    Refused(Error),
+}
+
+// The sum of a table's data.
+pub enum Checksum {
+    Sum(i32),
+    Refused(Error),
+}
+
+// The key of an item of a walk, or its end.
+pub enum Walked {
+    Key(i32),
+    End,
+    Refused(Error),
+}
+
+// Writes the empty table.
+pub fn empty(out: &mut [i32]) -> TableWrite
+    ensures { λ r. ⌜ emptyCall (now (out .entry)) ≡ record { answer = tableWrite r; out = now (out .exit) } ⌝ }
+{
+    if out.len() < 2 {
+        return TableWrite::Refused(Error::CapacityError);
+    }
+    out[0] = 0;
+    out[1] = 0;
+    TableWrite::Ints(2)
+}
+
+// How many items a table has.
+pub fn num_items(area: &[i32]) -> Count
+    ensures { λ r. ⌜ numItemsCall (now (area .entry)) ≡ itemCount r ⌝ }
+{
+    let TableForm::Table { items, ints: _ } = checked::form(area) else {
+        return Count::Refused(Error::NotInForm);
+    };
+    Count::Items(items)
+}
+
+// Whether a table has an item.
+pub fn has_item(area: &[i32], raw_type_id: u16, id: u16) -> Has
+    ensures { λ r. ⌜ hasItemCall (now (area .entry)) (keyOf «raw_type_id» id) ≡ hasItem r ⌝ }
+{
+    let TableForm::Table { items, ints: _ } = checked::form(area) else {
+        return Has::Refused(Error::NotInForm);
+    };
+    if checked::find(area, items, format::key(raw_type_id, id)) < items {
+        return Has::Yes;
+    }
+    Has::No
+}
+
+// The data of an item, as a part of the area; the empty part where there is none.
+pub fn item(area: &[i32], raw_type_id: u16, id: u16) -> &[i32]
+    ensures { λ r. ⌜ now r ≡ itemCall (now (area .entry)) (keyOf «raw_type_id» id) ⌝ }
+{
+    let TableForm::Table { items, ints: _ } = checked::form(area) else {
+        return &area[..0];
+    };
+    let at = checked::find(area, items, format::key(raw_type_id, id));
+    if at < items {
+        return checked::data_at(area, items, at);
+    }
+    &area[..0]
+}
+
+// The sum of all data ints.
+pub fn crc(area: &[i32]) -> Checksum
+    ensures { λ r. ⌜ crcCall (now (area .entry)) ≡ checksum r ⌝ }
+{
+    let TableForm::Table { items, ints: _ } = checked::form(area) else {
+        return Checksum::Refused(Error::NotInForm);
+    };
+    Checksum::Sum(checked::crc(area, items))
+}
+
+// The key of the i-th item in the order of keys read as signed.
+pub fn walk_key(area: &[i32], i: usize) -> Walked
+    ensures { λ r. ⌜ walkKeyCall (now (area .entry)) i ≡ walked r ⌝ }
+{
+    let TableForm::Table { items, ints: _ } = checked::form(area) else {
+        return Walked::Refused(Error::NotInForm);
+    };
+    if items <= i {
+        return Walked::End;
+    }
+    let at = checked::walk_place(area, items, i);
+    Walked::Key(checked::key_at(area, items, at))
+}
+
+// The data of the i-th item in that order, as a part of the area; the empty part past the end.
+pub fn walk_item(area: &[i32], i: usize) -> &[i32]
+    ensures { λ r. ⌜ now r ≡ walkItemCall (now (area .entry)) i ⌝ }
+{
+    let TableForm::Table { items, ints: _ } = checked::form(area) else {
+        return &area[..0];
+    };
+    if items <= i {
+        return &area[..0];
+    }
+    let at = checked::walk_place(area, items, i);
+    checked::data_at(area, items, at)
+}
+
+// A table of ints, into the front of out: how many ints it takes there. A refused call leaves out as it was.
+pub fn read_from_ints(src: &[i32], out: &mut [i32]) -> TableRead
+    ensures { λ r. ⌜ readFromIntsCall (now (src .entry)) (now (out .entry)) ≡ record { answer = tableRead (r .answer) (counts (r .warnings)); out = now (out .exit) } ⌝ }
+{
+    if 1048576 < src.len() {
+        return checked::reading::refused(Error::InputTooLong);
+    }
+    let read = checked::reading::read_table(src, out);
+    let answer = read.answer;
+    TableRead {
+        answer,
+        warnings: checked::reading::warnings(0, 0, false, read.excess),
+    }
+}
+
+// A packed table, into the front of out. Scratch has 16,384 entries or more, and one for each byte; it is zeros afterwards.
+pub fn read(src: &[u8], out: &mut [i32], scratch: &mut [i32]) -> TableRead
+    ensures { λ r. ⌜ (readCall (now (src .entry)) (now (out .entry)) (length (now (scratch .entry))) ≡ record { answer = tableRead (r .answer) (counts (r .warnings)); out = now (out .exit) }) × (now (scratch .exit) ≡ cleared (now (scratch .entry))) ⌝ }
+{
+    let read = checked::reading::read_packed(src, out, scratch);
+    ints::clear(scratch);
+    read
+}
+
+// A table's written form, into the front of out: how many ints; where it does not fit, out is left as it was.
+pub fn write_to_ints(area: &[i32], out: &mut [i32]) -> TableWrite
+    ensures { λ r. ⌜ writeToIntsCall (now (area .entry)) (now (out .entry)) ≡ record { answer = tableWrite r; out = now (out .exit) } ⌝ }
+{
+    let TableForm::Table { items: _, ints: n } = checked::form(area) else {
+        return TableWrite::Refused(Error::NotInForm);
+    };
+    if ints::copy_into(out, 0, &area[..n]) {
+        return TableWrite::Ints(n);
+    }
+    TableWrite::Refused(Error::CapacityError)
+}
+
+// A table packed, into the front of out: how many bytes; where it does not fit, out is left as it was.
+pub fn write(area: &[i32], out: &mut [u8]) -> IntWrite
+    ensures { λ r. ⌜ writeCall (now (area .entry)) (now (out .entry)) ≡ record { answer = intWrite r; out = now (out .exit) } ⌝ }
+{
+    let TableForm::Table { items: _, ints: n } = checked::form(area) else {
+        return IntWrite::Refused(Error::NotInForm);
+    };
+    packer::pack(&area[..n], out)
+}
