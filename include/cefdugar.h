@@ -129,6 +129,153 @@ uint32_t cef_unpack(const uint8_t *src, size_t src_len, int32_t *out,
                     size_t out_len, size_t *count, uint32_t *cut,
                     size_t warnings[CEF_WARNINGS]);
 
+/* ---- Tables ---- */
+
+/* The most items of a table, and the most ints that it takes. */
+#define CEF_TABLE_ITEMS 1024
+#define CEF_TABLE_INTS 16384
+
+/* The least scratch, in ints; reading bytes also asks for one int a byte. */
+#define CEF_SCRATCH_INTS 16384
+
+/* The most bytes or ints that are read. */
+#define CEF_INPUT_MOST 1048576
+
+/*
+ * A table of keyed items stands in a lent area of ints: data size in bytes,
+ * item count, byte offsets, then key and data for each item, in the order of
+ * keys read as unsigned. An item's key is its type times 65,536 and its id.
+ * A table begins at the area's first int; the ints behind it are not judged
+ * and are left. A call on an area that holds no table answers
+ * CEF_NOT_IN_FORM and leaves everything that it is lent.
+ *
+ * CEF_CAPACITY_ERROR means that a result does not fit into the area lent for
+ * it, and nothing else is wrong. *count is then left as well.
+ */
+
+/*
+ * Writes the empty table, two ints, to the front of the `out_len` ints at
+ * `out`.
+ *
+ * CEF_OK: *count is 2.
+ * CEF_CAPACITY_ERROR: out_len < 2. `out` and *count are left.
+ */
+uint32_t cef_table_empty(int32_t *out, size_t out_len, size_t *count);
+
+/*
+ * Reads the packed table that the `src_len` bytes at `src` hold into the
+ * front of the `out_len` ints at `out`.
+ *
+ * CEF_OK: the table takes *count ints there.
+ * CEF_SCRATCH_TOO_SHORT: scratch_len < CEF_SCRATCH_INTS, or < src_len.
+ * CEF_INPUT_TOO_LONG: src_len > CEF_INPUT_MOST.
+ * CEF_UNEXPECTED_END, CEF_INT_OUT_OF_RANGE, CEF_OFFSETS_UNPACKING,
+ * CEF_INVALID_OFFSET, CEF_ITEMS_UNPACKING, CEF_DUPLICATE_KEY,
+ * CEF_TOO_MANY_ITEMS, CEF_TOO_LONG_SNAP: no table.
+ * CEF_CAPACITY_ERROR: the table does not fit.
+ * A refused call leaves `out` and *count.
+ *
+ * `scratch` is zeros afterwards, refused or not. `warnings`: all counts up to
+ * the refusal are set.
+ */
+uint32_t cef_table_read(const uint8_t *src, size_t src_len, int32_t *out,
+                        size_t out_len, int32_t *scratch, size_t scratch_len,
+                        size_t *count, size_t warnings[CEF_WARNINGS]);
+
+/*
+ * Reads the table that the `src_len` ints at `src` hold, their items in any
+ * order, into the front of the `out_len` ints at `out`. Answers as
+ * cef_table_read does, but for CEF_SCRATCH_TOO_SHORT.
+ */
+uint32_t cef_table_read_from_ints(const int32_t *src, size_t src_len,
+                                  int32_t *out, size_t out_len, size_t *count,
+                                  size_t warnings[CEF_WARNINGS]);
+
+/*
+ * Packs a table into the front of the `out_len` bytes at `out`.
+ *
+ * CEF_OK: *count bytes are written.
+ * CEF_NOT_IN_FORM, CEF_CAPACITY_ERROR: `out` and *count are left.
+ */
+uint32_t cef_table_write(const int32_t *area, size_t area_len, uint8_t *out,
+                         size_t out_len, size_t *count);
+
+/*
+ * Writes a table to the front of the `out_len` ints at `out`.
+ *
+ * CEF_OK: *count ints are written.
+ * CEF_NOT_IN_FORM, CEF_CAPACITY_ERROR: `out` and *count are left.
+ */
+uint32_t cef_table_write_to_ints(const int32_t *area, size_t area_len,
+                                 int32_t *out, size_t out_len, size_t *count);
+
+/*
+ * CEF_OK: *count is how many items the table has.
+ * CEF_NOT_IN_FORM: *count is left.
+ */
+uint32_t cef_table_num_items(const int32_t *area, size_t area_len,
+                             size_t *count);
+
+/*
+ * CEF_OK: *has is 1 where the table has an item of this type and id, else 0.
+ * CEF_NOT_IN_FORM: *has is left.
+ */
+uint32_t cef_table_has_item(const int32_t *area, size_t area_len,
+                            uint16_t raw_type_id, uint16_t id, uint32_t *has);
+
+/*
+ * Copies the data of the item of this type and id to the front of the
+ * `out_len` ints at `out`.
+ *
+ * CEF_OK: *count ints are written. They are none where there is no such item,
+ * where it has no data, and where the area holds no table:
+ * cef_table_has_item tells these apart.
+ * CEF_CAPACITY_ERROR: `out` and *count are left.
+ */
+uint32_t cef_table_item(const int32_t *area, size_t area_len,
+                        uint16_t raw_type_id, uint16_t id, int32_t *out,
+                        size_t out_len, size_t *count);
+
+/*
+ * CEF_OK: *crc is the sum of all data ints, modulo 2^32.
+ * CEF_NOT_IN_FORM: *crc is left.
+ */
+uint32_t cef_table_crc(const int32_t *area, size_t area_len, int32_t *crc);
+
+/*
+ * Walks a table in the order of keys read as signed.
+ *
+ * CEF_OK: *end is 0 and *key the key of item `i` of the walk, or *end is 1
+ * and *key left where the table has no more than `i` items.
+ * CEF_NOT_IN_FORM: *key and *end are left.
+ */
+uint32_t cef_table_walk_key(const int32_t *area, size_t area_len, size_t i,
+                            int32_t *key, uint32_t *end);
+
+/*
+ * Copies the data of item `i` of that walk to the front of the `out_len` ints
+ * at `out`.
+ *
+ * CEF_OK: *count ints are written. They are none past the end, where the item
+ * has no data, and where the area holds no table: cef_table_walk_key tells
+ * these apart.
+ * CEF_CAPACITY_ERROR: `out` and *count are left.
+ */
+uint32_t cef_table_walk_item(const int32_t *area, size_t area_len, size_t i,
+                             int32_t *out, size_t out_len, size_t *count);
+
+/*
+ * Adds an item with the `values_len` ints at `values` to the table in `area`.
+ *
+ * CEF_OK: the table now takes *count ints.
+ * CEF_NOT_IN_FORM, CEF_DUPLICATE_KEY, CEF_TOO_MANY_ITEMS, CEF_TOO_LONG_SNAP,
+ * CEF_CAPACITY_ERROR, judged in this order: `area` and *count are left.
+ */
+uint32_t cef_table_add_item(int32_t *area, size_t area_len,
+                            uint16_t raw_type_id, uint16_t id,
+                            const int32_t *values, size_t values_len,
+                            size_t *count);
+
 #ifdef __cplusplus
 }
 #endif

@@ -1,9 +1,12 @@
 -- An outcome as C sees it: a number, outputs behind pointers, the counts in a row. Assumes nothing.
 use mathlib.Core.List.{List, [], _∷_}
 use mathlib.Core.Bool.{Bool, cond}
+use mathlib.Core.Option.{Option, some, none}
 use Prim.Native.Nat.{ℕ}
 use Rattle.definitions.specs.Warnings.{Counts}
-use Rattle.definitions.specs.Outcome.{Outcome, ok, err}
+use lib.IntN.{ℤ}
+use Rattle.definitions.specs.Stored.{stored}
+use Rattle.definitions.specs.Outcome.{Outcome, ok, err, return, Wrote}
 
 -- the 13 counts in their order
 abbrev pub row : Counts → List ℕ
@@ -42,3 +45,17 @@ module _ {A : Type 0} where
   abbrev pub output : {B : Type 0} → (A → B) → B → Outcome A → B
   output f before (ok a w) = f a
   output f before (err n w) = before
+
+-- a part of an area laid over the front of another
+unfoldable pub partInto : List ℤ → List ℤ → Wrote ℕ ℤ
+partInto part out = stored out (return part)
+
+-- the key of a walk, or what stood there at its end
+abbrev pub keyOr : ℤ → Option ℤ → ℤ
+keyOr before (some k) = k
+keyOr before none = before
+
+-- 1 at the end of a walk, else 0
+abbrev pub ended : Option ℤ → ℕ
+ended (some k) = 0
+ended none = 1

@@ -10,6 +10,8 @@ use packer::IntRead;
 use packer::IntWrite;
 use packer::IntsRead;
 
+pub mod tables;
+
 // The 13 counts in their order.
 fn row(w: Warnings) -> [usize; 13]
     ensures { λ r. ⌜ r ≡ Boundary.row (counts w) ⌝ }

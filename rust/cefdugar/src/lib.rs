@@ -6,6 +6,7 @@
 
 pub mod plain;
 mod sys;
+pub mod table;
 
 use std::fmt;
 

@@ -46,3 +46,160 @@ pub fn unpack(
         )
     }
 }
+
+/// Writes the empty table to the front of `out`. Refused (40): `out` and
+/// `count` are left.
+pub fn table_empty(out: &mut [i32], count: &mut usize) -> u32 {
+    unsafe { sys::cef_table_empty(out.as_mut_ptr(), out.len(), count) }
+}
+
+/// Reads a packed table into the front of `out`. Refused: `out` and `count`
+/// are left. `warnings` is always set, and `scratch` always zeros.
+pub fn table_read(
+    src: &[u8],
+    out: &mut [i32],
+    scratch: &mut [i32],
+    count: &mut usize,
+    warnings: &mut Warnings,
+) -> u32 {
+    unsafe {
+        sys::cef_table_read(
+            src.as_ptr(),
+            src.len(),
+            out.as_mut_ptr(),
+            out.len(),
+            scratch.as_mut_ptr(),
+            scratch.len(),
+            count,
+            &mut warnings.0,
+        )
+    }
+}
+
+/// Reads a table of ints into the front of `out`. Refused: `out` and `count`
+/// are left. `warnings` is always set.
+pub fn table_read_from_ints(
+    src: &[i32],
+    out: &mut [i32],
+    count: &mut usize,
+    warnings: &mut Warnings,
+) -> u32 {
+    unsafe {
+        sys::cef_table_read_from_ints(
+            src.as_ptr(),
+            src.len(),
+            out.as_mut_ptr(),
+            out.len(),
+            count,
+            &mut warnings.0,
+        )
+    }
+}
+
+/// Packs a table into the front of `out`. Refused (47, 40): `out` and `count`
+/// are left.
+pub fn table_write(area: &[i32], out: &mut [u8], count: &mut usize) -> u32 {
+    unsafe {
+        sys::cef_table_write(
+            area.as_ptr(),
+            area.len(),
+            out.as_mut_ptr(),
+            out.len(),
+            count,
+        )
+    }
+}
+
+/// Writes a table to the front of `out`. Refused (47, 40): `out` and `count`
+/// are left.
+pub fn table_write_to_ints(area: &[i32], out: &mut [i32], count: &mut usize) -> u32 {
+    unsafe {
+        sys::cef_table_write_to_ints(
+            area.as_ptr(),
+            area.len(),
+            out.as_mut_ptr(),
+            out.len(),
+            count,
+        )
+    }
+}
+
+/// How many items a table has. Refused (47): `count` is left.
+pub fn table_num_items(area: &[i32], count: &mut usize) -> u32 {
+    unsafe { sys::cef_table_num_items(area.as_ptr(), area.len(), count) }
+}
+
+/// Whether a table has an item: 1 or 0. Refused (47): `has` is left.
+pub fn table_has_item(area: &[i32], raw_type_id: u16, id: u16, has: &mut u32) -> u32 {
+    unsafe { sys::cef_table_has_item(area.as_ptr(), area.len(), raw_type_id, id, has) }
+}
+
+/// Copies an item's data to the front of `out`; none where there is no such
+/// item. Refused (40): `out` and `count` are left.
+pub fn table_item(
+    area: &[i32],
+    raw_type_id: u16,
+    id: u16,
+    out: &mut [i32],
+    count: &mut usize,
+) -> u32 {
+    unsafe {
+        sys::cef_table_item(
+            area.as_ptr(),
+            area.len(),
+            raw_type_id,
+            id,
+            out.as_mut_ptr(),
+            out.len(),
+            count,
+        )
+    }
+}
+
+/// The sum of all data ints. Refused (47): `crc` is left.
+pub fn table_crc(area: &[i32], crc: &mut i32) -> u32 {
+    unsafe { sys::cef_table_crc(area.as_ptr(), area.len(), crc) }
+}
+
+/// The key of item `i` of the walk, or its `end`, which leaves `key`. Refused
+/// (47): `key` and `end` are left.
+pub fn table_walk_key(area: &[i32], i: usize, key: &mut i32, end: &mut u32) -> u32 {
+    unsafe { sys::cef_table_walk_key(area.as_ptr(), area.len(), i, key, end) }
+}
+
+/// Copies the data of item `i` of the walk to the front of `out`; none past
+/// the end. Refused (40): `out` and `count` are left.
+pub fn table_walk_item(area: &[i32], i: usize, out: &mut [i32], count: &mut usize) -> u32 {
+    unsafe {
+        sys::cef_table_walk_item(
+            area.as_ptr(),
+            area.len(),
+            i,
+            out.as_mut_ptr(),
+            out.len(),
+            count,
+        )
+    }
+}
+
+/// Adds an item to the table in `area`. Refused (47, 14, 9, 8, 40): `area` and
+/// `count` are left.
+pub fn table_add_item(
+    area: &mut [i32],
+    raw_type_id: u16,
+    id: u16,
+    values: &[i32],
+    count: &mut usize,
+) -> u32 {
+    unsafe {
+        sys::cef_table_add_item(
+            area.as_mut_ptr(),
+            area.len(),
+            raw_type_id,
+            id,
+            values.as_ptr(),
+            values.len(),
+            count,
+        )
+    }
+}

@@ -27,4 +27,79 @@ extern "C" {
         cut: *mut u32,
         warnings: *mut [usize; WARNINGS],
     ) -> u32;
+    pub fn cef_table_empty(out: *mut i32, out_len: usize, count: *mut usize) -> u32;
+    pub fn cef_table_read(
+        src: *const u8,
+        src_len: usize,
+        out: *mut i32,
+        out_len: usize,
+        scratch: *mut i32,
+        scratch_len: usize,
+        count: *mut usize,
+        warnings: *mut [usize; WARNINGS],
+    ) -> u32;
+    pub fn cef_table_read_from_ints(
+        src: *const i32,
+        src_len: usize,
+        out: *mut i32,
+        out_len: usize,
+        count: *mut usize,
+        warnings: *mut [usize; WARNINGS],
+    ) -> u32;
+    pub fn cef_table_write(
+        area: *const i32,
+        area_len: usize,
+        out: *mut u8,
+        out_len: usize,
+        count: *mut usize,
+    ) -> u32;
+    pub fn cef_table_write_to_ints(
+        area: *const i32,
+        area_len: usize,
+        out: *mut i32,
+        out_len: usize,
+        count: *mut usize,
+    ) -> u32;
+    pub fn cef_table_num_items(area: *const i32, area_len: usize, count: *mut usize) -> u32;
+    pub fn cef_table_has_item(
+        area: *const i32,
+        area_len: usize,
+        raw_type_id: u16,
+        id: u16,
+        has: *mut u32,
+    ) -> u32;
+    pub fn cef_table_item(
+        area: *const i32,
+        area_len: usize,
+        raw_type_id: u16,
+        id: u16,
+        out: *mut i32,
+        out_len: usize,
+        count: *mut usize,
+    ) -> u32;
+    pub fn cef_table_crc(area: *const i32, area_len: usize, crc: *mut i32) -> u32;
+    pub fn cef_table_walk_key(
+        area: *const i32,
+        area_len: usize,
+        i: usize,
+        key: *mut i32,
+        end: *mut u32,
+    ) -> u32;
+    pub fn cef_table_walk_item(
+        area: *const i32,
+        area_len: usize,
+        i: usize,
+        out: *mut i32,
+        out_len: usize,
+        count: *mut usize,
+    ) -> u32;
+    pub fn cef_table_add_item(
+        area: *mut i32,
+        area_len: usize,
+        raw_type_id: u16,
+        id: u16,
+        values: *const i32,
+        values_len: usize,
+        count: *mut usize,
+    ) -> u32;
 }

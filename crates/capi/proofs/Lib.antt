@@ -1,0 +1,2 @@
+-- Facts that the proofs of `capi` share. Assumes nothing.
+pub mod Outcomes
