@@ -156,11 +156,214 @@ static void check_unpack(void)
     CHECK(count == 0 && cut == 0 && counted(warnings, 0, 0));
 }
 
+/* Whether the ints from `from` on are as they were. */
+static int ints_left(const int32_t *ints, size_t from, size_t len)
+{
+    int right = 1;
+    for (size_t i = from; i < len; i++)
+        right = right && ints[i] == LEFT;
+    return right;
+}
+
+static void fill_ints(int32_t *ints, size_t len)
+{
+    for (size_t i = 0; i < len; i++)
+        ints[i] = LEFT;
+}
+
+/* Whether all counts are 0, but for this one of ExcessSnapData. */
+static int excess(const size_t warnings[CEF_WARNINGS], size_t count)
+{
+    int right = 1;
+    for (int i = 0; i < CEF_WARNINGS; i++)
+        right = right && warnings[i] == (i == CEF_WARN_EXCESS_SNAP_DATA ? count : 0);
+    return right;
+}
+
+/* Document 01's packed table: one item of type 1 and id 2 that holds 7. */
+static const uint8_t TABLE_BYTES[] = {0x08, 0x01, 0x00, 0x82, 0x80, 0x08, 0x07};
+static const int32_t TABLE_INTS[] = {8, 1, 0, 65538, 7};
+
+static int32_t scratch[CEF_SCRATCH_INTS];
+static int32_t area[CEF_TABLE_INTS + 8];
+static int32_t data[CEF_TABLE_INTS];
+
+static void check_table_read(void)
+{
+    int32_t out[8];
+    size_t count = LEFT;
+    size_t warnings[CEF_WARNINGS];
+
+    fill_ints(out, 8);
+    fill_ints(scratch, CEF_SCRATCH_INTS);
+    fill_warnings(warnings);
+    CHECK(cef_table_read(TABLE_BYTES, 7, out, 8, scratch, CEF_SCRATCH_INTS - 1, &count,
+                         warnings) == CEF_SCRATCH_TOO_SHORT);
+    CHECK(scratch[0] == 0 && scratch[CEF_SCRATCH_INTS - 2] == 0);
+    CHECK(scratch[CEF_SCRATCH_INTS - 1] == LEFT);
+    CHECK(count == LEFT && ints_left(out, 0, 8) && excess(warnings, 0));
+    CHECK(cef_table_read(TABLE_BYTES, 7, out, 4, scratch, CEF_SCRATCH_INTS, &count, warnings) ==
+          CEF_CAPACITY_ERROR);
+    CHECK(cef_table_read(TABLE_BYTES, 6, out, 8, scratch, CEF_SCRATCH_INTS, &count, warnings) ==
+          CEF_ITEMS_UNPACKING);
+    CHECK(cef_table_read(TABLE_BYTES, 0, out, 8, scratch, CEF_SCRATCH_INTS, &count, warnings) ==
+          CEF_UNEXPECTED_END);
+    CHECK(count == LEFT && ints_left(out, 0, 8) && excess(warnings, 0));
+    fill_ints(scratch, CEF_SCRATCH_INTS);
+    CHECK(cef_table_read(TABLE_BYTES, 7, out, 5, scratch, CEF_SCRATCH_INTS, &count, warnings) ==
+          CEF_OK);
+    CHECK(count == 5 && memcmp(out, TABLE_INTS, sizeof TABLE_INTS) == 0);
+    CHECK(ints_left(out, 5, 8) && excess(warnings, 0) && scratch[CEF_SCRATCH_INTS - 1] == 0);
+    /* Bytes that the end cuts off, and ints behind the table. */
+    const uint8_t more[] = {0x00, 0x00, 0x05, 0x80};
+    CHECK(cef_table_read(more, 4, out, 8, scratch, CEF_SCRATCH_INTS, &count, warnings) == CEF_OK);
+    CHECK(count == 2 && out[0] == 0 && out[1] == 0 && out[2] == 0 && excess(warnings, 2));
+
+    fill_ints(out, 8);
+    count = LEFT;
+    const struct {
+        size_t len;
+        int32_t ints[10];
+        uint32_t answer;
+    } refused[] = {
+        {0, {0}, CEF_UNEXPECTED_END},
+        {2, {-4, 0}, CEF_INT_OUT_OF_RANGE},
+        {2, {0, 1}, CEF_OFFSETS_UNPACKING},
+        {3, {4, 0, 9}, CEF_INVALID_OFFSET},
+        {2, {2, 0}, CEF_INVALID_OFFSET},
+        {3, {8, 1, 0}, CEF_ITEMS_UNPACKING},
+        {6, {8, 2, 0, 4, 1, 1}, CEF_DUPLICATE_KEY},
+    };
+    for (size_t i = 0; i < sizeof refused / sizeof refused[0]; i++) {
+        fill_warnings(warnings);
+        CHECK(cef_table_read_from_ints(refused[i].ints, refused[i].len, out, 8, &count,
+                                       warnings) == refused[i].answer);
+        CHECK(count == LEFT && ints_left(out, 0, 8));
+    }
+    CHECK(cef_table_read_from_ints(TABLE_INTS, 5, out, 4, &count, warnings) ==
+          CEF_CAPACITY_ERROR);
+    CHECK(count == LEFT && ints_left(out, 0, 8));
+    /* Two items in the wrong order, and an int behind them. */
+    const int32_t turned[] = {12, 2, 0, 8, -1, 5, 3, 99};
+    const int32_t right[] = {12, 2, 0, 4, 3, -1, 5};
+    CHECK(cef_table_read_from_ints(turned, 8, out, 8, &count, warnings) == CEF_OK);
+    CHECK(count == 7 && memcmp(out, right, sizeof right) == 0 && out[7] == LEFT);
+    CHECK(excess(warnings, 1));
+}
+
+static void check_table_calls(void)
+{
+    /* Keys 3, -1 and the least: signed, the last comes first. */
+    const int32_t table[] = {24, 3, 0, 8, 12, 3, 40, INT32_MIN, -1, 5, INT32_MAX, 12345};
+    const size_t len = 12;
+    const int32_t keys[] = {INT32_MIN, -1, 3};
+    const size_t lens[] = {0, 2, 1};
+    int32_t out[16];
+    uint8_t bytes[64];
+    uint8_t packed[64];
+    size_t count = LEFT;
+    size_t size = 0;
+    uint32_t flag = LEFT;
+    int32_t value = LEFT;
+
+    fill_ints(out, 16);
+    CHECK(cef_table_num_items(table, 10, &count) == CEF_NOT_IN_FORM);
+    CHECK(cef_table_write_to_ints(table, 10, out, 16, &count) == CEF_NOT_IN_FORM);
+    CHECK(cef_table_write(table, 10, bytes, 64, &count) == CEF_NOT_IN_FORM);
+    CHECK(cef_table_has_item(table, 10, 0, 3, &flag) == CEF_NOT_IN_FORM);
+    CHECK(cef_table_crc(table, 10, &value) == CEF_NOT_IN_FORM);
+    CHECK(cef_table_walk_key(table, 10, 0, &value, &flag) == CEF_NOT_IN_FORM);
+    CHECK(cef_table_write_to_ints(table, len, out, 10, &count) == CEF_CAPACITY_ERROR);
+    CHECK(count == LEFT && flag == LEFT && value == LEFT && ints_left(out, 0, 16));
+    CHECK(cef_table_item(table, 10, 0, 3, out, 16, &count) == CEF_OK && count == 0);
+    CHECK(cef_table_walk_item(table, 10, 0, out, 16, &count) == CEF_OK && count == 0);
+
+    CHECK(cef_table_num_items(table, len, &count) == CEF_OK && count == 3);
+    CHECK(cef_table_write_to_ints(table, len, out, 11, &count) == CEF_OK && count == 11);
+    CHECK(memcmp(out, table, 11 * sizeof table[0]) == 0 && ints_left(out, 11, 16));
+    for (size_t i = 0; i < 11; i++)
+        CHECK(cef_write_int(packed, sizeof packed, size, table[i], &size) == CEF_OK);
+    count = LEFT;
+    CHECK(cef_table_write(table, len, bytes, size - 1, &count) == CEF_CAPACITY_ERROR);
+    CHECK(count == LEFT);
+    CHECK(cef_table_write(table, len, bytes, size, &count) == CEF_OK && count == size);
+    CHECK(memcmp(bytes, packed, size) == 0);
+    CHECK(cef_table_crc(table, len, &value) == CEF_OK);
+    CHECK(value == INT32_MIN + 44);
+
+    for (size_t i = 0; i < 3; i++) {
+        fill_ints(out, 16);
+        CHECK(cef_table_walk_key(table, len, i, &value, &flag) == CEF_OK);
+        CHECK(value == keys[i] && flag == 0);
+        CHECK(cef_table_walk_item(table, len, i, out, 16, &count) == CEF_OK);
+        CHECK(count == lens[i] && ints_left(out, lens[i], 16));
+        const uint32_t key = (uint32_t)keys[i];
+        CHECK(cef_table_has_item(table, len, (uint16_t)(key >> 16), (uint16_t)key, &flag) ==
+              CEF_OK);
+        CHECK(flag == 1);
+        int32_t same[2];
+        CHECK(cef_table_item(table, len, (uint16_t)(key >> 16), (uint16_t)key, same, 2, &count) ==
+              CEF_OK);
+        CHECK(count == lens[i] && memcmp(same, out, count * sizeof same[0]) == 0);
+    }
+    value = LEFT;
+    CHECK(cef_table_walk_key(table, len, 3, &value, &flag) == CEF_OK && flag == 1);
+    CHECK(cef_table_walk_key(table, len, SIZE_MAX, &value, &flag) == CEF_OK && flag == 1);
+    CHECK(value == LEFT);
+    CHECK(cef_table_has_item(table, len, 0, 4, &flag) == CEF_OK && flag == 0);
+    CHECK(cef_table_item(table, len, 0, 4, out, 0, &count) == CEF_OK && count == 0);
+    count = LEFT;
+    CHECK(cef_table_item(table, len, 0xffff, 0xffff, out, 1, &count) == CEF_CAPACITY_ERROR);
+    CHECK(cef_table_walk_item(table, len, 1, out, 1, &count) == CEF_CAPACITY_ERROR);
+    CHECK(count == LEFT);
+}
+
+static void check_table_add(void)
+{
+    size_t count = LEFT;
+    const size_t len = CEF_TABLE_INTS + 8;
+
+    fill_ints(area, len);
+    CHECK(cef_table_add_item(area, len, 1, 2, data, 0, &count) == CEF_NOT_IN_FORM);
+    CHECK(cef_table_empty(area, 1, &count) == CEF_CAPACITY_ERROR);
+    CHECK(count == LEFT && ints_left(area, 0, len));
+    CHECK(cef_table_empty(area, len, &count) == CEF_OK && count == 2);
+    CHECK(area[0] == 0 && area[1] == 0 && ints_left(area, 2, len));
+
+    const int32_t seven = 7;
+    count = LEFT;
+    CHECK(cef_table_add_item(area, 4, 1, 2, &seven, 1, &count) == CEF_CAPACITY_ERROR);
+    CHECK(count == LEFT && area[1] == 0 && ints_left(area, 2, len));
+    CHECK(cef_table_add_item(area, 5, 1, 2, &seven, 1, &count) == CEF_OK && count == 5);
+    CHECK(memcmp(area, TABLE_INTS, sizeof TABLE_INTS) == 0 && ints_left(area, 5, len));
+    count = LEFT;
+    CHECK(cef_table_add_item(area, len, 1, 2, &seven, 1, &count) == CEF_DUPLICATE_KEY);
+    CHECK(count == LEFT && memcmp(area, TABLE_INTS, sizeof TABLE_INTS) == 0);
+
+    /* 1,024 items fit, 1,025 do not. */
+    CHECK(cef_table_empty(area, len, &count) == CEF_OK);
+    for (uint16_t id = 0; id < CEF_TABLE_ITEMS; id++)
+        CHECK(cef_table_add_item(area, len, 0x8000, id, data, 0, &count) == CEF_OK);
+    CHECK(count == 2 + 2 * CEF_TABLE_ITEMS);
+    CHECK(cef_table_add_item(area, len, 3, 3, data, 0, &count) == CEF_TOO_MANY_ITEMS);
+    CHECK(cef_table_add_item(area, len, 0x8000, 3, data, 0, &count) == CEF_DUPLICATE_KEY);
+
+    /* One item holds 16,380 ints, not 16,381. */
+    CHECK(cef_table_empty(area, len, &count) == CEF_OK);
+    CHECK(cef_table_add_item(area, len, 3, 3, data, 16381, &count) == CEF_TOO_LONG_SNAP);
+    CHECK(count == 2);
+    CHECK(cef_table_add_item(area, len, 3, 3, data, 16380, &count) == CEF_OK);
+    CHECK(count == CEF_TABLE_INTS);
+}
+
 int main(void)
 {
     check_read();
     check_write();
     check_unpack();
+    check_table_read();
+    check_table_calls();
+    check_table_add();
     printf("C program: %d checks, %d not so\n", checks, failures);
     return failures == 0 ? 0 : 1;
 }

@@ -6,6 +6,7 @@
 
 mod examples;
 mod packer;
+mod tables;
 
 use crate::core::bench::Table;
 use crate::core::random::Random;
@@ -36,5 +37,5 @@ pub struct Part {
 }
 
 pub fn all() -> Vec<Part> {
-    vec![examples::part(), packer::part()]
+    vec![examples::part(), packer::part(), tables::part()]
 }

@@ -16,7 +16,9 @@ use crate::core::report::Length;
 use crate::core::report::Run;
 use calls::Calls;
 
+pub use inputs::numbered;
 pub use inputs::MARKED;
+pub use oracle::packed;
 
 pub fn part() -> Part {
     Part {
