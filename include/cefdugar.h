@@ -146,8 +146,9 @@ uint32_t cef_unpack(const uint8_t *src, size_t src_len, int32_t *out,
  * item count, byte offsets, then key and data for each item, in the order of
  * keys read as unsigned. An item's key is its type times 65,536 and its id.
  * A table begins at the area's first int; the ints behind it are not judged
- * and are left. A call on an area that holds no table answers
- * CEF_NOT_IN_FORM and leaves everything that it is lent.
+ * and are left. CEF_NOT_IN_FORM means that an area holds no table;
+ * everything that was lent is then left. Only cef_table_item and
+ * cef_table_walk_item give no ints in its place.
  *
  * CEF_CAPACITY_ERROR means that a result does not fit into the area lent for
  * it, and nothing else is wrong. *count is then left as well.

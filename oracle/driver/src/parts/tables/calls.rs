@@ -1,5 +1,6 @@
 //! Each call on both sides: what was answered, what was set, what was left.
 
+use super::inputs::List;
 use super::oracle;
 use super::oracle::parts;
 use crate::core::area::Area;
@@ -116,12 +117,12 @@ impl Calls {
         let compared = self.compare_read_ints(src, spare);
         run.case(
             compared,
-            || (src.to_vec(), spare),
-            |(src, spare)| self.compare_read_ints(src, *spare),
+            || (List(src.to_vec()), spare),
+            |(src, spare)| self.compare_read_ints(&src.0, *spare),
             |(src, spare)| {
                 format!(
                     "read_from_ints of {}, room to spare: {spare}",
-                    ints_short(src)
+                    ints_short(&src.0)
                 )
             },
         )
@@ -152,9 +153,9 @@ impl Calls {
         let compared = self.compare_area(area);
         run.case(
             compared,
-            || area.to_vec(),
-            |area| self.compare_area(area),
-            |area| format!("the area {}", ints_short(area)),
+            || List(area.to_vec()),
+            |area| self.compare_area(&area.0),
+            |area| format!("the area {}", ints_short(&area.0)),
         )
     }
 
@@ -172,11 +173,11 @@ impl Calls {
         }
         run.case(
             compared,
-            || (area.to_vec(), key, data.to_vec()),
-            |(area, key, data)| self.compare_add(area, *key, data),
+            || (List(area.to_vec()), key, data.to_vec()),
+            |(area, key, data)| self.compare_add(&area.0, *key, data),
             |(area, key, data)| {
                 let (raw_type_id, id) = parts(*key);
-                let (area, data) = (ints_short(area), ints_short(data));
+                let (area, data) = (ints_short(&area.0), ints_short(data));
                 format!("add_item of {raw_type_id} {id} {data} to {area}")
             },
         )

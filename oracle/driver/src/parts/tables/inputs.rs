@@ -3,6 +3,7 @@
 use super::oracle::Item;
 use crate::core::damage::Entry;
 use crate::core::random::Random;
+use crate::core::shrink::Shrink;
 
 /// Ints that make each branch of reading, for short lists.
 pub const TELLING: [i32; 7] = [0, 1, 2, 4, 8, -1, 65_536];
@@ -76,4 +77,40 @@ pub fn misread(ints: &mut [i32], items: &[Item], random: &mut Random) {
     }
     let (from, to) = (random.pick(&places), random.pick(&places));
     ints[to] = ints[from];
+}
+
+/// Ints that are made smaller item by item where they are a table's.
+#[derive(Clone)]
+pub struct List(pub Vec<i32>);
+
+/// The items of a table's ints, in their order, and the ints behind it.
+fn taken_apart(ints: &[i32]) -> Option<(Vec<Item>, Vec<i32>)> {
+    let size = usize::try_from(*ints.first()?).ok()? / 4;
+    let count = usize::try_from(*ints.get(1)?).ok()?;
+    let (offsets, rest) = ints[2..].split_at_checked(count)?;
+    let (body, rest) = rest.split_at_checked(size)?;
+    let mut places = vec![];
+    for &offset in offsets {
+        places.push(usize::try_from(offset).ok()? / 4);
+    }
+    places.push(size);
+    let mut items = vec![];
+    for ends in places.windows(2) {
+        let (key, data) = body.get(ends[0]..ends[1])?.split_first()?;
+        items.push((*key, data.to_vec()));
+    }
+    Some((items, rest.to_vec()))
+}
+
+impl Shrink for List {
+    fn offer(&self, take: &mut dyn FnMut(List) -> bool) -> bool {
+        let by_item = taken_apart(&self.0).is_some_and(|table| {
+            table.offer(&mut |(items, rest)| {
+                let mut ints = listed(&items);
+                ints.extend(rest);
+                take(List(ints))
+            })
+        });
+        by_item || self.0.offer(&mut |ints| take(List(ints)))
+    }
 }

@@ -232,6 +232,12 @@ fn lengths(run: &mut Run, calls: &mut Calls) -> Result {
             }
         }
     }
+    // The lengths of areas and of data are not judged.
+    let mut area = vec![0; MOST + 1];
+    for (key, len) in [(-1, 3), (7, 0), (i32::MIN, 2), (1, MOST + 1), (2, 16_370)] {
+        calls.add(run, &mut area, key, &vec![key; len])?;
+    }
+    calls.area(run, &area)?;
     let good = packed(&inputs::listed(&[(1, vec![2, 3])]));
     for scratch in [0, 1, 16_383, 16_384, 16_385] {
         for spare in [0, -1] {
