@@ -54,24 +54,29 @@ fn read(rows: &mut Table, size: usize) {
     assert!(oracle::written(&snap) == ints && out[..ints.len()] == ints);
 }
 
-fn read_ints(rows: &mut Table, size: usize) {
-    let (ints, _) = tables(size);
+/// The ints of a table in some order, read into the written one.
+fn race_read_ints(rows: &mut Table, name: &str, size: usize, ints: &[i32], written: &[i32]) {
     let mut snap = RawSnap::empty();
     let mut out = vec![0; table::INTS];
     rows.race(
-        "read_from_ints, items of 4 ints",
+        name,
         size,
         &mut || {
             let mut tally = Tally::default();
-            let said = snap.read_from_ints(&mut tally, black_box(&ints));
+            let said = snap.read_from_ints(&mut tally, black_box(ints));
             let _ = black_box((said, tally.0, &snap));
         },
         &mut || {
-            let said = table::read_from_ints(black_box(&ints), &mut out);
+            let said = table::read_from_ints(black_box(ints), &mut out);
             let _ = black_box((said, &out));
         },
     );
-    assert!(oracle::written(&snap) == ints && out[..ints.len()] == ints);
+    assert!(oracle::written(&snap) == written && out[..written.len()] == *written);
+}
+
+fn read_ints(rows: &mut Table, size: usize) {
+    let (ints, _) = tables(size);
+    race_read_ints(rows, "read_from_ints, items of 4 ints", size, &ints, &ints);
 }
 
 /// The items come in the order of their keys turned round.
@@ -80,22 +85,8 @@ fn read_turned(rows: &mut Table, size: usize) {
     let mut items = sorted(&inputs::many(size, 4 * size));
     items.reverse();
     let ints = inputs::listed(&items);
-    let mut snap = RawSnap::empty();
-    let mut out = vec![0; table::INTS];
-    rows.race(
-        "read_from_ints, items of 4 ints turned round",
-        size,
-        &mut || {
-            let mut tally = Tally::default();
-            let said = snap.read_from_ints(&mut tally, black_box(&ints));
-            let _ = black_box((said, tally.0, &snap));
-        },
-        &mut || {
-            let said = table::read_from_ints(black_box(&ints), &mut out);
-            let _ = black_box((said, &out));
-        },
-    );
-    assert!(oracle::written(&snap) == written && out[..written.len()] == written);
+    let name = "read_from_ints, items of 4 ints turned round";
+    race_read_ints(rows, name, size, &ints, &written);
 }
 
 fn write(rows: &mut Table, size: usize) {

@@ -79,6 +79,14 @@ fn room(needed: usize, spare: isize) -> usize {
     (needed as isize).saturating_add(spare).max(0) as usize
 }
 
+/// The written form of the Rust's table; nothing where it refused.
+fn written(said: &Told<RawSnap>) -> Vec<i32> {
+    match said {
+        Told::Value(snap) => oracle::written(snap),
+        _ => vec![],
+    }
+}
+
 fn left(name: &str, how: Result<(), String>) -> Compared {
     how.map_err(|how| Shown::touched(name, how))
 }
@@ -202,10 +210,7 @@ impl Calls {
 
     fn compare_read_ints(&mut self, src: &[i32], spare: isize) -> Compared {
         let (said, warnings) = oracle::read_from_ints(src);
-        let written = match &said {
-            Told::Value(snap) => oracle::written(snap),
-            _ => vec![],
-        };
+        let written = written(&said);
         let room = room(written.len(), spare);
         let mut port = Counted::LEFT;
         let mut port_warnings = LEFT_WARNINGS;
@@ -225,10 +230,7 @@ impl Calls {
 
     fn compare_read(&mut self, src: &[u8], spare: isize, scratch: usize) -> Compared {
         let (said, warnings) = oracle::read(src, scratch);
-        let written = match &said {
-            Told::Value(snap) => oracle::written(snap),
-            _ => vec![],
-        };
+        let written = written(&said);
         let room = room(written.len(), spare);
         let mut port = Counted::LEFT;
         let mut port_warnings = LEFT_WARNINGS;
