@@ -11,3 +11,7 @@ pub mod Stored
 pub mod Tables
 pub mod TableReading
 pub mod TableCalls
+pub mod Deltas
+pub mod DeltaMaking
+pub mod DeltaReading
+pub mod DeltaCalls

@@ -1,9 +1,13 @@
 -- What follows from the definitions alone, and document 01's marked cases. Assumes nothing.
 pub mod Tests
+pub mod ListLaws
 pub mod IntLaws
 pub mod AreaLaws
+pub mod Laying
+pub mod ZipLaws
 pub mod WarningLaws
 pub mod OutcomeLaws
+pub mod StoredLaws
 pub mod PackedLaws
 pub mod Shortest
 pub mod StreamLaws
@@ -14,5 +18,19 @@ pub mod TableRoundTrip
 pub mod TableFind
 pub mod TableHeader
 pub mod TableReadBack
+pub mod TableReadSound
 pub mod TableWalk
+pub mod DeltaShape
+pub mod DeltaRestores
+pub mod DeltaWriting
+pub mod DeltaStream
+pub mod DeltaReadBack
+pub mod DeltaForm
+pub mod DeltaLaws
+pub mod DeltaMakingLaws
+pub mod DeltaSize
+pub mod DeltaSized
+pub mod DeltaKeys
+pub mod DeltaOrdered
+pub mod DeltaMade
 pub mod Cases

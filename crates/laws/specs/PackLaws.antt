@@ -1,6 +1,6 @@
 -- Laws of the packed form of some ints: how long it is, how it is laid, and that it is read back. Assumes nothing.
-use mathlib.Core.Path.{_≡_, refl, ap, _∙_}
-use mathlib.Core.List.{List, [], _∷_, _++_}
+use mathlib.Core.Path.{_≡_, refl, sym, ap, _∙_}
+use mathlib.Core.List.{List, [], _∷_, _++_, append-assoc}
 use mathlib.Core.Bool.{false}
 use Prim.Native.Nat.{ℕ, suc, _+_, _*_, _≤_, _<_}
 use native.Mathlib.Numerals.{add-one}
@@ -46,6 +46,12 @@ unfolding packInts
 length-packInts [] = omega arith
 length-packInts (x ∷ xs) =
     rw (length-append (writeInt x) (packInts xs)) (omega (arith, length-writeInt x, length-packInts xs))
+
+-- one list is packed, and then the other behind it
+pub pack-append : (xs ys : List ℤ) → packInts (xs ++ ys) ≡ packInts xs ++ packInts ys
+unfolding packInts
+pack-append [] ys = refl
+pack-append (x ∷ xs) ys = rw (pack-append xs ys) (sym (append-assoc (writeInt x) (packInts xs) (packInts ys)))
 
 module _ (xs : List ℤ) (i : ℕ) (inside : i < length xs) where
   -- the int at a place, and then those behind it

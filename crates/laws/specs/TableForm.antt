@@ -72,12 +72,12 @@ module _ (a : List ℤ) (h : Shape a) where
 
 -- ---- the list begins with what was read
 
-pos-num : (z : ℤ) → num z < 2 ^ 31 → pos (num z) ≡ z
+pos-num : (z : ℤ) → num z < 2 ^ 32 → pos (num z) ≡ z
 unfolding num
 pos-num (pos n) l = refl
 pos-num (negsuc n) l = absurd (omega arith)
 
-pub pos-nat : (a : List ℤ) (i : ℕ) → nat a i < 2 ^ 31 → pos (nat a i) ≡ getD a i (pos 0)
+pub pos-nat : (a : List ℤ) (i : ℕ) → nat a i < 2 ^ 32 → pos (nat a i) ≡ getD a i (pos 0)
 unfolding nat
 pos-nat a i l = pos-num (getD a i (pos 0)) l
 
@@ -103,7 +103,7 @@ module _ (a : List ℤ) (h : Shape a) where
   offsets-are zero l = refl
   offsets-are (suc k) l =
       let e : 0 + 4 * length (body (list (itemAt a) k)) ≡ nat a (2 + k) = omega (arith, base k (omega arith), edge-nat a k l) in
-      let v : nat a (2 + k) < 2 ^ 31 = omega (arith, edge-nat a k l, edge-within a h k (omega arith), h .short) in
+      let v : nat a (2 + k) < 2 ^ 32 = omega (arith, edge-nat a k l, edge-within a h k (omega arith), h .short) in
       rw (offsets-append, offsets-are k (omega arith), take-suc (drop 2 a) k (pos 0) (simp length-drop (omega (arith, h .room))), getD-drop, e, pos-nat a (2 + k) v)
 
   pub body-is : (k : ℕ) → k ≤ count a → body (list (itemAt a) k) ≡ take (start a k - (2 + count a)) (drop (2 + count a) a)

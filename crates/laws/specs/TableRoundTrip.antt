@@ -17,28 +17,12 @@ use borrow.Author.Tests.{lt-ltb, le-leb, leb-true, ltb-true}
 use Rattle.definitions.specs.Ints.{bits, fromBits}
 use Rattle.laws.specs.IntLaws.{bits-below, bits-back, digits-below}
 use Rattle.definitions.specs.Tables.{Item, Table, body, offsets, written, rising, sound, list, size, count, edge, start, keyAt, valuesAt, itemAt, lowest, inForm, items, tableOf, num, nat}
+use Rattle.laws.specs.ListLaws.{list-cons, list-ext, list-getD}
 use Rattle.laws.specs.TableShape.{Shape, Step, both, shape, shape-in, some-is, edge-end, key-next}
 use Rattle.laws.specs.TableForm.{length-list, body-append, length-offsets, length-written, length-items, length-items-body, length-form, restores, edge-nat}
 
--- ---- lists by index
-
-list-cons : (f : ℕ → Item) (k : ℕ) → list f (suc k) ≡ f 0 ∷ list (λ i. f (suc i)) k
-unfolding list
-list-cons f zero = refl
-list-cons f (suc k) = ap (λ (t : Table). t ++ f (suc k) ∷ []) (list-cons f k)
-
-list-ext : (f g : ℕ → Item) (k : ℕ) → ((i : ℕ) → i < k → f i ≡ g i) → list f k ≡ list g k
-unfolding list
-list-ext f g zero h = refl
-list-ext f g (suc k) h = rw (list-ext f g k (λ i l. h i (omega arith)), h k (omega arith))
-
 abbrev pub noItem : Item
 noItem = record { key = 0; values = [] }
-
-list-getD : (t : Table) → list (λ i. getD t i noItem) (length t) ≡ t
-unfolding list
-list-getD [] = refl
-list-getD (x ∷ t) = list-cons (λ i. getD (x ∷ t) i noItem) (length t) ∙ ap (λ (u : Table). x ∷ u) (list-getD t)
 
 -- ---- what is read is sound
 
@@ -188,7 +172,7 @@ module _ (t : Table) (rest : List ℤ) where
     items-w =
         ap (list (itemAt W)) count-w
         ∙ (list-ext (itemAt W) (λ i. getD t i noItem) (length t) (λ i l. ap₂ (λ (k : ℕ) (v : List ℤ). record { key = k; values = v }) (key-w i l) (vals-w i l))
-        ∙ list-getD t)
+        ∙ list-getD noItem t)
 
     lowest-w : (i : ℕ) → i < length t → lowest W i ≤ keyAt W i
     unfolding lowest lowT

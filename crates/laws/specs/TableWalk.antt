@@ -123,6 +123,18 @@ rises low x t e =
     let q = both _ _ (p .1) in
     record { from = leb-true _ _ (p .0); whole = ltb-true _ _ (q .0); rest = q .1 }
 
+-- the same, from the facts
+pub rise : (low : ℕ) (x : Item) (t : Table) → Rises low x t → rising low (x ∷ t) ≡ true
+unfolding rising
+rise low x t r = rw (le-leb low (x .key) (r .from), lt-ltb (x .key) (2 ^ 32) (r .whole)) (r .rest)
+
+-- keys that rise from a number on rise from each lesser one on
+pub rising-less : (low high : ℕ) (t : Table) → low ≤ high → rising high t ≡ true → rising low t ≡ true
+rising-less low high [] l e = unfold rising in refl
+rising-less low high (x ∷ t) l e =
+    let r = rises high x t e in
+    rise low x t (record { from = omega arith; whole = r .whole; rest = r .rest })
+
 none-low : Low []
 unfolding negatives positives
 none-low = record { negatives-are = refl; positives-are = refl }
@@ -166,7 +178,7 @@ signedRising (x ∷ []) = true
 signedRising (x ∷ y ∷ t) = signedLess (fromBits (x .key)) (fromBits (y .key)) && signedRising (y ∷ t)
 
 -- turned keys that rise, from low on
-abbrev Turning : ℕ → Table → Type 0
+abbrev pub Turning : ℕ → Table → Type 0
 Turning low [] = Unit {0}
 Turning low (x ∷ t) = (low ≤ turned (x .key)) × (x .key < 2 ^ 32) × Turning (suc (turned (x .key))) t
 
@@ -205,10 +217,13 @@ turning-signed low (x ∷ y ∷ t) h =
     rw (less, bits-fromBits (h .1), bits-fromBits (h .2 .1), lt-ltb (turned (x .key)) (turned (y .key)) (h .2 .0))
     (turning-signed (suc (turned (x .key))) (y ∷ t) (h .2))
 
+-- the walk's turned keys rise
+pub walk-turns : (t : Table) → rising 0 t ≡ true → Turning 0 (walk t)
+walk-turns t e = negatives-turn 0 t (positives t) (omega arith) e (positives-turn 0 t e)
+
 -- the walk's keys rise as signed
 pub walk-rises : (t : Table) → rising 0 t ≡ true → signedRising (walk t) ≡ true
-walk-rises t e =
-    turning-signed 0 (walk t) (negatives-turn 0 t (positives t) (omega arith) e (positives-turn 0 t e))
+walk-rises t e = turning-signed 0 (walk t) (walk-turns t e)
 
 -- ---- by place
 
@@ -263,10 +278,10 @@ high-list f (suc k) h =
 
 -- items listed by place, of which the first m have keys below 2^31 and the others have not
 module _ (f : ℕ → Item) (m j : ℕ) (low : (i : ℕ) → i < m → f i .key < 2 ^ 31) (high : (i : ℕ) → i < j → 2 ^ 31 ≤ f (m + i) .key) where
-  abbrev late : ℕ → Item
+  abbrev pub late : ℕ → Item
   late i = f (m + i)
 
-  walk-list : walk (list f (m + j)) ≡ list late j ++ list f m
+  pub walk-list : walk (list f (m + j)) ≡ list late j ++ list f m
   walk-list =
       ap walk (list-add f m j)
       ∙ walk-turned (list f m) (list late j) (low-list f m low) (high-list late j high)

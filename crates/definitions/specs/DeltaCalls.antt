@@ -1,0 +1,92 @@
+-- The calls on delta areas, and on the differences of single items. Assumes nothing.
+use mathlib.Core.Bool.{Bool, true, _&&_}
+use mathlib.Core.List.{List, [], _∷_}
+use mathlib.Core.Option.{Option, some, none}
+use Prim.Native.Nat.{ℕ, _/_}
+use lib.Dec.{leb, eqb}
+use lib.IntN.{ℤ}
+use lib.ListN.{length}
+use Rattle.definitions.specs.Refusals.{capacityError, scratchTooShort, inputTooLong, knownSizeDiffers, notInForm}
+use Rattle.definitions.specs.Outcome.{Outcome, ok, err, return, refuse, require, _>>=_, _>>_, Wrote}
+use Rattle.definitions.specs.Packed.{packInts}
+use Rattle.definitions.specs.Stored.{stored}
+use Rattle.definitions.specs.Stream.{Stream, stream}
+use Rattle.definitions.specs.Tables.{Item}
+use Rattle.definitions.specs.TableCalls.{held}
+use Rattle.definitions.specs.Deltas.{Delta, knownSize, deltaInts, writtenDelta, deltaOf}
+use Rattle.definitions.specs.DeltaMaking.{createDelta, createItemDelta, applyItemDelta}
+use Rattle.definitions.specs.DeltaReading.{DeltaRead, intStream, readDelta}
+
+-- the delta that an area holds, or 47
+abbrev pub orNotInForm : Option Delta → Outcome Delta
+orNotInForm (some d) = return d
+orNotInForm none = refuse notInForm
+
+unfoldable pub heldDelta : List ℤ → Outcome Delta
+heldDelta area = orNotInForm (deltaOf area)
+
+-- a known size is the data's length
+abbrev pub isSize : Option ℕ → ℕ → Bool
+isSize (some m) n = eqb m n
+isSize none n = true
+
+-- the known sizes are those of the updates
+unfoldable pub sizesMatch : List ℤ → List Item → Bool
+sizesMatch sizes [] = true
+sizesMatch sizes (x ∷ l) =
+    isSize (knownSize sizes (x .key / 65536)) (length (x .values)) && sizesMatch sizes l
+
+-- a delta of an area, to be written under known sizes
+unfoldable pub writing : List ℤ → List ℤ → Outcome (List ℤ)
+writing area sizes = do
+  d ← heldDelta area
+  require (sizesMatch sizes (d .updated)) knownSizeDiffers
+  return (deltaInts sizes d)
+
+-- a delta that was read, laid over the front of an area; what was repeated counts towards the room
+unfoldable pub storedDelta : List ℤ → Outcome DeltaRead → Wrote ℕ ℤ
+storedDelta out o =
+    stored out do
+      r ← o
+      require (leb (r .room) (length out)) capacityError
+      return (writtenDelta (r .delta))
+
+-- ---- the calls
+
+abbrev pub clearCall : List ℤ → Wrote ℕ ℤ
+clearCall out = stored out (return (writtenDelta (record { deleted = []; updated = [] })))
+
+abbrev pub createCall : List ℤ → List ℤ → List ℤ → Wrote ℕ ℤ
+createCall base target out =
+    stored out do
+      b ← held base
+      t ← held target
+      d ← createDelta b t
+      return (writtenDelta d)
+
+abbrev pub writeToIntsCall : List ℤ → List ℤ → List ℤ → Wrote ℕ ℤ
+writeToIntsCall area sizes out = stored out (writing area sizes)
+
+abbrev pub writeCall : List ℤ → List ℤ → List ℕ → Wrote ℕ ℕ
+writeCall area sizes out = stored out (writing area sizes >>= λ l. return (packInts l))
+
+-- scratch, of a length, is judged first
+abbrev pub readFromIntsCall : List ℤ → List ℤ → List ℤ → ℕ → Wrote ℕ ℤ
+readFromIntsCall src sizes out scratch =
+    storedDelta out do
+      require (leb 16384 scratch) scratchTooShort
+      require (leb (length src) 1048576) inputTooLong
+      readDelta sizes (intStream src)
+
+abbrev pub readCall : List ℕ → List ℤ → List ℤ → ℕ → Wrote ℕ ℤ
+readCall src sizes out scratch =
+    storedDelta out do
+      require (leb 16384 scratch && leb (length src) scratch) scratchTooShort
+      require (leb (length src) 1048576) inputTooLong
+      readDelta sizes (stream src)
+
+abbrev pub createItemDeltaCall : Option (List ℤ) → List ℤ → List ℤ → Wrote ℕ ℤ
+createItemDeltaCall from to out = stored out (createItemDelta from to)
+
+abbrev pub applyItemDeltaCall : Option (List ℤ) → List ℤ → List ℤ → Wrote ℕ ℤ
+applyItemDeltaCall from delta out = stored out (applyItemDelta from delta)
