@@ -1,3 +1,4 @@
--- What the refusals and the counted warnings of the code mean. Assumes nothing.
+-- What the answers, the refusals and the counted warnings of the code mean. Assumes nothing.
 pub mod Numbers
 pub mod Totals
+pub mod Answers

@@ -1,11 +1,15 @@
 // What the calls share: keys, why a call is refused, and how many warnings of each kind it counted.
 ghost use mathlib.Core.Path.{_≡_};
+ghost use mathlib.Core.Bool.{cond};
+ghost use mathlib.Core.Option as Option;
 ghost use Prim.Native.Nat.{_/_, _%_};
 ghost use Rattle.definitions.specs.Ints.{bits};
 ghost use Rattle.definitions.specs.Warnings.{none};
 ghost use Rattle.definitions.specs.Tables.{keyOf};
+ghost use Rattle.definitions.specs.DeltaCalls.{createItemDeltaCall, applyItemDeltaCall};
 ghost use Rattle.format.specs.Numbers.{number};
 ghost use Rattle.format.specs.Totals.{counts};
+ghost use Rattle.format.specs.Answers.{storedInts};
 
 // Why a call is refused, in the order of document 01's table of causes.
 pub enum Error {
@@ -132,6 +136,18 @@ impl Warnings {
     }
 }
 
+// How many ints were stored at the front of an area, or why none were.
+pub enum Stored {
+    Ints(usize),
+    Refused(Error),
+}
+
+// What a call that reads comes to, with the warnings counted.
+pub struct Reading {
+    pub answer: Stored,
+    pub warnings: Warnings,
+}
+
 // The key of a type and an id.
 pub fn key(raw_type_id: u16, id: u16) -> i32
     ensures { λ r. ⌜ bits r ≡ keyOf «raw_type_id» id ⌝ }
@@ -151,4 +167,44 @@ pub fn key_to_id(key: i32) -> u16
     ensures { λ r. ⌜ r ≡ bits key % 65536 ⌝ }
 {
     (ints::to_bits(key) % 65536) as u16
+}
+
+// The differences of an item's data from the base's, where it has any, into the front of out.
+pub fn create_item_delta(has_from: bool, from: &[i32], to: &[i32], out: &mut [i32]) -> Stored
+    ensures { λ r. ⌜ createItemDeltaCall (cond «has_from» (Option.some (now (from .entry))) Option.none) (now (to .entry)) (now (out .entry)) ≡ record { answer = storedInts r; out = now (out .exit) } ⌝ }
+{
+    if has_from {
+        if from.len() != to.len() {
+            return Stored::Refused(Error::DeltaDifferingSizes);
+        }
+        if out.len() < to.len() {
+            return Stored::Refused(Error::CapacityError);
+        }
+        ints::checked::sub_into(out, 0, to, from);
+        return Stored::Ints(to.len());
+    }
+    if ints::copy_into(out, 0, to) {
+        return Stored::Ints(to.len());
+    }
+    Stored::Refused(Error::CapacityError)
+}
+
+// An item's data from its differences and the base's data, where it has any, into the front of out.
+pub fn apply_item_delta(has_from: bool, from: &[i32], delta: &[i32], out: &mut [i32]) -> Stored
+    ensures { λ r. ⌜ applyItemDeltaCall (cond «has_from» (Option.some (now (from .entry))) Option.none) (now (delta .entry)) (now (out .entry)) ≡ record { answer = storedInts r; out = now (out .exit) } ⌝ }
+{
+    if has_from {
+        if from.len() != delta.len() {
+            return Stored::Refused(Error::DeltaDifferingSizes);
+        }
+        if out.len() < delta.len() {
+            return Stored::Refused(Error::CapacityError);
+        }
+        ints::checked::add_into(out, 0, from, delta);
+        return Stored::Ints(delta.len());
+    }
+    if ints::copy_into(out, 0, delta) {
+        return Stored::Ints(delta.len());
+    }
+    Stored::Refused(Error::CapacityError)
 }

@@ -6,6 +6,8 @@ ghost use Rattle.definitions.specs.Ints as Ints;
 ghost use Rattle.definitions.specs.Areas.{cleared};
 ghost use Rattle.ints.specs.Copies.{copyAt};
 
+pub mod checked;
+
 // The bits of x.
 pub fn to_bits(x: i32) -> u32
     ensures { λ r. ⌜ r ≡ bits x ⌝ }

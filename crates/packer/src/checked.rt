@@ -1,4 +1,9 @@
-// A pass over the packed integers of some bytes.
+// A pass over the packed integers of some bytes, and packing some ints at a place.
+ghost use mathlib.Core.Path.{_≡_};
+ghost use Prim.Native.Nat.{_+_, _≤_};
+ghost use lib.ListN.{length};
+ghost use Rattle.definitions.specs.Areas.{layAt};
+ghost use Rattle.definitions.specs.Packed.{packInts};
 ghost use Rattle.definitions.specs.Stream.{stream};
 ghost use Rattle.packer.specs.Scans.{Scanned};
 use super::IntRead;
@@ -47,4 +52,31 @@ pub fn scan(src: &[u8], out: &mut [i32]) -> Totals
         at = next;
     }
     t
+}
+
+// How many bytes the packed form of xs has.
+pub fn packed_len(xs: &[i32]) -> usize
+    ensures { λ r. ⌜ r ≡ length (packInts (now (xs .entry))) ⌝ }
+{
+    let mut n: usize = 0;
+    let mut i: usize = 0;
+    while i < xs.len() {
+        n += super::written_len(xs[i]);
+        i += 1;
+    }
+    n
+}
+
+// The packed form of all of xs, into out from a place on, where it has room; the place after it.
+pub fn pack_at(xs: &[i32], out: &mut [u8], start: usize) -> usize
+    requires { ⌜ start + length (packInts (now xs)) ≤ length (now out) ⌝ }
+    ensures { λ r. ⌜ (r ≡ start + length (packInts (now (xs .entry)))) × (now (out .exit) ≡ layAt start (packInts (now (xs .entry))) (now (out .entry))) ⌝ }
+{
+    let mut at = start;
+    let mut i: usize = 0;
+    while i < xs.len() {
+        at = super::put_int(out, at, xs[i]);
+        i += 1;
+    }
+    at
 }

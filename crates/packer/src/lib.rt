@@ -7,7 +7,7 @@ ghost use Prim.Native.Nat.{_+_, _/_, _≤_, _<_, _^_};
 ghost use lib.Dec.{leb};
 ghost use lib.ListN.{length};
 ghost use lib.Signed.{mag};
-ghost use Rattle.definitions.specs.Areas.{lay, layAt};
+ghost use Rattle.definitions.specs.Areas.{layAt};
 ghost use Rattle.definitions.specs.Outcome.{return};
 ghost use Rattle.definitions.specs.Packed.{signed, signBit, writeMore, writeInt, packInts};
 ghost use Rattle.definitions.specs.Stored.{stored};
@@ -18,6 +18,7 @@ ghost use Rattle.laws.specs.WarningLaws.{packed};
 ghost use Rattle.format.specs.Totals.{counts};
 ghost use Rattle.packer.specs.Answers.{intRead, intWrite, unpacked};
 ghost use Rattle.packer.specs.Bytes.{moreAt};
+use checked::pack_at;
 use checked::scan;
 use format::Error;
 use format::Warnings;
@@ -290,26 +291,12 @@ fn packs_into(src: &[i32], room: usize) -> bool
     true
 }
 
-// The packed form of all of src, into the front of out, which has room for it; how many bytes.
-fn pack_all(src: &[i32], out: &mut [u8]) -> usize
-    requires { ⌜ length (packInts (now src)) ≤ length (now out) ⌝ }
-    ensures { λ r. ⌜ (r ≡ length (packInts (now (src .entry)))) × (now (out .exit) ≡ lay (packInts (now (src .entry))) (now (out .entry))) ⌝ }
-{
-    let mut at: usize = 0;
-    let mut i: usize = 0;
-    while i < src.len() {
-        at = put_int(out, at, src[i]);
-        i += 1;
-    }
-    at
-}
-
 // The packed form of all of src, into the front of out: how many bytes; where it does not fit, out is left as it was.
 pub fn pack(src: &[i32], out: &mut [u8]) -> IntWrite
     ensures { λ r. ⌜ stored (now (out .entry)) (return (packInts (now (src .entry)))) ≡ record { answer = intWrite r; out = now (out .exit) } ⌝ }
 {
     if packs_into(src, out.len()) {
-        return IntWrite::Next(pack_all(src, out));
+        return IntWrite::Next(pack_at(src, out, 0));
     }
     IntWrite::Refused(Error::CapacityError)
 }

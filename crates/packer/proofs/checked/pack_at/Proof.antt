@@ -1,21 +1,21 @@
--- `packer::pack_all` meets its contract. The loop's invariant: with the rest packed from here on, the area is as it should be.
+-- `checked::pack_at` meets its contract. The loop's invariant: with the rest packed from here on, the area is as it should be.
 -- Assumes nothing.
 use Prim.Native.Nat.{_-_}
 use borrow.Author.Needs.{needs}
 use lib.ListN.{length}
 use mir.Facts.{toZ-ofZ}
-use Rattle.packer.proofs.Packing.{Packing, start, room, turn, done}
-use Rattle.packer.proofs.pack_all.Statement.{statement}
-use Rattle.packer.proofs.pack_all.Tie as tie
+use Rattle.packer.proofs.Packing.{Packing, begin, room, turn, done}
+use Rattle.packer.proofs.checked.pack_at.Statement.{statement}
+use Rattle.packer.proofs.checked.pack_at.Tie as tie
 
 abbrev Inv-loop : tie.InvT-loop
-Inv-loop src out₀ at₀ i₀ out at i = Packing src out₀ out at i
+Inv-loop xs out₀ start at₀ i₀ out at i = Packing xs start out₀ out at i
 
 abbrev μ-loop : tie.MeasureT-loop
-μ-loop src out₀ at₀ i₀ out at i = length src - i
+μ-loop xs out₀ start at₀ i₀ out at i = length xs - i
 
 loop-holds : tie.Need-loop-holds Inv-loop μ-loop
-loop-holds c = let a = c .before .args in start (a .src .now) (a .out .now)
+loop-holds c = let a = c .before .args in begin (a .xs .now) (a .start) (a .out .now)
 
 mul-put-int : tie.Need-mul-put-int Inv-loop μ-loop
 mul-put-int c = search needs
@@ -45,8 +45,8 @@ same-length c = c .before .loop .inv .same
 returns : tie.Need-returns Inv-loop μ-loop
 returns c = done (c .before .loop .inv) (c .loop-test .left)
 
-pub pack-all-spec : {M : Type 1} → statement M
-pack-all-spec =
+pub pack-at-spec : {M : Type 1} → statement M
+pack-at-spec =
     tie.close
     (tie.spec
     Inv-loop

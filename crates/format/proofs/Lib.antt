@@ -1,0 +1,2 @@
+-- Facts that the proofs of `format` share. Assumes nothing.
+pub mod ItemDeltas
