@@ -1,6 +1,6 @@
 -- What each call on a table area comes to, by what was found in the area. Assumes nothing.
 use Prim.Native.Nat.{ℕ, _<_, _≤_}
-use mathlib.Core.Path.{_≡_, sym, _∙_}
+use mathlib.Core.Path.{_≡_, sym, ap, _∙_}
 use mathlib.Core.Bool.{true, false}
 use mathlib.Core.List.{List, [], _∷_}
 use mathlib.Core.Option.{some, none}
@@ -13,13 +13,15 @@ use Rattle.definitions.specs.Refusals.{notInForm, capacityError}
 use Rattle.definitions.specs.Outcome.{return, refuse}
 use Rattle.definitions.specs.Stored.{stored}
 use Rattle.definitions.specs.Tables.{Item, written, body, offsets, tableOf, items, find, walk, crc, valuesAt}
-use Rattle.definitions.specs.TableCalls.{held, nth, emptyCall, numItemsCall, hasItemCall, itemCall, crcCall, walkKeyCall, walkItemCall}
-use Rattle.laws.specs.TableShape.{some-is}
+use Rattle.definitions.specs.TableCalls.{held, nth, emptyCall, numItemsCall, hasItemCall, itemCall, crcCall, walkKeyCall, walkItemCall, storedTable, addItemCall}
+use Rattle.definitions.specs.TableReading.{addItem}
+use Rattle.laws.specs.OutcomeLaws.{return-bind}
+use Rattle.laws.specs.TableShape.{Shape, some-is}
 use Rattle.laws.specs.TableForm.{length-items}
 use Rattle.laws.specs.TableWalk.{nth-past, length-walk}
-use Rattle.raw_snap.specs.Held.{Held, dataIn, formOf}
-use Rattle.raw_snap.specs.declared.checked.TableForm.the-variants as form
-use Rattle.raw_snap.proofs.Forms.{unformed}
+use Rattle.table.specs.Held.{Held, dataIn, formOf}
+use Rattle.table.specs.declared.checked.TableForm.the-variants as form
+use Rattle.table.specs.Forms.{unformed}
 
 -- ---- the empty table
 
@@ -97,3 +99,17 @@ module _ (a : List ℤ) (n : ℕ) (h : Held a n) where
     pub walk-item-end : [] ≡ walkItemCall a i
     unfolding walkItemCall
     walk-item-end = rw (is-held, past)
+
+-- ---- an item that is added
+
+module _ (a : List ℤ) (k : ℕ) (v : List ℤ) where
+  abbrev x : Item
+  x = record { key = k; values = v }
+
+  pub refused-47 : tableOf a ≡ none → addItemCall a x ≡ record { answer = refuse notInForm; out = a }
+  unfolding held stored
+  refused-47 e = rw e
+
+  pub in-form : Shape a → addItemCall a x ≡ storedTable a (addItem x (items a))
+  unfolding held
+  in-form h = rw (some-is a h) (ap (storedTable a) (return-bind (items a) (addItem x)))

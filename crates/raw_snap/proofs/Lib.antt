@@ -1,19 +1,3 @@
 -- Facts that the proofs of `raw_snap` share. Assumes nothing.
-pub mod Nums
-pub mod Forms
-pub mod Moves
-pub mod Picking
-pub mod Indexing
-pub mod Placing
-pub mod Laying
-pub mod Storing
-pub mod Writing
-pub mod Places
 pub mod Calls
 pub mod Counted
-pub mod Turns
-pub mod Inserting
-pub mod Parts
-pub mod Cuts
-pub mod Items
-pub mod Additions

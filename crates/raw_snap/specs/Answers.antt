@@ -1,14 +1,10 @@
 -- What the answers of `raw_snap` mean: document 01's number and values of each case. Assumes nothing.
-use mathlib.Core.Bool.{Bool, true, false, cond}
+use mathlib.Core.Bool.{Bool, true, false}
 use mathlib.Core.Option.{Option, some, none}
 use Prim.Native.Nat.{ℕ}
 use lib.IntN.{ℤ}
-use Rattle.definitions.specs.Warnings as Warnings
-use Rattle.definitions.specs.Warnings.{Counts, ExcessSnapData, one}
-use Rattle.definitions.specs.Outcome.{Outcome, ok, err, return, refuse}
+use Rattle.definitions.specs.Outcome.{Outcome, return, refuse}
 use Rattle.format.specs.Numbers.{number}
-use Rattle.raw_snap.specs.declared.TableWrite.{TableWrite}
-use Rattle.raw_snap.specs.declared.TableWrite.the-variants as write
 use Rattle.raw_snap.specs.declared.Has.{Has}
 use Rattle.raw_snap.specs.declared.Has.the-variants as has
 use Rattle.raw_snap.specs.declared.Count.{Count}
@@ -17,15 +13,6 @@ use Rattle.raw_snap.specs.declared.Checksum.{Checksum}
 use Rattle.raw_snap.specs.declared.Checksum.the-variants as sum
 use Rattle.raw_snap.specs.declared.Walked.{Walked}
 use Rattle.raw_snap.specs.declared.Walked.the-variants as walk
-
-abbrev pub tableWrite : TableWrite → Outcome ℕ
-tableWrite (write.Ints n) = return n
-tableWrite (write.Refused e) = refuse (number e)
-
--- an answer with the counts beside it
-abbrev pub tableRead : TableWrite → Counts → Outcome ℕ
-tableRead (write.Ints n) w = ok n w
-tableRead (write.Refused e) w = err (number e) w
 
 abbrev pub hasItem : Has → Outcome Bool
 hasItem has.Yes = return true
@@ -44,7 +31,3 @@ abbrev pub walked : Walked → Outcome (Option ℤ)
 walked (walk.Key k) = return (some k)
 walked walk.End = return none
 walked (walk.Refused e) = refuse (number e)
-
--- the warning that more ints follow a table
-abbrev pub excess : Bool → Counts
-excess b = cond b (one ExcessSnapData) Warnings.none

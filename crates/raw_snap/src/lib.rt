@@ -6,26 +6,17 @@ ghost use Rattle.definitions.specs.Tables.{keyOf};
 ghost use Rattle.definitions.specs.TableCalls.{emptyCall, readCall, readFromIntsCall, writeToIntsCall, writeCall, numItemsCall, hasItemCall, itemCall, crcCall, walkKeyCall, walkItemCall};
 ghost use Rattle.packer.specs.Answers.{intWrite};
 ghost use Rattle.format.specs.Totals.{counts};
-ghost use Rattle.raw_snap.specs.Answers.{tableWrite, tableRead, itemCount, hasItem, checksum, walked};
-use checked::TableForm;
+ghost use Rattle.format.specs.Answers.{storedInts, storedWith};
+ghost use Rattle.raw_snap.specs.Answers.{itemCount, hasItem, checksum, walked};
 use format::Error;
+use format::Reading;
+use format::Stored;
 use format::Warnings;
 use packer::IntWrite;
+use table::checked::TableForm;
 
 pub mod checked;
 pub mod raw_builder;
-
-// How many ints the table takes that was written, or why none was.
-pub enum TableWrite {
-    Ints(usize),
-    Refused(Error),
-}
-
-// What reading a table comes to, with the warnings counted.
-pub struct TableRead {
-    pub answer: TableWrite,
-    pub warnings: Warnings,
-}
 
 // Whether a table has an item.
 pub enum Has {
@@ -54,22 +45,22 @@ pub enum Walked {
 }
 
 // Writes the empty table.
-pub fn empty(out: &mut [i32]) -> TableWrite
-    ensures { λ r. ⌜ emptyCall (now (out .entry)) ≡ record { answer = tableWrite r; out = now (out .exit) } ⌝ }
+pub fn empty(out: &mut [i32]) -> Stored
+    ensures { λ r. ⌜ emptyCall (now (out .entry)) ≡ record { answer = storedInts r; out = now (out .exit) } ⌝ }
 {
     if out.len() < 2 {
-        return TableWrite::Refused(Error::CapacityError);
+        return Stored::Refused(Error::CapacityError);
     }
     out[0] = 0;
     out[1] = 0;
-    TableWrite::Ints(2)
+    Stored::Ints(2)
 }
 
 // How many items a table has.
 pub fn num_items(area: &[i32]) -> Count
     ensures { λ r. ⌜ numItemsCall (now (area .entry)) ≡ itemCount r ⌝ }
 {
-    let TableForm::Table { items, ints: _ } = checked::form(area) else {
+    let TableForm::Table { items, ints: _ } = table::checked::form(area) else {
         return Count::Refused(Error::NotInForm);
     };
     Count::Items(items)
@@ -79,10 +70,10 @@ pub fn num_items(area: &[i32]) -> Count
 pub fn has_item(area: &[i32], raw_type_id: u16, id: u16) -> Has
     ensures { λ r. ⌜ hasItemCall (now (area .entry)) (keyOf «raw_type_id» id) ≡ hasItem r ⌝ }
 {
-    let TableForm::Table { items, ints: _ } = checked::form(area) else {
+    let TableForm::Table { items, ints: _ } = table::checked::form(area) else {
         return Has::Refused(Error::NotInForm);
     };
-    if checked::find(area, items, format::key(raw_type_id, id)) < items {
+    if table::checked::find(area, items, format::key(raw_type_id, id)) < items {
         return Has::Yes;
     }
     Has::No
@@ -92,12 +83,12 @@ pub fn has_item(area: &[i32], raw_type_id: u16, id: u16) -> Has
 pub fn item(area: &[i32], raw_type_id: u16, id: u16) -> &[i32]
     ensures { λ r. ⌜ now r ≡ itemCall (now (area .entry)) (keyOf «raw_type_id» id) ⌝ }
 {
-    let TableForm::Table { items, ints: _ } = checked::form(area) else {
+    let TableForm::Table { items, ints: _ } = table::checked::form(area) else {
         return &area[..0];
     };
-    let at = checked::find(area, items, format::key(raw_type_id, id));
+    let at = table::checked::find(area, items, format::key(raw_type_id, id));
     if at < items {
-        return checked::data_at(area, items, at);
+        return table::checked::data_at(area, items, at);
     }
     &area[..0]
 }
@@ -106,82 +97,82 @@ pub fn item(area: &[i32], raw_type_id: u16, id: u16) -> &[i32]
 pub fn crc(area: &[i32]) -> Checksum
     ensures { λ r. ⌜ crcCall (now (area .entry)) ≡ checksum r ⌝ }
 {
-    let TableForm::Table { items, ints: _ } = checked::form(area) else {
+    let TableForm::Table { items, ints: _ } = table::checked::form(area) else {
         return Checksum::Refused(Error::NotInForm);
     };
-    Checksum::Sum(checked::crc(area, items))
+    Checksum::Sum(table::checked::crc(area, items))
 }
 
 // The key of the i-th item in the order of keys read as signed.
 pub fn walk_key(area: &[i32], i: usize) -> Walked
     ensures { λ r. ⌜ walkKeyCall (now (area .entry)) i ≡ walked r ⌝ }
 {
-    let TableForm::Table { items, ints: _ } = checked::form(area) else {
+    let TableForm::Table { items, ints: _ } = table::checked::form(area) else {
         return Walked::Refused(Error::NotInForm);
     };
     if items <= i {
         return Walked::End;
     }
-    let at = checked::walk_place(area, items, i);
-    Walked::Key(checked::key_at(area, items, at))
+    let at = table::checked::walk_place(area, items, i);
+    Walked::Key(table::checked::key_at(area, items, at))
 }
 
 // The data of the i-th item in that order, as a part of the area; the empty part past the end.
 pub fn walk_item(area: &[i32], i: usize) -> &[i32]
     ensures { λ r. ⌜ now r ≡ walkItemCall (now (area .entry)) i ⌝ }
 {
-    let TableForm::Table { items, ints: _ } = checked::form(area) else {
+    let TableForm::Table { items, ints: _ } = table::checked::form(area) else {
         return &area[..0];
     };
     if items <= i {
         return &area[..0];
     }
-    let at = checked::walk_place(area, items, i);
-    checked::data_at(area, items, at)
+    let at = table::checked::walk_place(area, items, i);
+    table::checked::data_at(area, items, at)
 }
 
 // A table of ints, into the front of out: how many ints it takes there. A refused call leaves out as it was.
-pub fn read_from_ints(src: &[i32], out: &mut [i32]) -> TableRead
-    ensures { λ r. ⌜ readFromIntsCall (now (src .entry)) (now (out .entry)) ≡ record { answer = tableRead (r .answer) (counts (r .warnings)); out = now (out .exit) } ⌝ }
+pub fn read_from_ints(src: &[i32], out: &mut [i32]) -> Reading
+    ensures { λ r. ⌜ readFromIntsCall (now (src .entry)) (now (out .entry)) ≡ record { answer = storedWith (r .answer) (counts (r .warnings)); out = now (out .exit) } ⌝ }
 {
     if 1048576 < src.len() {
-        return checked::reading::refused(Error::InputTooLong);
+        return checked::refused(Error::InputTooLong);
     }
-    let read = checked::reading::read_table(src, out);
+    let read = table_reading::checked::read_table(src, out);
     let answer = read.answer;
-    TableRead {
+    Reading {
         answer,
-        warnings: checked::reading::warnings(0, 0, false, read.excess),
+        warnings: checked::warnings(0, 0, false, read.excess),
     }
 }
 
 // A packed table, into the front of out. Scratch has 16,384 entries or more, and one for each byte; it is zeros afterwards.
-pub fn read(src: &[u8], out: &mut [i32], scratch: &mut [i32]) -> TableRead
-    ensures { λ r. ⌜ (readCall (now (src .entry)) (now (out .entry)) (length (now (scratch .entry))) ≡ record { answer = tableRead (r .answer) (counts (r .warnings)); out = now (out .exit) }) × (now (scratch .exit) ≡ cleared (now (scratch .entry))) ⌝ }
+pub fn read(src: &[u8], out: &mut [i32], scratch: &mut [i32]) -> Reading
+    ensures { λ r. ⌜ (readCall (now (src .entry)) (now (out .entry)) (length (now (scratch .entry))) ≡ record { answer = storedWith (r .answer) (counts (r .warnings)); out = now (out .exit) }) × (now (scratch .exit) ≡ cleared (now (scratch .entry))) ⌝ }
 {
-    let read = checked::reading::read_packed(src, out, scratch);
+    let read = checked::read_packed(src, out, scratch);
     ints::clear(scratch);
     read
 }
 
 // A table's written form, into the front of out: how many ints; where it does not fit, out is left as it was.
-pub fn write_to_ints(area: &[i32], out: &mut [i32]) -> TableWrite
-    ensures { λ r. ⌜ writeToIntsCall (now (area .entry)) (now (out .entry)) ≡ record { answer = tableWrite r; out = now (out .exit) } ⌝ }
+pub fn write_to_ints(area: &[i32], out: &mut [i32]) -> Stored
+    ensures { λ r. ⌜ writeToIntsCall (now (area .entry)) (now (out .entry)) ≡ record { answer = storedInts r; out = now (out .exit) } ⌝ }
 {
-    let TableForm::Table { items: _, ints: n } = checked::form(area) else {
-        return TableWrite::Refused(Error::NotInForm);
+    let TableForm::Table { items: _, ints: n } = table::checked::form(area) else {
+        return Stored::Refused(Error::NotInForm);
     };
     if ints::copy_into(out, 0, &area[..n]) {
-        return TableWrite::Ints(n);
+        return Stored::Ints(n);
     }
-    TableWrite::Refused(Error::CapacityError)
+    Stored::Refused(Error::CapacityError)
 }
 
 // A table packed, into the front of out: how many bytes; where it does not fit, out is left as it was.
 pub fn write(area: &[i32], out: &mut [u8]) -> IntWrite
     ensures { λ r. ⌜ writeCall (now (area .entry)) (now (out .entry)) ≡ record { answer = intWrite r; out = now (out .exit) } ⌝ }
 {
-    let TableForm::Table { items: _, ints: n } = checked::form(area) else {
+    let TableForm::Table { items: _, ints: n } = table::checked::form(area) else {
         return IntWrite::Refused(Error::NotInForm);
     };
     packer::pack(&area[..n], out)

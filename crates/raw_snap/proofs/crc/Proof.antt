@@ -4,9 +4,9 @@ use denote.Ref.{now}
 use borrow.Author.Needs.{needs}
 use mir.Facts.{toZ-ofZ}
 use Rattle.definitions.specs.Tables.{tableOf}
-use Rattle.raw_snap.specs.Held.{Held, formOf}
-use Rattle.raw_snap.specs.declared.checked.TableForm.the-variants as form
-use Rattle.raw_snap.proofs.Forms.{formed}
+use Rattle.table.specs.Held.{Held, formOf}
+use Rattle.table.specs.declared.checked.TableForm.the-variants as form
+use Rattle.table.specs.Forms.{formed}
 use Rattle.raw_snap.proofs.Calls.{not-held, crc-is}
 use Rattle.raw_snap.proofs.crc.Statement.{statement}
 use Rattle.raw_snap.proofs.crc.Tie as tie

@@ -3,9 +3,9 @@ use mathlib.Core.Path.{_≡_, sym, _∙_}
 use denote.Ref.{now}
 use borrow.Author.Needs.{needs}
 use Rattle.definitions.specs.Tables.{tableOf}
-use Rattle.raw_snap.specs.Held.{Held, formOf}
-use Rattle.raw_snap.specs.declared.checked.TableForm.the-variants as form
-use Rattle.raw_snap.proofs.Forms.{formed}
+use Rattle.table.specs.Held.{Held, formOf}
+use Rattle.table.specs.declared.checked.TableForm.the-variants as form
+use Rattle.table.specs.Forms.{formed}
 use Rattle.raw_snap.proofs.Calls.{not-held, num-items-is}
 use Rattle.raw_snap.proofs.num_items.Statement.{statement}
 use Rattle.raw_snap.proofs.num_items.Tie as tie

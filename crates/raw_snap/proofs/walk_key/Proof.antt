@@ -8,9 +8,9 @@ use mir.Facts.{toZ-ofZ}
 use Rattle.definitions.specs.Ints.{fromBits}
 use Rattle.laws.specs.IntLaws.{fromBits-bits}
 use Rattle.definitions.specs.Tables.{tableOf}
-use Rattle.raw_snap.specs.Held.{Held, formOf}
-use Rattle.raw_snap.specs.declared.checked.TableForm.the-variants as form
-use Rattle.raw_snap.proofs.Forms.{formed}
+use Rattle.table.specs.Held.{Held, formOf}
+use Rattle.table.specs.declared.checked.TableForm.the-variants as form
+use Rattle.table.specs.Forms.{formed}
 use Rattle.raw_snap.proofs.Calls.{not-held, walk-key-is, walk-key-end}
 use Rattle.raw_snap.proofs.walk_key.Statement.{statement}
 use Rattle.raw_snap.proofs.walk_key.Tie as tie

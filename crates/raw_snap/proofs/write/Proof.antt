@@ -4,9 +4,9 @@ use mathlib.Core.List.{List}
 use lib.IntN.{ℤ}
 use Rattle.definitions.specs.Stored.{stored}
 use Rattle.definitions.specs.Tables.{tableOf}
-use Rattle.raw_snap.specs.Held.{formOf}
-use Rattle.raw_snap.specs.declared.checked.TableForm.the-variants as form
-use Rattle.raw_snap.proofs.Writing.{not-held, bytes-call, form-length}
+use Rattle.table.specs.Held.{formOf}
+use Rattle.table.specs.declared.checked.TableForm.the-variants as form
+use Rattle.table.specs.Writing.{not-held, bytes-call, form-length}
 use borrow.Author.Needs.{needs}
 use Rattle.raw_snap.proofs.write.Statement.{statement}
 use Rattle.raw_snap.proofs.write.Tie as tie

@@ -6,9 +6,10 @@ use lib.ListN.{take}
 use Rattle.definitions.specs.Stored.{stored}
 use Rattle.definitions.specs.Tables.{tableOf}
 use Rattle.definitions.specs.TableCalls.{writeToIntsCall}
-use Rattle.raw_snap.specs.Held.{formOf}
-use Rattle.raw_snap.specs.declared.checked.TableForm.the-variants as form
-use Rattle.raw_snap.proofs.Writing.{not-held, ints-call, form-length, storedBy, copy-stored}
+use Rattle.table.specs.Held.{formOf}
+use Rattle.table.specs.declared.checked.TableForm.the-variants as form
+use Rattle.ints.specs.Copies.{storedBy}
+use Rattle.table.specs.Writing.{not-held, form-length, copied-call}
 use borrow.Author.Needs.{needs}
 use Rattle.raw_snap.proofs.write_to_ints.Statement.{statement}
 use Rattle.raw_snap.proofs.write_to_ints.Tie as tie
@@ -26,9 +27,7 @@ copied : (c : tie.After-copy-into) → let t = c .before .before .before .before
 copied c =
     let t = c .before .before .before .before in
     let out = c .before .before .before .before .before .before .before .args .out .now in
-    ints-call (area t) (told t) out
-    ∙ copy-stored out (take (t .n .given .0 .1 .0) (area t))
-    ∙ rw (c .copy-into .ensures, ← form-length (area t) (told t))
+    copied-call (area t) (told t) out _ (c .copy-into .ensures)
 
 form-requires : tie.Need-form-requires
 form-requires c κs = search needs

@@ -9,9 +9,9 @@ use Rattle.definitions.specs.Ints.{bits}
 use Rattle.definitions.specs.Tables.{count, size, items, keyOf}
 use Rattle.definitions.specs.TableReading.{addItem}
 use Rattle.definitions.specs.TableCalls.{storedTable}
-use Rattle.raw_snap.specs.Held.{Held}
-use Rattle.raw_snap.proofs.Forms.{formed, unformed}
-use Rattle.raw_snap.proofs.Additions.{refused-47, in-form}
+use Rattle.table.specs.Held.{Held}
+use Rattle.table.specs.Forms.{formed, unformed}
+use Rattle.raw_snap.proofs.Calls.{refused-47, in-form}
 use borrow.Author.Needs.{needs}
 use Rattle.raw_snap.proofs.raw_builder.add_item.Statement.{statement}
 use Rattle.raw_snap.proofs.raw_builder.add_item.Tie as tie

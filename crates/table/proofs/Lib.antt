@@ -1,0 +1,3 @@
+-- Facts that the proofs of `table` share. Assumes nothing.
+pub mod Nums
+pub mod Places

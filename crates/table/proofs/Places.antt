@@ -1,0 +1,50 @@
+-- What the place of a key tells: the item that has it, and the i-th of the signed walk. Assumes nothing.
+use Prim.Native.Nat.{ℕ, _+_, _-_, _<_, _≤_, _^_}
+use mathlib.Core.Path.{_≡_, refl, sym, ap, _∙_}
+use mathlib.Core.List.{List, [], _∷_, append-nil}
+use mathlib.Core.Option.{some}
+use native.Mathlib.Numerals.{add-one}
+use native.Mathlib.Omega.{arith}
+use lib.IntN.{ℤ}
+use borrow.Author.Tests.{lt-ltb, le-ltb}
+use Rattle.definitions.specs.Ints.{wrappingAdd, sum}
+use Rattle.definitions.specs.Tables.{Table, list, itemAt, items, keyAt, valuesAt, count, find, walk, allValues, crc}
+use Rattle.definitions.specs.TableCalls.{nth}
+use Rattle.laws.specs.TableFind.{Place, absent, present}
+use Rattle.laws.specs.TableWalk.{crc-append, nth-late, nth-early}
+use Rattle.table.specs.Held.{Held, dataIn}
+
+module _ (a : List ℤ) (n : ℕ) (h : Held a n) where
+  module _ (k r : ℕ) (p : Place a k r) where
+    pub found : r < n → keyAt a r ≡ k → find k (items a) ≡ dataIn a n r
+    found l e =
+        present a (h .shape) k r p (omega (arith, h .count-is)) e ∙ rw (lt-ltb r n l)
+
+    pub missing : (r < n → keyAt a r ≡ k → ⊥) → find k (items a) ≡ dataIn a n n
+    missing g =
+        absent a (h .shape) k r p (λ l e. g (omega (arith, h .count-is)) e)
+        ∙ rw (le-ltb n n (omega arith))
+
+  module _ (m i : ℕ) (p : Place a (2 ^ 31) m) where
+    -- the first m items, and the others
+    parts : m + (n - m) ≡ count a
+    parts = omega (arith, h .count-is, p .within)
+
+    above : (j : ℕ) → j < n - m → 2 ^ 31 ≤ keyAt a (m + j)
+    above j l = p .above (m + j) (omega arith) (omega (arith, h .count-is))
+
+    pub later : m + i < n → nth (walk (items a)) i ≡ some (itemAt a (m + i))
+    unfolding items
+    later l = rw (← parts) (nth-late (itemAt a) m (n - m) (p .below) above i (omega arith))
+
+    pub earlier : i < n → n ≤ m + i → nth (walk (items a)) i ≡ some (itemAt a (m + i - n))
+    unfolding items
+    earlier l g =
+        let e : i ≡ n - m + (m + i - n) = omega (arith, h .count-is, p .within) in
+        let t : Table = walk (list (itemAt a) (m + (n - m))) in
+        rw (← parts) (ap (nth t) e ∙ nth-early (itemAt a) m (n - m) (p .below) above (m + i - n) (omega arith))
+
+-- one item more is added to the sum
+pub crc-more : (a : List ℤ) (i : ℕ) → wrappingAdd (crc (list (itemAt a) i)) (sum (valuesAt a i)) ≡ crc (list (itemAt a) (i + 1))
+unfolding list
+crc-more a i = sym (rw add-one (crc-append (list (itemAt a) i) (itemAt a i ∷ []) ∙ unfold allValues in rw (append-nil (valuesAt a i))))

@@ -1,0 +1,207 @@
+// Table areas: the test of their form, and what may be asked of an area that passed it.
+ghost use mathlib.Core.Path.{_≡_};
+ghost use mathlib.Core.Bool.{Bool};
+ghost use mathlib.Core.Option.{some};
+ghost use Prim.Native.Nat.{ℕ, _+_, _-_, _/_, _<_, _≤_, _^_};
+ghost use lib.IntN.{pos};
+ghost use lib.ListN.{length, getD, take, drop, set};
+ghost use lib.Signed.{mag};
+ghost use Rattle.definitions.specs.Ints.{bits};
+ghost use Rattle.definitions.specs.Tables.{tableOf, items, all, fits, count, start, keyAt, valuesAt, itemAt, walk, nat};
+ghost use Rattle.definitions.specs.Tables as Tables;
+ghost use Rattle.definitions.specs.TableCalls.{nth};
+ghost use Rattle.laws.specs.TableFind.{Place};
+ghost use Rattle.table.specs.Held.{Head, Held, formOf, dataIn};
+
+// Whether an area begins with a written table: how many items it has, and how many ints it takes.
+pub enum TableForm {
+    Table { items: usize, ints: usize },
+    Bad,
+}
+
+// An int as a count; a negative one is 2^32, more than any area has.
+pub fn num(x: i32) -> usize
+    ensures { λ r. ⌜ (r ≡ Tables.num x) × (r ≤ 2 ^ 32) ⌝ }
+{
+    if x < 0 { 4294967296 } else { x as usize }
+}
+
+// The count at a place.
+pub fn nat_at(area: &[i32], i: usize) -> usize
+    requires { ⌜ i < length (now area) ⌝ }
+    ensures { λ r. ⌜ (r ≡ nat (now (area .entry)) i) × (r ≤ 2 ^ 32) × (mag (getD (now (area .entry)) i (pos 0)) < 2 ^ 31) ⌝ }
+{
+    num(area[i])
+}
+
+// The bits at a place, which holds an int.
+pub fn bits_at(area: &[i32], i: usize) -> usize
+    requires { ⌜ i < length (now area) ⌝ }
+    ensures { λ r. ⌜ (r ≡ bits (getD (now (area .entry)) i (pos 0))) × (r < 2 ^ 32) × (mag (getD (now (area .entry)) i (pos 0)) < 2 ^ 31) ⌝ }
+{
+    ints::to_bits(area[i]) as usize
+}
+
+// The byte offset of item i of n, or of the end of the last.
+pub fn edge(area: &[i32], n: usize, i: usize) -> usize
+    requires { ⌜ (n ≡ count (now area)) × (2 + n ≤ length (now area)) ⌝ }
+    ensures { λ r. ⌜ (r ≡ Tables.edge (now (area .entry)) i) × (r ≤ 2 ^ 32) ⌝ }
+{
+    if i < n {
+        nat_at(area, 2 + i)
+    } else {
+        nat_at(area, 0)
+    }
+}
+
+// Whether the items' offsets and keys are as a written table has them.
+pub fn all_fit(area: &[i32], n: usize, size: usize) -> bool
+    requires { ⌜ Head (now area) n size ⌝ }
+    ensures { λ r. ⌜ r ≡ all (fits (now (area .entry))) n ⌝ }
+{
+    let mut i = 0;
+    let mut here: usize = 0;
+    let mut low: usize = 0;
+    while i < n {
+        let next = edge(area, n, i + 1);
+        if next % 4 != 0 {
+            return false;
+        }
+        if next <= here {
+            return false;
+        }
+        if size < next {
+            return false;
+        }
+        let key = bits_at(area, 2 + n + here / 4);
+        if key < low {
+            return false;
+        }
+        low = key + 1;
+        here = next;
+        i += 1;
+    }
+    true
+}
+
+// The form of an area.
+pub fn form(area: &[i32]) -> TableForm
+    ensures { λ r. ⌜ r ≡ formOf (tableOf (now (area .entry))) ⌝ }
+{
+    if area.len() < 2 {
+        return TableForm::Bad;
+    }
+    let size = nat_at(area, 0);
+    let n = nat_at(area, 1);
+    if 1024 < n {
+        return TableForm::Bad;
+    }
+    let ints = 2 + n + size / 4;
+    if 16384 < ints {
+        return TableForm::Bad;
+    }
+    if area.len() < ints {
+        return TableForm::Bad;
+    }
+    if edge(area, n, 0) != 0 {
+        return TableForm::Bad;
+    }
+    if all_fit(area, n, size) {
+        TableForm::Table { items: n, ints }
+    } else {
+        TableForm::Bad
+    }
+}
+
+// The place where item i of n begins, or where the last one ends.
+pub fn start_at(area: &[i32], n: usize, i: usize) -> usize
+    requires { ⌜ Held (now area) n × (i ≤ n) ⌝ }
+    ensures { λ r. ⌜ r ≡ start (now (area .entry)) i ⌝ }
+{
+    2 + n + edge(area, n, i) / 4
+}
+
+// The key of item i of n.
+pub fn key_at(area: &[i32], n: usize, i: usize) -> i32
+    requires { ⌜ Held (now area) n × (i < n) ⌝ }
+    ensures { λ r. ⌜ bits r ≡ keyAt (now (area .entry)) i ⌝ }
+{
+    let at = start_at(area, n, i);
+    area[at]
+}
+
+// The data of item i of n, as a part of the area.
+pub fn data_at(area: &[i32], n: usize, i: usize) -> &[i32]
+    requires { ⌜ Held (now area) n × (i < n) ⌝ }
+    ensures { λ r. ⌜ now r ≡ valuesAt (now (area .entry)) i ⌝ }
+{
+    let from = start_at(area, n, i) + 1;
+    let to = start_at(area, n, i + 1);
+    &area[from..to]
+}
+
+// The place of a key among the n items, by halving: those before it have lesser keys, read as unsigned.
+pub fn place(area: &[i32], n: usize, key: i32) -> usize
+    requires { ⌜ Held (now area) n ⌝ }
+    ensures { λ r. ⌜ Place (now (area .entry)) (bits key) r ⌝ }
+{
+    let mut lo = 0;
+    let mut hi = n;
+    while lo < hi {
+        let mid = lo + (hi - lo) / 2;
+        if ints::unsigned_less(key_at(area, n, mid), key) {
+            lo = mid + 1;
+        } else {
+            hi = mid;
+        }
+    }
+    lo
+}
+
+// The place of the item with a key among the n items, or n where there is none.
+pub fn find(area: &[i32], n: usize, key: i32) -> usize
+    requires { ⌜ Held (now area) n ⌝ }
+    ensures { λ r. ⌜ Tables.find (bits key) (items (now (area .entry))) ≡ dataIn (now (area .entry)) n r ⌝ }
+{
+    let p = place(area, n, key);
+    if p < n {
+        if key_at(area, n, p) == key {
+            return p;
+        }
+    }
+    n
+}
+
+// The sum of the data ints of the n items.
+pub fn crc(area: &[i32], n: usize) -> i32
+    requires { ⌜ Held (now area) n ⌝ }
+    ensures { λ r. ⌜ r ≡ Tables.crc (items (now (area .entry))) ⌝ }
+{
+    let mut total: i32 = 0;
+    let mut i: usize = 0;
+    while i < n {
+        total = ints::wrapping_add(total, ints::sum(data_at(area, n, i)));
+        i += 1;
+    }
+    total
+}
+
+// The place of the i-th of the n items in the order of keys read as signed: those from 2^31 on come first.
+pub fn walk_place(area: &[i32], n: usize, i: usize) -> usize
+    requires { ⌜ Held (now area) n × (i < n) ⌝ }
+    ensures { λ r. ⌜ (r < n) × (nth (walk (items (now (area .entry)))) i ≡ some (itemAt (now (area .entry)) r)) ⌝ }
+{
+    let at = place(area, n, ints::from_bits(2147483648)) + i;
+    if at < n {
+        return at;
+    }
+    at - n
+}
+
+// A count, as an int, into an area.
+pub fn put(area: &mut [i32], i: usize, v: usize)
+    requires { ⌜ (i < length (now area)) × (v < 2 ^ 31) ⌝ }
+    ensures { λ _. ⌜ now (area .exit) ≡ set (now (area .entry)) i (pos v) ⌝ }
+{
+    area[i] = v as i32;
+}

@@ -1,0 +1,31 @@
+-- What the steps of adding an item do to an area, and what they are given. Assumes nothing.
+use mathlib.Core.Path.{_≡_}
+use mathlib.Core.List.{List}
+use Prim.Native.Nat.{ℕ, _+_, _-_, _/_, _<_, _≤_}
+use lib.IntN.{ℤ, pos}
+use lib.ListN.{length, take, drop}
+use Rattle.definitions.specs.Areas.{layAt}
+use Rattle.definitions.specs.Tables.{num, count, size, keyAt}
+use Rattle.laws.specs.TableFind.{Place}
+use Rattle.table.specs.Held.{Held}
+
+-- a count made larger
+abbrev pub raised : ℕ → ℤ → ℤ
+raised by z = pos (num z + by)
+
+-- the ints between two places laid further up; what stood there is lost
+unfoldable pub shifted : List ℤ → ℕ → ℕ → ℕ → List ℤ
+shifted a from to by = layAt (from + by) (take (to - from) (drop from a)) a
+
+-- an area holds a table of n items, none of which has the key k; p is its place
+pub record New (a : List ℤ) (n k p : ℕ) : Type 0 where
+  pub held : Held a n
+  pub place : Place a k p
+  pub fresh : p < n → keyAt a p ≡ k → ⊥
+
+-- and there is room for an offset, the key and d ints of data more; the table takes so many ints
+pub record Room (a : List ℤ) (n ints k p d : ℕ) : Type 0 where
+  pub new : New a n k p
+  pub takes : ints ≡ 2 + count a + size a / 4
+  pub short : ints + (d + 2) ≤ 16384
+  pub fits : ints + (d + 2) ≤ length a
