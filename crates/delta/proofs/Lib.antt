@@ -1,0 +1,2 @@
+-- Facts that the proofs of `delta` share. Assumes nothing.
+pub mod Calls

@@ -1,0 +1,75 @@
+-- `delta::create` meets its contract: by the tests of both tables' forms. Assumes nothing.
+use mathlib.Core.Path.{_≡_, sym, _∙_}
+use native.Mathlib.Omega.{arith}
+use Rattle.definitions.specs.Tables.{tableOf}
+use Rattle.table.specs.Held.{formOf}
+use Rattle.table.specs.Forms.{formed}
+use Rattle.table.specs.declared.checked.TableForm.the-variants as form
+use Rattle.delta.proofs.Calls.{base-47, target-47, create-call}
+use borrow.Author.Needs.{needs}
+use Rattle.delta.proofs.create.Statement.{statement}
+use Rattle.delta.proofs.create.Tie as tie
+
+-- the base holds a table
+base-told : (c : tie.After-known-told) → form.Table (c .before .nb .given .0 .0) (c .before .nb .given .0 .1 .0) ≡ formOf (tableOf (c .before .before .before .before .args .base .now))
+base-told c = sym (c .before .nb .given .1) ∙ c .before .before .before .form .ensures
+
+-- and so does the target
+target-told : (c : tie.After-known-told2) → form.Table (c .before .nt .given .0 .0) (c .before .nt .given .0 .1 .0) ≡ formOf (tableOf (c .before .before .before .before .before .before .before .before .args .target .now))
+target-told c = sym (c .before .nt .given .1) ∙ c .before .before .before .form2 .ensures
+
+form-requires : tie.Need-form-requires
+form-requires c κs = search needs
+
+enum-known-nb : tie.Need-enum-known-nb
+enum-known-nb c = search needs
+
+enum-told : tie.Need-enum-told
+enum-told c = search needs
+
+returns : tie.Need-returns
+returns c =
+    let s = c .before .before .before .args in
+    (base-47 (s .base .now) (s .target .now) (s .out .now) (sym (c .enum-told .given .1) ∙ c .before .before .form .ensures), λ e. omega (arith, e))
+
+form-requires-2 : tie.Need-form-requires-2
+form-requires-2 c κs = search needs
+
+enum-known-nt : tie.Need-enum-known-nt
+enum-known-nt c = search needs
+
+enum-told-2 : tie.Need-enum-told-2
+enum-told-2 c = search needs
+
+returns-2 : tie.Need-returns-2
+returns-2 c =
+    let s = c .before .before .before .before .before .before .before .args in
+    (target-47 (s .base .now) (base-told (c .before .before .before)) (s .target .now) (s .out .now) (sym (c .enum-told2 .given .1) ∙ c .before .before .form2 .ensures), λ e. omega (arith, e))
+
+create-requires : tie.Need-create-requires
+create-requires c κs =
+    (formed _ _ _ (base-told (c .before .before .before .before .before)) .0, formed _ _ _ (target-told (c .before)) .0)
+
+same-length : tie.Need-same-length
+same-length c = search needs
+
+returns-3 : tie.Need-returns-3
+returns-3 c =
+    let s = c .before .before .before .before .before .before .before .before .before .before .before .args in
+    (create-call (s .base .now) (base-told (c .before .before .before .before .before .before .before)) (s .target .now) (s .out .now) (target-told (c .before .before .before)) ∙ c .before .create .ensures .0, c .before .create .ensures .1)
+
+pub create-spec : {M : Type 1} → statement M
+create-spec =
+    tie.close
+    (tie.spec
+    form-requires
+    enum-known-nb
+    enum-told
+    returns
+    form-requires-2
+    enum-known-nt
+    enum-told-2
+    returns-2
+    create-requires
+    same-length
+    returns-3)

@@ -1,0 +1,81 @@
+// Deltas between tables, in lent areas of ints.
+ghost use mathlib.Core.Path.{_≡_};
+ghost use Rattle.definitions.specs.Tables.{items};
+ghost use Rattle.definitions.specs.DeltaCalls.{clearCall, createCall, writeToIntsCall, writeCall};
+ghost use Rattle.delta_making.specs.Answers.{madeInts, Clash};
+ghost use Rattle.format.specs.Answers.{storedInts};
+ghost use Rattle.packer.specs.Answers.{intWrite};
+use delta_form::checked::DeltaForm;
+use delta_form::checked::form;
+use delta_making::Made;
+use delta_writing::checked::sizes_match;
+use delta_writing::checked::write_ints;
+use delta_writing::checked::write_packed;
+use format::Error;
+use format::Stored;
+use packer::IntWrite;
+use table::checked::TableForm;
+
+// Writes the empty delta.
+pub fn clear(out: &mut [i32]) -> Stored
+    ensures { λ r. ⌜ clearCall (now (out .entry)) ≡ record { answer = storedInts r; out = now (out .exit) } ⌝ }
+{
+    if out.len() < 3 {
+        return Stored::Refused(Error::CapacityError);
+    }
+    out[0] = 0;
+    out[1] = 0;
+    out[2] = 0;
+    Stored::Ints(3)
+}
+
+// The delta from a base to a target, which are tables, into the front of out; where two items of one key differ in length, such a key.
+// A refused call leaves out as it was.
+pub fn create(base: &[i32], target: &[i32], out: &mut [i32]) -> Made
+    ensures { λ r. ⌜ createCall (now (base .entry)) (now (target .entry)) (now (out .entry)) ≡ record { answer = madeInts r; out = now (out .exit) } ⌝ }
+    ensures { λ r. ⌜ Clash (items (now (base .entry))) (items (now (target .entry))) r ⌝ }
+{
+    let TableForm::Table { items: nb, ints: _ } = table::checked::form(base) else {
+        return Made::Refused(Error::NotInForm);
+    };
+    let TableForm::Table { items: nt, ints: _ } = table::checked::form(target) else {
+        return Made::Refused(Error::NotInForm);
+    };
+    delta_making::checked::create(base, nb, target, nt, out)
+}
+
+// A delta's ints under known sizes, into the front of out: how many. A refused call leaves out as it was.
+pub fn write_to_ints(area: &[i32], sizes: &[i32], out: &mut [i32]) -> Stored
+    ensures { λ r. ⌜ writeToIntsCall (now (area .entry)) (now (sizes .entry)) (now (out .entry)) ≡ record { answer = storedInts r; out = now (out .exit) } ⌝ }
+{
+    let DeltaForm::Delta {
+        deleted,
+        updated,
+        ints: _,
+    } = form(area, &area[..0])
+    else {
+        return Stored::Refused(Error::NotInForm);
+    };
+    if !sizes_match(area, deleted, updated, sizes) {
+        return Stored::Refused(Error::KnownSizeDiffers);
+    }
+    write_ints(area, deleted, updated, sizes, out)
+}
+
+// A delta packed under known sizes, into the front of out: how many bytes. A refused call leaves out as it was.
+pub fn write(area: &[i32], sizes: &[i32], out: &mut [u8]) -> IntWrite
+    ensures { λ r. ⌜ writeCall (now (area .entry)) (now (sizes .entry)) (now (out .entry)) ≡ record { answer = intWrite r; out = now (out .exit) } ⌝ }
+{
+    let DeltaForm::Delta {
+        deleted,
+        updated,
+        ints: _,
+    } = form(area, &area[..0])
+    else {
+        return IntWrite::Refused(Error::NotInForm);
+    };
+    if !sizes_match(area, deleted, updated, sizes) {
+        return IntWrite::Refused(Error::KnownSizeDiffers);
+    }
+    write_packed(area, deleted, updated, sizes, out)
+}

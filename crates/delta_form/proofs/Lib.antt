@@ -1,0 +1,3 @@
+-- Facts that the proofs of `delta_form` share. Assumes nothing.
+pub mod Sizes
+pub mod Turns

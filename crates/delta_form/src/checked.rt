@@ -1,0 +1,216 @@
+// Ints that begin with a delta under known sizes: the test of their form, and what may be asked of ints that passed it.
+ghost use mathlib.Core.Path.{_≡_};
+ghost use mathlib.Core.List.{[]};
+ghost use Prim.Native.Nat.{_+_, _<_, _≤_, _^_};
+ghost use lib.ListN.{length, take, drop};
+ghost use Rattle.definitions.specs.Ints.{bits};
+ghost use Rattle.definitions.specs.Tables.{nat, all};
+ghost use Rattle.definitions.specs.Deltas.{knownSize, updateKey, dataAt, sizeAt, updateEnd, deletedFits};
+ghost use Rattle.definitions.specs.Deltas as Deltas;
+ghost use Rattle.laws.specs.DeltaShape.{Update};
+ghost use Rattle.delta_form.specs.Held.{sizeFrom, formOf, endOf, updatesFormOf};
+use table::checked::bits_at;
+use table::checked::nat_at;
+
+// Whether some ints begin with a delta under known sizes: how many deleted keys and updates, and how many ints it takes.
+pub enum DeltaForm {
+    Delta {
+        deleted: usize,
+        updated: usize,
+        ints: usize,
+    },
+    Bad,
+}
+
+// Whether updates lie one behind the other: the place behind the last.
+pub enum UpdatesForm {
+    End(usize),
+    Bad,
+}
+
+// The size that is known of a type; 2^32 where none is.
+pub fn known_size(sizes: &[i32], raw_type_id: usize) -> usize
+    ensures { λ r. ⌜ (knownSize (now (sizes .entry)) «raw_type_id» ≡ sizeFrom r) × (r ≤ 2 ^ 32) ⌝ }
+{
+    if raw_type_id < sizes.len() {
+        return nat_at(sizes, raw_type_id);
+    }
+    4294967296
+}
+
+// The place of the differences of the update at a place.
+pub fn data_at(area: &[i32], sizes: &[i32], p: usize) -> usize
+    requires { ⌜ p < length (now area) ⌝ }
+    ensures { λ r. ⌜ (r ≡ dataAt (now (sizes .entry)) (now (area .entry)) p) × (p + 2 ≤ r) × (r ≤ p + 3) ⌝ }
+{
+    if known_size(sizes, nat_at(area, p)) < 4294967296 {
+        return p + 2;
+    }
+    p + 3
+}
+
+// How many differences the update at a place has.
+pub fn size_at(area: &[i32], sizes: &[i32], p: usize) -> usize
+    requires { ⌜ (p < length (now area)) × (dataAt (now sizes) (now area) p ≤ length (now area)) ⌝ }
+    ensures { λ r. ⌜ (r ≡ sizeAt (now (sizes .entry)) (now (area .entry)) p) × (r ≤ 2 ^ 32) ⌝ }
+{
+    let size = known_size(sizes, nat_at(area, p));
+    if size < 4294967296 {
+        return size;
+    }
+    nat_at(area, p + 2)
+}
+
+// The place behind the update at a place.
+pub fn update_end(area: &[i32], sizes: &[i32], p: usize) -> usize
+    requires { ⌜ (p < length (now area)) × (dataAt (now sizes) (now area) p ≤ length (now area)) ⌝ }
+    ensures { λ r. ⌜ r ≡ updateEnd (now (sizes .entry)) (now (area .entry)) p ⌝ }
+{
+    data_at(area, sizes, p) + size_at(area, sizes, p)
+}
+
+// The place behind the update at a place of a delta area, where every size is written.
+pub fn next_update(area: &[i32], p: usize) -> usize
+    requires { ⌜ Update [] (now area) p ⌝ }
+    ensures { λ r. ⌜ r ≡ updateEnd [] (now (area .entry)) p ⌝ }
+{
+    update_end(area, &area[..0], p)
+}
+
+// The differences of the update at a place, as a part of the area.
+pub fn update_data<'a>(area: &'a [i32], sizes: &[i32], p: usize) -> &'a [i32]
+    requires { ⌜ Update (now sizes) (now area) p ⌝ }
+    ensures { λ r. ⌜ now r ≡ take (sizeAt (now (sizes .entry)) (now (area .entry)) p) (drop (dataAt (now (sizes .entry)) (now (area .entry)) p) (now (area .entry))) ⌝ }
+{
+    let from = data_at(area, sizes, p);
+    let to = from + size_at(area, sizes, p);
+    &area[from..to]
+}
+
+// The bits of the key of the update at a place.
+pub fn update_bits(area: &[i32], p: usize) -> usize
+    requires { ⌜ (p + 2 ≤ length (now area)) × (nat (now area) p < 65536) × (nat (now area) (p + 1) < 65536) ⌝ }
+    ensures { λ r. ⌜ (r ≡ updateKey (now (area .entry)) p) × (r < 2 ^ 32) ⌝ }
+{
+    nat_at(area, p) * 65536 + nat_at(area, p + 1)
+}
+
+// The key of the update at a place.
+pub fn update_key(area: &[i32], p: usize) -> i32
+    requires { ⌜ (p + 2 ≤ length (now area)) × (nat (now area) p < 65536) × (nat (now area) (p + 1) < 65536) ⌝ }
+    ensures { λ r. ⌜ bits r ≡ updateKey (now (area .entry)) p ⌝ }
+{
+    ints::from_bits(update_bits(area, p) as u32)
+}
+
+// The place of a key, given by its bits, among all keys read as signed.
+pub fn rank(key: usize) -> usize
+    requires { ⌜ key < 2 ^ 32 ⌝ }
+    ensures { λ r. ⌜ (r ≡ Deltas.rank key) × (r < 2 ^ 32) ⌝ }
+{
+    (key + 2147483648) % 4294967296
+}
+
+// Whether the n deleted keys rise as signed.
+pub fn deleted_fit(area: &[i32], n: usize) -> bool
+    requires { ⌜ 3 + n ≤ length (now area) ⌝ }
+    ensures { λ r. ⌜ r ≡ all (deletedFits (now (area .entry))) n ⌝ }
+{
+    let mut i: usize = 0;
+    let mut low: usize = 0;
+    while i < n {
+        let here = rank(bits_at(area, 3 + i));
+        if here < low {
+            return false;
+        }
+        low = here + 1;
+        i += 1;
+    }
+    true
+}
+
+// The place behind the update at a place, where it lies within the area and its type and id are of 16 bits; else 0.
+pub fn update_fits(area: &[i32], sizes: &[i32], p: usize) -> usize
+    requires { ⌜ p ≤ length (now area) ⌝ }
+    ensures { λ r. ⌜ r ≡ endOf (now (sizes .entry)) (now (area .entry)) p ⌝ }
+{
+    if area.len() - p < 2 {
+        return 0;
+    }
+    if 65535 < nat_at(area, p) {
+        return 0;
+    }
+    if 65535 < nat_at(area, p + 1) {
+        return 0;
+    }
+    let from = data_at(area, sizes, p);
+    if area.len() < from {
+        return 0;
+    }
+    let size = size_at(area, sizes, p);
+    if 4294967295 < size {
+        return 0;
+    }
+    if area.len() - from < size {
+        return 0;
+    }
+    from + size
+}
+
+// Whether n updates lie one behind the other from a place on, with keys that rise as signed.
+pub fn updates_fit(area: &[i32], sizes: &[i32], start: usize, n: usize) -> UpdatesForm
+    requires { ⌜ start ≤ length (now area) ⌝ }
+    ensures { λ r. ⌜ r ≡ updatesFormOf (now (sizes .entry)) (now (area .entry)) start 0 n ⌝ }
+{
+    let mut p = start;
+    let mut low: usize = 0;
+    let mut left = n;
+    while 0 < left {
+        let end = update_fits(area, sizes, p);
+        if end == 0 {
+            return UpdatesForm::Bad;
+        }
+        let own = rank(update_bits(area, p));
+        if own < low {
+            return UpdatesForm::Bad;
+        }
+        low = own + 1;
+        p = end;
+        left -= 1;
+    }
+    UpdatesForm::End(p)
+}
+
+// The form of some ints.
+pub fn form(area: &[i32], sizes: &[i32]) -> DeltaForm
+    ensures { λ r. ⌜ r ≡ formOf (now (sizes .entry)) (now (area .entry)) ⌝ }
+{
+    if area.len() < 3 {
+        return DeltaForm::Bad;
+    }
+    if nat_at(area, 2) != 0 {
+        return DeltaForm::Bad;
+    }
+    let deleted = nat_at(area, 0);
+    let updated = nat_at(area, 1);
+    if 4294967295 < deleted {
+        return DeltaForm::Bad;
+    }
+    if 4294967295 < updated {
+        return DeltaForm::Bad;
+    }
+    if area.len() - 3 < deleted {
+        return DeltaForm::Bad;
+    }
+    if !deleted_fit(area, deleted) {
+        return DeltaForm::Bad;
+    }
+    let UpdatesForm::End(ints) = updates_fit(area, sizes, 3 + deleted, updated) else {
+        return DeltaForm::Bad;
+    };
+    DeltaForm::Delta {
+        deleted,
+        updated,
+        ints,
+    }
+}

@@ -1,0 +1,1 @@
+// The keys of a delta in order: what a sorted list of its deleted keys and updates tells.

@@ -1,0 +1,248 @@
+// The delta between the tables of two areas.
+use super::Made;
+use format::Error;
+ghost use mathlib.Core.Path.{_≡_};
+ghost use mathlib.Core.Bool.{true};
+ghost use mathlib.Core.List.{_∷_, []};
+ghost use Prim.Native.Nat.{ℕ, _+_, _/_, _%_, _<_, _≤_, _^_};
+ghost use lib.IntN.{pos};
+ghost use lib.ListN.{length};
+ghost use Rattle.definitions.specs.Ints.{bits};
+ghost use Rattle.definitions.specs.Areas.{layAt};
+ghost use Rattle.definitions.specs.Stored.{stored};
+ghost use Rattle.definitions.specs.Tables.{items, itemAt, keyAt, valuesAt, find, isSome};
+ghost use Rattle.definitions.specs.Deltas.{writtenDelta};
+ghost use Rattle.definitions.specs.DeltaMaking.{agree, alike, lacking, deltaFrom};
+ghost use Rattle.laws.specs.TableFind.{Place};
+ghost use Rattle.table.specs.Held.{Held};
+ghost use Rattle.delta_making.specs.Answers.{createdInts, madeInts, Clash};
+ghost use Rattle.delta_making.specs.Parts.{part, deletedInts, changeInts, changesInts, DifferingAt};
+
+// The place of a key, from an item on before which all keys are less.
+pub fn next_place(area: &[i32], n: usize, from: usize, key: i32) -> usize
+    requires { ⌜ Held (now area) n × (from ≤ n) × ((i : ℕ) → i < from → keyAt (now area) i < bits key) ⌝ }
+    ensures { λ r. ⌜ Place (now (area .entry)) (bits key) r ⌝ }
+{
+    let mut i = from;
+    while i < n {
+        if ints::unsigned_less(table::checked::key_at(area, n, i), key) {
+            i += 1;
+        } else {
+            return i;
+        }
+    }
+    i
+}
+
+// Whether the item at a key's place has the key.
+pub fn has_key(area: &[i32], n: usize, place: usize, key: i32) -> bool
+    requires { ⌜ Held (now area) n × Place (now area) (bits key) place ⌝ }
+    ensures { λ r. ⌜ r ≡ isSome (find (bits key) (items (now (area .entry)))) ⌝ }
+{
+    if place < n {
+        return table::checked::key_at(area, n, place) == key;
+    }
+    false
+}
+
+// Whether item i of the target is as long as the base's with its key, where there is one: that key's place is p.
+pub fn is_as_long(base: &[i32], nb: usize, p: usize, target: &[i32], nt: usize, i: usize) -> bool
+    requires { ⌜ Held (now base) nb × Held (now target) nt × (i < nt) × Place (now base) (keyAt (now target) i) p ⌝ }
+    ensures { λ r. ⌜ r ≡ agree (find (keyAt (now (target .entry)) i) (items (now (base .entry)))) (valuesAt (now (target .entry)) i) ⌝ }
+{
+    if has_key(base, nb, p, table::checked::key_at(target, nt, i)) {
+        let from = table::checked::data_at(base, nb, p);
+        let to = table::checked::data_at(target, nt, i);
+        return from.len() == to.len();
+    }
+    true
+}
+
+// An item of the target that is not as long as the base's with its key, or nt where there is none.
+pub fn find_differing(base: &[i32], nb: usize, target: &[i32], nt: usize) -> usize
+    requires { ⌜ Held (now base) nb × Held (now target) nt ⌝ }
+    ensures { λ r. ⌜ DifferingAt (now (base .entry)) (now (target .entry)) nt r ⌝ }
+{
+    let mut i = 0;
+    let mut p = 0;
+    while i < nt {
+        p = next_place(base, nb, p, table::checked::key_at(target, nt, i));
+        if is_as_long(base, nb, p, target, nt, i) {
+            i += 1;
+        } else {
+            return i;
+        }
+    }
+    i
+}
+
+// How many of the base's items the target lacks.
+pub fn count_deleted(base: &[i32], nb: usize, target: &[i32], nt: usize) -> usize
+    requires { ⌜ Held (now base) nb × Held (now target) nt ⌝ }
+    ensures { λ r. ⌜ (r ≡ length (lacking (items (now (target .entry))) (items (now (base .entry))))) × (r ≤ nb) ⌝ }
+{
+    let mut i = 0;
+    let mut p = 0;
+    let mut deleted: usize = 0;
+    while i < nb {
+        let key = table::checked::key_at(base, nb, i);
+        p = next_place(target, nt, p, key);
+        deleted += ints::one_if(!has_key(target, nt, p, key));
+        i += 1;
+    }
+    deleted
+}
+
+// The keys of the base's items from one to another that the target lacks, into out from a place on; the place behind them.
+pub fn write_deleted(
+    base: &[i32],
+    nb: usize,
+    from: usize,
+    to: usize,
+    target: &[i32],
+    nt: usize,
+    out: &mut [i32],
+    at: usize,
+) -> usize
+    requires { ⌜ Held (now base) nb × Held (now target) nt × (from ≤ to) × (to ≤ nb)
+        × (at + length (deletedInts (items (now target)) (part from to (items (now base)))) ≤ length (now out)) ⌝ }
+    ensures { λ r. ⌜ r ≡ at + length (deletedInts (items (now (target .entry))) (part from to (items (now (base .entry))))) ⌝ }
+    ensures { λ _. ⌜ now (out .exit) ≡ layAt at (deletedInts (items (now (target .entry))) (part from to (items (now (base .entry))))) (now (out .entry)) ⌝ }
+{
+    let mut i = from;
+    let mut p = 0;
+    let mut w = at;
+    while i < to {
+        let key = table::checked::key_at(base, nb, i);
+        p = next_place(target, nt, p, key);
+        i += 1;
+        if has_key(target, nt, p, key) {
+            continue;
+        }
+        out[w] = key;
+        w += 1;
+    }
+    w
+}
+
+// Three counts, into out from a place on.
+pub fn put_counts(out: &mut [i32], at: usize, a: usize, b: usize, c: usize)
+    requires { ⌜ (at + 3 ≤ length (now out)) × (a < 2 ^ 31) × (b < 2 ^ 31) × (c < 2 ^ 31) ⌝ }
+    ensures { λ _. ⌜ now (out .exit) ≡ layAt at (pos a ∷ pos b ∷ pos c ∷ []) (now (out .entry)) ⌝ }
+{
+    table::checked::put(out, at, a);
+    table::checked::put(out, at + 1, b);
+    table::checked::put(out, at + 2, c);
+}
+
+// The type, the id and the size of an update, into out from a place on.
+pub fn write_head(out: &mut [i32], at: usize, key: i32, size: usize)
+    requires { ⌜ (at + 3 ≤ length (now out)) × (size < 2 ^ 31) ⌝ }
+    ensures { λ _. ⌜ now (out .exit) ≡ layAt at (pos (bits key / 65536) ∷ pos (bits key % 65536) ∷ pos size ∷ []) (now (out .entry)) ⌝ }
+{
+    let raw_type_id = format::key_to_raw_type_id(key) as usize;
+    let id = format::key_to_id(key) as usize;
+    put_counts(out, at, raw_type_id, id, size);
+}
+
+// The update of item i of the target, whose key has the place p in the base, into out from a place on; the place behind it.
+pub fn write_update(
+    base: &[i32],
+    nb: usize,
+    p: usize,
+    target: &[i32],
+    nt: usize,
+    i: usize,
+    out: &mut [i32],
+    at: usize,
+) -> usize
+    requires { ⌜ Held (now base) nb × Held (now target) nt × (i < nt) × Place (now base) (keyAt (now target) i) p
+        × (agree (find (keyAt (now target) i) (items (now base))) (valuesAt (now target) i) ≡ true)
+        × (at + length (changeInts (items (now base)) (itemAt (now target) i)) ≤ length (now out)) ⌝ }
+    ensures { λ r. ⌜ r ≡ at + length (changeInts (items (now (base .entry))) (itemAt (now (target .entry)) i)) ⌝ }
+    ensures { λ _. ⌜ now (out .exit) ≡ layAt at (changeInts (items (now (base .entry))) (itemAt (now (target .entry)) i)) (now (out .entry)) ⌝ }
+{
+    let key = table::checked::key_at(target, nt, i);
+    let to = table::checked::data_at(target, nt, i);
+    let end = at + 3 + to.len();
+    write_head(out, at, key, to.len());
+    if has_key(base, nb, p, key) {
+        let from = table::checked::data_at(base, nb, p);
+        ints::checked::sub_into(out, at + 3, to, from);
+        return end;
+    }
+    ints::copy_into(out, at + 3, to);
+    end
+}
+
+// The updates of the target's items from one to another, into out from a place on; the place behind them.
+pub fn write_updates(
+    base: &[i32],
+    nb: usize,
+    target: &[i32],
+    nt: usize,
+    from: usize,
+    to: usize,
+    out: &mut [i32],
+    at: usize,
+) -> usize
+    requires { ⌜ Held (now base) nb × Held (now target) nt × (from ≤ to) × (to ≤ nt) × (alike (items (now base)) (items (now target)) ≡ true)
+        × (at + length (changesInts (items (now base)) (part from to (items (now target)))) ≤ length (now out)) ⌝ }
+    ensures { λ r. ⌜ r ≡ at + length (changesInts (items (now (base .entry))) (part from to (items (now (target .entry))))) ⌝ }
+    ensures { λ _. ⌜ now (out .exit) ≡ layAt at (changesInts (items (now (base .entry))) (part from to (items (now (target .entry))))) (now (out .entry)) ⌝ }
+{
+    let mut i = from;
+    let mut p = 0;
+    let mut w = at;
+    while i < to {
+        p = next_place(base, nb, p, table::checked::key_at(target, nt, i));
+        w = write_update(base, nb, p, target, nt, i, out, w);
+        i += 1;
+    }
+    w
+}
+
+// The delta, with so many deleted keys, into the front of out. Each list begins with the keys that are negative as signed, which come last in the tables.
+pub fn write_delta(
+    base: &[i32],
+    nb: usize,
+    target: &[i32],
+    nt: usize,
+    deleted: usize,
+    out: &mut [i32],
+)
+    requires { ⌜ Held (now base) nb × Held (now target) nt × (alike (items (now base)) (items (now target)) ≡ true)
+        × (deleted ≡ length (lacking (items (now target)) (items (now base)))) × (deleted ≤ nb)
+        × (length (writtenDelta (deltaFrom (items (now base)) (items (now target)))) ≤ length (now out)) ⌝ }
+    ensures { λ _. ⌜ now (out .exit) ≡ layAt 0 (writtenDelta (deltaFrom (items (now (base .entry))) (items (now (target .entry))))) (now (out .entry)) ⌝ }
+{
+    let least = ints::from_bits(2147483648);
+    let b = table::checked::place(base, nb, least);
+    let t = table::checked::place(target, nt, least);
+    put_counts(out, 0, deleted, nt, 0);
+    let w1 = write_deleted(base, nb, b, nb, target, nt, out, 3);
+    let w2 = write_deleted(base, nb, 0, b, target, nt, out, w1);
+    let w3 = write_updates(base, nb, target, nt, t, nt, out, w2);
+    write_updates(base, nb, target, nt, 0, t, out, w3);
+}
+
+// The delta from a base of nb items to a target of nt items, into the front of out; a refused call leaves out as it was.
+pub fn create(base: &[i32], nb: usize, target: &[i32], nt: usize, out: &mut [i32]) -> Made
+    requires { ⌜ Held (now base) nb × Held (now target) nt ⌝ }
+    ensures { λ r. ⌜ stored (now (out .entry)) (createdInts (items (now (base .entry))) (items (now (target .entry)))) ≡ record { answer = madeInts r; out = now (out .exit) } ⌝ }
+    ensures { λ r. ⌜ Clash (items (now (base .entry))) (items (now (target .entry))) r ⌝ }
+{
+    let i = find_differing(base, nb, target, nt);
+    if i < nt {
+        return Made::DifferingSizes(table::checked::key_at(target, nt, i));
+    }
+    let deleted = count_deleted(base, nb, target, nt);
+    let end = table::checked::start_at(target, nt, nt);
+    // Three counts, the deleted keys, and of each item three ints and its data.
+    let ints = 3 + deleted + (nt + (end - 2));
+    if out.len() < ints {
+        return Made::Refused(Error::CapacityError);
+    }
+    write_delta(base, nb, target, nt, deleted, out);
+    Made::Ints(ints)
+}

@@ -1,0 +1,193 @@
+// Ints that hold a delta under known sizes and rise already: written into an area with their sizes, and their updates of deleted keys counted.
+ghost use mathlib.Core.Path.{_≡_};
+ghost use mathlib.Core.Bool.{_&&_};
+ghost use mathlib.Core.List.{[]};
+ghost use Prim.Native.Nat.{_+_, _≤_};
+ghost use lib.Dec.{ltb, eqb};
+ghost use lib.IntN.{pos};
+ghost use lib.ListN.{length};
+ghost use Rattle.definitions.specs.Areas.{layAt};
+ghost use Rattle.definitions.specs.Outcome.{return};
+ghost use Rattle.definitions.specs.Stored.{stored};
+ghost use Rattle.definitions.specs.Deltas.{deletedAt, sizeAt, updateInts, updatesInts, writtenDelta, updateAt, updates, deltaIn};
+ghost use Rattle.definitions.specs.Deltas as Deltas;
+ghost use Rattle.laws.specs.DeltaShape.{Update, Updates};
+ghost use Rattle.laws.specs.DeltaReadBack.{deleteUpdates};
+ghost use Rattle.format.specs.Answers.{storedInts};
+ghost use Rattle.delta_form.specs.Held.{HeldDelta};
+ghost use Rattle.delta_reading.specs.Answers.{deletedCounts, OrderedRead};
+ghost use Rattle.delta_reading.specs.Reached.{Under, Reached};
+use delta_form::checked::DeltaForm;
+use delta_form::checked::form;
+use delta_form::checked::known_size;
+use delta_form::checked::rank;
+use delta_form::checked::size_at;
+use delta_form::checked::update_bits;
+use delta_form::checked::update_data;
+use delta_form::checked::update_end;
+use format::Error;
+use format::Stored;
+use table::checked::bits_at;
+use table::checked::nat_at;
+
+// What reading ints that rise already comes to: the answer, and how many updates are of deleted keys; or that they are not such ints.
+pub enum Ordered {
+    Read {
+        answer: Stored,
+        delete_updates: usize,
+    },
+    Other,
+}
+
+// How many ints the n updates from a place on take with their sizes written.
+fn updates_len(src: &[i32], sizes: &[i32], start: usize, n: usize) -> usize
+    requires { ⌜ (start ≤ length (now src)) × Updates (now sizes) (now src) start n ⌝ }
+    ensures { λ r. ⌜ r ≡ length (updatesInts [] (updates (now (sizes .entry)) (now (src .entry)) start n)) ⌝ }
+{
+    let mut total: usize = 0;
+    let mut p = start;
+    let mut left = n;
+    while 0 < left {
+        total += 3 + size_at(src, sizes, p);
+        p = update_end(src, sizes, p);
+        left -= 1;
+    }
+    total
+}
+
+// The size of the update at a place, as an int.
+fn size_int(src: &[i32], sizes: &[i32], p: usize) -> i32
+    requires { ⌜ Update (now sizes) (now src) p ⌝ }
+    ensures { λ r. ⌜ r ≡ pos (sizeAt (now (sizes .entry)) (now (src .entry)) p) ⌝ }
+{
+    let raw_type_id = nat_at(src, p);
+    if known_size(sizes, raw_type_id) < 4294967296 {
+        return sizes[raw_type_id];
+    }
+    src[p + 2]
+}
+
+// The update at a place with its size, into out at a place, where it has room; the place after it.
+fn write_update(src: &[i32], sizes: &[i32], p: usize, out: &mut [i32], at: usize) -> usize
+    requires { ⌜ Update (now sizes) (now src) p × (at + length (updateInts [] (updateAt (now sizes) (now src) p)) ≤ length (now out)) ⌝ }
+    ensures { λ r. ⌜ (r ≡ at + length (updateInts [] (updateAt (now (sizes .entry)) (now (src .entry)) p))) × (now (out .exit) ≡ layAt at (updateInts [] (updateAt (now (sizes .entry)) (now (src .entry)) p)) (now (out .entry))) ⌝ }
+{
+    let behind = p + 2;
+    ints::copy_into(out, at, &src[p..behind]);
+    let size_place = at + 2;
+    out[size_place] = size_int(src, sizes, p);
+    let data = update_data(src, sizes, p);
+    ints::copy_into(out, at + 3, data);
+    at + 3 + data.len()
+}
+
+// The n updates from a place on with their sizes, into out from a place on, where they have room; the place after them.
+fn write_updates(
+    src: &[i32],
+    sizes: &[i32],
+    start: usize,
+    n: usize,
+    out: &mut [i32],
+    first: usize,
+) -> usize
+    requires { ⌜ Updates (now sizes) (now src) start n × (first + length (updatesInts [] (updates (now sizes) (now src) start n)) ≤ length (now out)) ⌝ }
+    ensures { λ r. ⌜ (r ≡ first + length (updatesInts [] (updates (now (sizes .entry)) (now (src .entry)) start n))) × (now (out .exit) ≡ layAt first (updatesInts [] (updates (now (sizes .entry)) (now (src .entry)) start n)) (now (out .entry))) ⌝ }
+{
+    let mut at = first;
+    let mut p = start;
+    let mut left = n;
+    while 0 < left {
+        at = write_update(src, sizes, p, out, at);
+        p = update_end(src, sizes, p);
+        left -= 1;
+    }
+    at
+}
+
+// A delta of ints in form under known sizes, with its sizes written, into the front of out; where it does not fit, out is left as it was.
+pub fn write_area(
+    src: &[i32],
+    sizes: &[i32],
+    deleted: usize,
+    updated: usize,
+    out: &mut [i32],
+) -> Stored
+    requires { ⌜ HeldDelta (now sizes) (now src) deleted updated ⌝ }
+    ensures { λ r. ⌜ stored (now (out .entry)) (return (writtenDelta (deltaIn (now (sizes .entry)) (now (src .entry))))) ≡ record { answer = storedInts r; out = now (out .exit) } ⌝ }
+{
+    let front = 3 + deleted;
+    let n = front + updates_len(src, sizes, front, updated);
+    if out.len() < n {
+        return Stored::Refused(Error::CapacityError);
+    }
+    ints::copy_into(out, 0, &src[..front]);
+    Stored::Ints(write_updates(src, sizes, front, updated, out, front))
+}
+
+// The place of the first deleted key of a rank or above, from a place on before which all are below it.
+fn deleted_from(src: &[i32], deleted: usize, start: usize, low: usize) -> usize
+    requires { ⌜ (3 + deleted ≤ length (now src)) × (start ≤ deleted) × Under (now src) start low ⌝ }
+    ensures { λ r. ⌜ Reached (now (src .entry)) deleted r low ⌝ }
+{
+    let mut i = start;
+    while i < deleted {
+        if low <= rank(bits_at(src, 3 + i)) {
+            return i;
+        }
+        i += 1;
+    }
+    i
+}
+
+// Whether there is an i-th deleted key, and it is of a rank.
+fn has_rank(src: &[i32], deleted: usize, i: usize, here: usize) -> bool
+    requires { ⌜ 3 + deleted ≤ length (now src) ⌝ }
+    ensures { λ r. ⌜ r ≡ (ltb i deleted && eqb (Deltas.rank (deletedAt (now (src .entry)) i)) here) ⌝ }
+{
+    if i < deleted {
+        return rank(bits_at(src, 3 + i)) == here;
+    }
+    false
+}
+
+// How many updates are of deleted keys: one walk along both lists, which rise as signed.
+pub fn count_delete_updates(src: &[i32], sizes: &[i32], deleted: usize, updated: usize) -> usize
+    requires { ⌜ HeldDelta (now sizes) (now src) deleted updated ⌝ }
+    ensures { λ r. ⌜ (deleteUpdates (deltaIn (now (sizes .entry)) (now (src .entry)) .deleted) (deltaIn (now (sizes .entry)) (now (src .entry)) .updated) ≡ deletedCounts r) × (r ≤ updated) ⌝ }
+{
+    let mut total: usize = 0;
+    let mut i: usize = 0;
+    let mut p = 3 + deleted;
+    let mut left = updated;
+    while 0 < left {
+        let here = rank(update_bits(src, p));
+        i = deleted_from(src, deleted, i, here);
+        total += ints::one_if(has_rank(src, deleted, i, here));
+        p = update_end(src, sizes, p);
+        left -= 1;
+    }
+    total
+}
+
+// A delta of ints that rise already, read into the front of out; of other ints nothing is read, and out is left as it was.
+pub fn read_ordered(src: &[i32], sizes: &[i32], out: &mut [i32]) -> Ordered
+    ensures { λ r. ⌜ OrderedRead (now (sizes .entry)) (now (src .entry)) (now (out .entry)) (now (out .exit)) r ⌝ }
+{
+    let DeltaForm::Delta {
+        deleted,
+        updated,
+        ints,
+    } = form(src, sizes)
+    else {
+        return Ordered::Other;
+    };
+    if ints != src.len() {
+        return Ordered::Other;
+    }
+    let answer = write_area(src, sizes, deleted, updated, out);
+    let delete_updates = count_delete_updates(src, sizes, deleted, updated);
+    Ordered::Read {
+        answer,
+        delete_updates,
+    }
+}

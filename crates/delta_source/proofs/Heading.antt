@@ -1,0 +1,99 @@
+-- The header of a delta, step by step. Assumes nothing.
+use mathlib.Core.Path.{_≡_, refl, sym, ap, _∙_}
+use mathlib.Core.Bool.{Bool, true, false, cond, not}
+use Prim.Native.Nat.{ℕ, _+_, _≤_, _<_, _^_}
+use native.Mathlib.Omega.{arith}
+use lib.Dec.{eqb}
+use lib.IntN.{ℤ}
+use lib.Signed.{mag}
+use Rattle.definitions.specs.Refusals.{unexpectedEnd, intOutOfRange}
+use Rattle.definitions.specs.Warnings.{Counts, NonZeroPadding, plus}
+use Rattle.definitions.specs.Outcome.{ok, err, return, warnIf, after, _>>_}
+use Rattle.definitions.specs.Packed.{warned}
+use Rattle.definitions.specs.Tables.{num}
+use Rattle.definitions.specs.TableReading.{nonNegative}
+use Rattle.definitions.specs.DeltaReading.{Got, DeltaHeader, headerNumber, readDeltaHeader}
+use Rattle.laws.specs.Tests.{at-most-one}
+use Rattle.laws.specs.OutcomeLaws.{after-after}
+use Rattle.laws.specs.WarningLaws.{packed, warned-packed, plus-none, plus-assoc}
+use Rattle.format.specs.declared.Error.{Error}
+use Rattle.format.specs.declared.Error.the-variants as error
+use Rattle.packer.specs.declared.IntRead.the-variants as read
+use Rattle.delta_source.specs.Source.{Source, size, from, Next, found, nothing, Headers, oddPadding}
+use Rattle.delta_source.specs.Source as Source
+use Rattle.delta_source.specs.Steps.{Numbers, paddingOf, HeaderOf}
+use Rattle.delta_source.specs.Steps as Steps
+use Rattle.delta_source.specs.declared.checked.Number.the-variants as number
+use Rattle.delta_source.specs.declared.checked.Header.{Header}
+use Rattle.delta_source.specs.declared.checked.Header.the-variants as header
+use Rattle.delta_source.proofs.Reading.{more-warned, as-count, as-negative}
+
+-- ---- a number
+
+module _ (s : Source) (at : ℕ) where
+  pub no-number : Next s at read.End → Numbers s at (number.Refused error.UnexpectedEnd 0 0)
+  unfolding headerNumber
+  no-number (nothing e) = Steps.refused {e = error.UnexpectedEnd} {o = 0} {p = 0} (rw (e unexpectedEnd)) (omega arith) (omega arith)
+
+  module _ {x : ℤ} {next : ℕ} (overlong padding : Bool) where
+    pub negative-number : Next s at (read.Int x next overlong padding) → mag x < 2 ^ 31 → 2 ^ 32 ≤ num x → Numbers s at (number.Refused error.IntOutOfRange (cond overlong 1 0) (cond padding 1 0))
+    unfolding headerNumber
+    negative-number (found e a b) m h =
+        Steps.refused {e = error.IntOutOfRange} {o = cond overlong 1 0} {p = cond padding 1 0}
+        (rw (e, ap nonNegative (as-negative x m h)) (ap (err intOutOfRange) (plus-none (warned overlong padding) ∙ warned-packed overlong padding)))
+        (at-most-one overlong) (at-most-one padding)
+
+    pub number-read : Next s at (read.Int x next overlong padding) → num x < 2 ^ 32 → Numbers s at (number.Number (num x) next (cond overlong 1 0) (cond padding 1 0))
+    unfolding headerNumber
+    number-read (found e a b) h =
+        let r : Got ℕ = record { value = num x; rest = from s next } in
+        Steps.some-number {n = num x} {next = next} {o = cond overlong 1 0} {p = cond padding 1 0}
+        (rw (e, ap nonNegative (as-count x h)) (ap (ok r) (plus-none (warned overlong padding) ∙ warned-packed overlong padding)))
+        (at-most-one overlong) (at-most-one padding) b
+
+-- the place behind a number
+pub number-inside : {s : Source} {at n next o p : ℕ} → Numbers s at (number.Number n next o p) → (next ≤ size s) × (o ≤ 1) × (p ≤ 1)
+number-inside (Steps.some-number e a b c) = (c, a, b)
+
+pub refusal-small : {s : Source} {at o p : ℕ} {e : Error} → Numbers s at (number.Refused e o p) → (o ≤ 1) × (p ≤ 1)
+refusal-small (Steps.refused e a b) = (a, b)
+
+-- ---- the padding
+
+odd-warned : (odd : Bool) (r : Got DeltaHeader) → (warnIf odd NonZeroPadding >> return r) ≡ ok r (oddPadding odd)
+odd-warned true r = refl
+odd-warned false r = refl
+
+module _ (s : Source) (at k u o p : ℕ) where
+  pub no-padding : Next s at read.End → HeaderOf s (after (packed o p) (paddingOf k u (from s at))) (header.Refused error.UnexpectedEnd o p)
+  unfolding paddingOf
+  no-padding (nothing e) = Steps.refused {e = error.UnexpectedEnd} {o = o} {p = p} (rw (e unexpectedEnd) (ap (err unexpectedEnd) (plus-none (packed o p))))
+
+  module _ {x : ℤ} {next : ℕ} (overlong padding odd : Bool) where
+    pub padding-read : Next s at (read.Int x next overlong padding) → odd ≡ not (eqb (num x) 0) → HeaderOf s (after (packed o p) (paddingOf k u (from s at))) (header.Delta k u odd next (o + cond overlong 1 0) (p + cond padding 1 0))
+    unfolding paddingOf
+    padding-read (found e a b) q =
+        let w = warned overlong padding in
+        let r : Got DeltaHeader = record { value = record { deleted = k; updated = u }; rest = from s next } in
+        Steps.delta {k = k} {u = u} {next = next} {o = o + cond overlong 1 0} {p = p + cond padding 1 0} {odd = odd}
+        (rw (e, ← q, odd-warned odd r) (ap (ok r) (sym (plus-assoc (packed o p) w (oddPadding odd)) ∙ ap (λ (v : Counts). plus v (oddPadding odd)) (more-warned o p overlong padding)))) b
+
+-- ---- the header
+
+module _ (s : Source) where
+  both-read : (k a o p u d o₂ p₂ : ℕ) → headerNumber (from s 0) ≡ ok (record { value = k; rest = from s a }) (packed o p) → headerNumber (from s a) ≡ ok (record { value = u; rest = from s d }) (packed o₂ p₂) → readDeltaHeader (from s 0) ≡ after (packed (o + o₂) (p + p₂)) (paddingOf k u (from s d))
+  unfolding readDeltaHeader paddingOf
+  both-read k a o p u d o₂ p₂ q r = rw (q, r) (after-after (packed o p) (packed o₂ p₂) (paddingOf k u (from s d)))
+
+  pub first-refused : {e : Error} {o p : ℕ} → Numbers s 0 (number.Refused e o p) → Headers s (header.Refused e o p)
+  unfolding readDeltaHeader
+  first-refused {e} {o} {p} (Steps.refused q a b) = Source.refused {e = e} {o = o} {p = p} (rw q)
+
+  module _ {k a o p : ℕ} where
+    pub second-refused : {e : Error} {o₂ p₂ : ℕ} → Numbers s 0 (number.Number k a o p) → Numbers s a (number.Refused e o₂ p₂) → Headers s (header.Refused e (o + o₂) (p + p₂))
+    unfolding readDeltaHeader
+    second-refused {e} {o₂} {p₂} (Steps.some-number q x y z) (Steps.refused r i j) = Source.refused {e = e} {o = o + o₂} {p = p + p₂} (rw (q, r))
+
+    pub header-judged : {u d o₂ p₂ : ℕ} {h : Header} → Numbers s 0 (number.Number k a o p) → Numbers s a (number.Number u d o₂ p₂) → HeaderOf s (after (packed (o + o₂) (p + p₂)) (paddingOf k u (from s d))) h → Headers s h
+    header-judged {u} {d} {o₂} {p₂} (Steps.some-number q x y z) (Steps.some-number r i j l) (Steps.delta e b) = Source.delta (both-read k a o p u d o₂ p₂ q r ∙ e) b
+    header-judged {u} {d} {o₂} {p₂} (Steps.some-number q x y z) (Steps.some-number r i j l) (Steps.refused e) = Source.refused (both-read k a o p u d o₂ p₂ q r ∙ e)

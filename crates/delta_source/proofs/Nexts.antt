@@ -1,0 +1,87 @@
+-- The integer at a place, and whether nothing is left. Assumes nothing.
+use mathlib.Core.Path.{_≡_, refl, sym, ap, _∙_}
+use mathlib.Core.Bool.{Bool, true, false}
+use mathlib.Core.List.{List}
+use mathlib.Core.Logic.{⊎-elim}
+use Prim.Native.Nat.{ℕ, _+_, _≤_, _<_}
+use native.Mathlib.Numerals.{add-one}
+use native.Mathlib.Omega.{arith}
+use borrow.Author.Tests.{le-leb, lt-leb}
+use lib.Dec.{leb}
+use lib.IntN.{ℤ, pos}
+use lib.ListN.{length, drop, getD, length-drop, drop-of-length-le}
+use lib.Seq.{drop-cons}
+use Rattle.definitions.specs.Refusals.{unexpectedEnd}
+use Rattle.definitions.specs.Warnings as Warnings
+use Rattle.definitions.specs.Outcome.{Outcome, ok, err}
+use Rattle.definitions.specs.Packed.{Read, warned, readInt}
+use Rattle.definitions.specs.Packer.{readIntAt}
+use Rattle.definitions.specs.Stream.{int, end, andThen, stream}
+use Rattle.definitions.specs.DeltaReading.{intStream, isEnd}
+use Rattle.laws.specs.Tests.{below}
+use Rattle.laws.specs.StreamLaws.{stream-end, stream-step, ended}
+use Rattle.laws.specs.StreamLaws as StreamLaws
+use Rattle.packer.specs.Answers.{intRead}
+use Rattle.packer.specs.declared.IntRead.{IntRead}
+use Rattle.packer.specs.declared.IntRead.the-variants as read
+use Rattle.delta_source.specs.Source.{Source, source, size, from, Next, found, nothing}
+
+-- ---- packed bytes
+
+module _ (src : List ℕ) (l : List ℤ) (at : ℕ) where
+  stream-past : length src ≤ at → stream (drop at src) ≡ end
+  stream-past h = ap stream (drop-of-length-le src h) ∙ stream-end
+
+  pub read-next : (r : IntRead) → readIntAt src at ≡ intRead r → Next (source true src l) at r
+  unfolding from
+  read-next (read.Int x next o p) e =
+      let f = StreamLaws.found src at x next (warned o p) e in
+      found (f .step) (f .on) (f .inside)
+  read-next read.End e =
+      ⊎-elim
+      (λ (h : at < length src). nothing (λ refusal. rw (ended src at unexpectedEnd Warnings.none h e)))
+      (λ (h : length src ≤ at). nothing (λ refusal. rw (stream-past h)))
+      (below at (length src))
+
+  then-more : (o : Outcome Read) → isEnd (andThen o stream) ≡ false
+  then-more (ok r w) = refl
+  then-more (err n w) = refl
+
+  pub packed-end : leb (length src) at ≡ isEnd (from (source true src l) at)
+  unfolding from
+  packed-end =
+      ⊎-elim
+      (λ (h : at < length src).
+      lt-leb (length src) at h
+      ∙ sym (ap isEnd (stream-step (drop at src) (simp length-drop (omega arith))) ∙ then-more (readInt (drop at src))))
+      (λ (h : length src ≤ at). le-leb (length src) at h ∙ sym (ap isEnd (stream-past h)))
+      (below at (length src))
+
+-- ---- ints
+
+module _ (src : List ℕ) (l : List ℤ) (at : ℕ) where
+  int-step : at < length l → intStream (drop at l) ≡ int (getD l at (pos 0)) Warnings.none (intStream (drop (at + 1) l))
+  int-step h = rw (add-one at) (ap intStream (drop-cons l at (pos 0) h))
+
+  int-past : length l ≤ at → intStream (drop at l) ≡ end
+  int-past h = ap intStream (drop-of-length-le l h)
+
+  pub int-next : at < length l → Next (source false src l) at (read.Int (getD l at (pos 0)) (at + 1) false false)
+  unfolding from
+  int-next h = found {x = getD l at (pos 0)} {next = at + 1} {o = false} {p = false} (int-step h) (omega arith) (omega arith)
+
+  pub no-int : length l ≤ at → Next (source false src l) at read.End
+  unfolding from
+  no-int h = nothing (λ refusal. rw (int-past h))
+
+  pub ints-end : leb (length l) at ≡ isEnd (from (source false src l) at)
+  unfolding from
+  ints-end =
+      ⊎-elim
+      (λ (h : at < length l). lt-leb (length l) at h ∙ sym (ap isEnd (int-step h)))
+      (λ (h : length l ≤ at). le-leb (length l) at h ∙ sym (ap isEnd (int-past h)))
+      (below at (length l))
+
+-- the place behind an integer
+pub next-inside : {s : Source} {at next : ℕ} {x : ℤ} {o p : Bool} → Next s at (read.Int x next o p) → next ≤ size s
+next-inside (found e a b) = b

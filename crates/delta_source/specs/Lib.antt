@@ -1,0 +1,5 @@
+-- What is read by place from packed bytes or from ints. Assumes nothing.
+pub mod Source
+pub mod Steps
+pub mod SourceLaws
+pub mod SourceBounds

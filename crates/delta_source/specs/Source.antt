@@ -1,0 +1,104 @@
+-- What is read by place from packed bytes or from ints. Assumes nothing.
+use mathlib.Core.Path.{_≡_}
+use mathlib.Core.Bool.{Bool, true, false, cond}
+use mathlib.Core.List.{List, [], _∷_}
+use mathlib.Core.Option.{Option, some, none}
+use Prim.Native.Nat.{ℕ, _<_, _≤_}
+use lib.IntN.{ℤ}
+use lib.ListN.{length, drop}
+use Rattle.definitions.specs.Ints.{bits}
+use Rattle.definitions.specs.Areas.{layAt}
+use Rattle.definitions.specs.Warnings.{Counts, NonZeroPadding, one, plus}
+use Rattle.definitions.specs.Warnings as Warnings
+use Rattle.definitions.specs.Outcome.{ok, err, refuse}
+use Rattle.definitions.specs.Packed.{warned}
+use Rattle.definitions.specs.Stream.{Stream, int, stream}
+use Rattle.definitions.specs.Tables.{Item}
+use Rattle.definitions.specs.Deltas.{updatesInts}
+use Rattle.definitions.specs.DeltaReading.{intStream, isEnd, nextInts, readHead, readUpdate, readDeltaHeader}
+use Rattle.definitions.specs.DeltaReading as Reading
+use Rattle.laws.specs.WarningLaws.{packed}
+use Rattle.format.specs.Numbers.{number}
+use Rattle.format.specs.declared.Error.{Error}
+use Rattle.packer.specs.declared.IntRead.{IntRead}
+use Rattle.packer.specs.declared.IntRead.the-variants as read
+use Rattle.delta_source.specs.declared.checked.Skip.{Skip}
+use Rattle.delta_source.specs.declared.checked.Skip.the-variants as skip
+use Rattle.delta_source.specs.declared.checked.Head.{Head}
+use Rattle.delta_source.specs.declared.checked.Head.the-variants as head
+use Rattle.delta_source.specs.declared.checked.Update.{Update}
+use Rattle.delta_source.specs.declared.checked.Update.the-variants as whole-update
+use Rattle.delta_source.specs.declared.checked.Header.{Header}
+use Rattle.delta_source.specs.declared.checked.Header.the-variants as header
+use Rattle.delta_source.specs.declared.checked.Ended.{Ended}
+use Rattle.delta_source.specs.declared.checked.Ended.the-variants as ended
+use Rattle.delta_source.specs.declared.checked.Judged.{Judged}
+
+-- packed bytes, or ints
+pub record Source : Type 0 where
+  pub packed : Bool
+  pub bytes : List ℕ
+  pub ints : List ℤ
+
+abbrev pub source : Bool → List ℕ → List ℤ → Source
+source p b i = record { packed = p; bytes = b; ints = i }
+
+-- how many bytes, or ints
+abbrev pub size : Source → ℕ
+size s = cond (s .packed) (length (s .bytes)) (length (s .ints))
+
+-- the integers from a place on
+unfoldable pub from : Source → ℕ → Stream
+from s at = cond (s .packed) (stream (drop at (s .bytes))) (intStream (drop at (s .ints)))
+
+-- the integer at a place, or that there is none
+pub data Next (s : Source) (at : ℕ) : IntRead → Type 0 where
+  found : {x : ℤ} {next : ℕ} {o p : Bool} → from s at ≡ int x (warned o p) (from s next) → at < next → next ≤ size s → Next s at (read.Int x next o p)
+  nothing : ((refusal : ℕ) → Reading.next refusal (from s at) ≡ refuse refusal) → Next s at read.End
+
+-- n integers were passed over, or are not all there
+pub data Skips (s : Source) (at n : ℕ) : Skip → Type 0 where
+  past : {next o p : ℕ} (xs : List ℤ) → length xs ≡ n → ((refusal : ℕ) → nextInts refusal n (from s at) ≡ ok (record { value = xs; rest = from s next }) (packed o p)) → at ≤ next → next ≤ size s → Skips s at n (skip.Past next o p)
+  short : {o p : ℕ} → ((refusal : ℕ) → nextInts refusal n (from s at) ≡ err refusal (packed o p)) → Skips s at n (skip.Short o p)
+
+-- n integers that are there stand in an area from a place on
+abbrev pub Copies : Source → ℕ → ℕ → ℕ → List ℤ → List ℤ → Type 0
+Copies s at n to before after =
+    (xs : List ℤ) (rest : Stream) (w : Counts) (refusal : ℕ) → nextInts refusal n (from s at) ≡ ok (record { value = xs; rest = rest }) w → after ≡ layAt to xs before
+
+-- the head of an update, or why there is none
+pub data Heads (s : Source) (sizes : List ℤ) (at : ℕ) : Head → Type 0 where
+  update : {k : ℤ} {n d o p : ℕ} → readHead sizes (from s at) ≡ ok (record { value = record { key = bits k; size = n }; rest = from s d }) (packed o p) → at < d → d ≤ size s → Heads s sizes at (head.Update k n d o p)
+  refused : {e : Error} {o p : ℕ} → readHead sizes (from s at) ≡ err (number e) (packed o p) → Heads s sizes at (head.Refused e o p)
+
+-- an update, whose n differences begin at d, or why there is none
+pub data Updates (s : Source) (sizes : List ℤ) (at : ℕ) : Update → Type 0 where
+  update : {k : ℤ} {n d next o p : ℕ} (xs : List ℤ) (v : Counts) → length xs ≡ n → ((refusal : ℕ) → nextInts refusal n (from s d) ≡ ok (record { value = xs; rest = from s next }) v) → readUpdate sizes (from s at) ≡ ok (record { value = record { key = bits k; values = xs }; rest = from s next }) (packed o p) → at < d → d ≤ next → next ≤ size s → Updates s sizes at (whole-update.Update k n d next o p)
+  refused : {e : Error} {o p : ℕ} → readUpdate sizes (from s at) ≡ err (number e) (packed o p) → Updates s sizes at (whole-update.Refused e o p)
+
+-- a warning of padding that is not 0
+abbrev pub oddPadding : Bool → Counts
+oddPadding odd = cond odd (one NonZeroPadding) Warnings.none
+
+-- the header of a delta, or why there is none
+pub data Headers (s : Source) : Header → Type 0 where
+  delta : {k u next o p : ℕ} {odd : Bool} → readDeltaHeader (from s 0) ≡ ok (record { value = record { deleted = k; updated = u }; rest = from s next }) (plus (packed o p) (oddPadding odd)) → next ≤ size s → Headers s (header.Delta k u odd next o p)
+  refused : {e : Error} {o p : ℕ} → readDeltaHeader (from s 0) ≡ err (number e) (packed o p) → Headers s (header.Refused e o p)
+
+-- the updates from a place on, the packer's warnings up to their end, and the refusal that ends them, if any
+pub data Walks (s : Source) (sizes : List ℤ) : ℕ → List Item → Counts → Option ℕ → Type 0 where
+  whole : {at : ℕ} → isEnd (from s at) ≡ true → Walks s sizes at [] Warnings.none none
+  broken : {at n : ℕ} {w : Counts} → isEnd (from s at) ≡ false → readUpdate sizes (from s at) ≡ err n w → Walks s sizes at [] w (some n)
+  more : {at next : ℕ} {u : Item} {us : List Item} {v w : Counts} {e : Option ℕ} → isEnd (from s at) ≡ false → readUpdate sizes (from s at) ≡ ok (record { value = u; rest = from s next }) v → at < next → next ≤ size s → Walks s sizes next us w e → Walks s sizes at (u ∷ us) (plus v w) e
+
+-- the refusal of an ending
+abbrev pub refusalOf : Ended → Option ℕ
+refusalOf ended.Whole = none
+refusalOf (ended.Refused e) = some (number e)
+
+-- what is told of the updates from a place on
+pub record Judges (s : Source) (sizes : List ℤ) (at : ℕ) (j : Judged) : Type 0 where
+  pub items : List Item
+  pub walks : Walks s sizes at items (packed (j .overlong) (j .padding)) (refusalOf (j .ended))
+  pub count-is : j .updates ≡ length items
+  pub room-is : j .room ≡ length (updatesInts [] items)

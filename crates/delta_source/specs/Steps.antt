@@ -1,0 +1,70 @@
+-- The steps of reading a head and a header, and what the functions of each step tell. Assumes nothing.
+use mathlib.Core.Path.{_≡_}
+use mathlib.Core.Bool.{Bool, cond, not}
+use mathlib.Core.List.{List}
+use mathlib.Core.Option.{Option, some, none}
+use Prim.Native.Nat.{ℕ, _≤_, _^_}
+use lib.Dec.{ltb, eqb}
+use lib.IntN.{ℤ}
+use Rattle.definitions.specs.Ints.{bits}
+use Rattle.definitions.specs.Refusals.{unexpectedEnd, typeIdRange, idRange}
+use Rattle.definitions.specs.Warnings.{NonZeroPadding, plus}
+use Rattle.definitions.specs.Outcome.{Outcome, ok, err, return, require, warnIf, _>>=_, _>>_}
+use Rattle.definitions.specs.Stream.{Stream}
+use Rattle.definitions.specs.Tables.{keyOf, num}
+use Rattle.definitions.specs.Deltas.{knownSize}
+use Rattle.definitions.specs.DeltaReading.{Got, DeltaHeader, next, headerNumber, updateSize}
+use Rattle.definitions.specs.DeltaReading as Reading
+use Rattle.laws.specs.WarningLaws.{packed}
+use Rattle.format.specs.Numbers.{number}
+use Rattle.format.specs.declared.Error.{Error}
+use Rattle.delta_source.specs.Source.{Source, from, size, oddPadding}
+use Rattle.delta_source.specs.declared.checked.Head.{Head}
+use Rattle.delta_source.specs.declared.checked.Head.the-variants as head
+use Rattle.delta_source.specs.declared.checked.Header.{Header}
+use Rattle.delta_source.specs.declared.checked.Header.the-variants as header
+use Rattle.delta_source.specs.declared.checked.Number.{Number}
+use Rattle.delta_source.specs.declared.checked.Number.the-variants as found
+
+-- a size as a number: 2^32 is unknown
+abbrev pub sized : ℕ → Option ℕ
+sized n = cond (ltb n (2 ^ 32)) (some n) none
+
+-- ---- a head
+
+-- the head with a key, of whose size so much is known
+unfoldable pub sizeOf : Option ℕ → ℕ → Stream → Outcome (Got Reading.Head)
+sizeOf o key s = do
+  size ← updateSize o s
+  return (record { value = record { key = key; size = size .value }; rest = size .rest })
+
+-- the head with a type and an id
+unfoldable pub headOf : List ℤ → ℤ → ℤ → Stream → Outcome (Got Reading.Head)
+headOf sizes type id s = do
+  require (ltb (num type) 65536) typeIdRange
+  require (ltb (num id) 65536) idRange
+  sizeOf (knownSize sizes (num type)) (keyOf (num type) (num id)) s
+
+-- a head that was read from a place on, or why there is none
+pub data HeadOf (s : Source) (at : ℕ) (o : Outcome (Got Reading.Head)) : Head → Type 0 where
+  update : {k : ℤ} {n d over padd : ℕ} → o ≡ ok (record { value = record { key = bits k; size = n }; rest = from s d }) (packed over padd) → at ≤ d → d ≤ size s → HeadOf s at o (head.Update k n d over padd)
+  refused : {e : Error} {over padd : ℕ} → o ≡ err (number e) (packed over padd) → HeadOf s at o (head.Refused e over padd)
+
+-- ---- a header
+
+-- the header with its two numbers: its padding
+unfoldable pub paddingOf : ℕ → ℕ → Stream → Outcome (Got DeltaHeader)
+paddingOf deleted updated s = do
+  padding ← next unexpectedEnd s
+  warnIf (not (eqb (num (padding .value)) 0)) NonZeroPadding
+  return (record { value = record { deleted = deleted; updated = updated }; rest = padding .rest })
+
+-- a number of the header, or why there is none
+pub data Numbers (s : Source) (at : ℕ) : Number → Type 0 where
+  some-number : {n next o p : ℕ} → headerNumber (from s at) ≡ ok (record { value = n; rest = from s next }) (packed o p) → o ≤ 1 → p ≤ 1 → next ≤ size s → Numbers s at (found.Number n next o p)
+  refused : {e : Error} {o p : ℕ} → headerNumber (from s at) ≡ err (number e) (packed o p) → o ≤ 1 → p ≤ 1 → Numbers s at (found.Refused e o p)
+
+-- a header that was read, or why there is none
+pub data HeaderOf (s : Source) (r : Outcome (Got DeltaHeader)) : Header → Type 0 where
+  delta : {k u next o p : ℕ} {odd : Bool} → r ≡ ok (record { value = record { deleted = k; updated = u }; rest = from s next }) (plus (packed o p) (oddPadding odd)) → next ≤ size s → HeaderOf s r (header.Delta k u odd next o p)
+  refused : {e : Error} {o p : ℕ} → r ≡ err (number e) (packed o p) → HeaderOf s r (header.Refused e o p)

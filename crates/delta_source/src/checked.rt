@@ -1,0 +1,585 @@
+// A delta's source is packed bytes or ints; the other slice is not looked at.
+ghost use mathlib.Core.Path.{_≡_};
+ghost use mathlib.Core.Bool.{true};
+ghost use mathlib.Core.List.{List};
+ghost use mathlib.Core.Option.{none};
+ghost use Prim.Native.Nat.{_+_, _≤_, _^_};
+ghost use lib.IntN.{ℤ};
+ghost use lib.ListN.{length};
+ghost use Rattle.definitions.specs.Ints.{bits};
+ghost use Rattle.definitions.specs.Outcome.{after};
+ghost use Rattle.definitions.specs.Deltas.{knownSize};
+ghost use Rattle.definitions.specs.DeltaReading.{isEnd};
+ghost use Rattle.laws.specs.WarningLaws as Laws;
+ghost use Rattle.delta_source.specs.Source.{source, size, from, Next, Skips, Copies, Heads, Updates, Headers, Judges};
+ghost use Rattle.delta_source.specs.Steps.{sized, sizeOf, headOf, HeadOf, paddingOf, Numbers, HeaderOf};
+ghost use Rattle.delta_source.specs.declared.checked.Head.the-variants as head;
+ghost use Rattle.delta_source.specs.declared.checked.Update.the-variants as update;
+ghost use Rattle.delta_source.specs.declared.checked.Header.the-variants as header;
+use format::Error;
+use packer::IntRead;
+use table::checked::nat_at;
+use table::checked::num;
+
+// The integer at a place.
+pub fn next_int(bytes: &[u8], ints: &[i32], packed: bool, at: usize) -> IntRead
+    requires { ⌜ at ≤ size (source packed (now bytes) (now ints)) ⌝ }
+    ensures { λ r. ⌜ Next (source packed (now (bytes .entry)) (now (ints .entry))) at r ⌝ }
+{
+    if packed {
+        return packer::read_int(bytes, at);
+    }
+    if ints.len() <= at {
+        return IntRead::End;
+    }
+    IntRead::Int {
+        value: ints[at],
+        next: at + 1,
+        overlong: false,
+        padding: false,
+    }
+}
+
+// Whether nothing is left.
+pub fn at_end(bytes: &[u8], ints: &[i32], packed: bool, at: usize) -> bool
+    requires { ⌜ at ≤ size (source packed (now bytes) (now ints)) ⌝ }
+    ensures { λ r. ⌜ r ≡ isEnd (from (source packed (now (bytes .entry)) (now (ints .entry))) at) ⌝ }
+{
+    if packed {
+        return bytes.len() <= at;
+    }
+    ints.len() <= at
+}
+
+// What passing over some integers comes to: the place behind them, or that they are not all there; with the packer's warnings counted.
+pub enum Skip {
+    Past {
+        next: usize,
+        overlong: usize,
+        padding: usize,
+    },
+    Short {
+        overlong: usize,
+        padding: usize,
+    },
+}
+
+// Passes over n packed integers, as far as the bytes go.
+pub fn skip_packed(bytes: &[u8], start: usize, n: usize) -> Skip
+    requires { ⌜ start ≤ length (now bytes) ⌝ }
+    ensures { λ r. ⌜ ((i : List ℤ) → Skips (source true (now (bytes .entry)) i) start n r) ⌝ }
+{
+    let mut at = start;
+    let mut left = n;
+    let mut overlong: usize = 0;
+    let mut padding: usize = 0;
+    while 0 < left {
+        let IntRead::Int {
+            next,
+            overlong: o,
+            padding: p,
+            ..
+        } = packer::read_int(bytes, at)
+        else {
+            return Skip::Short { overlong, padding };
+        };
+        overlong += ints::one_if(o);
+        padding += ints::one_if(p);
+        at = next;
+        left -= 1;
+    }
+    Skip::Past {
+        next: at,
+        overlong,
+        padding,
+    }
+}
+
+// Passes over n integers. Ints are not looked at.
+pub fn skip_ints(bytes: &[u8], ints: &[i32], packed: bool, at: usize, n: usize) -> Skip
+    requires { ⌜ at ≤ size (source packed (now bytes) (now ints)) ⌝ }
+    ensures { λ r. ⌜ Skips (source packed (now (bytes .entry)) (now (ints .entry))) at n r ⌝ }
+{
+    if packed {
+        return skip_packed(bytes, at, n);
+    }
+    if ints.len() - at < n {
+        return Skip::Short {
+            overlong: 0,
+            padding: 0,
+        };
+    }
+    Skip::Past {
+        next: at + n,
+        overlong: 0,
+        padding: 0,
+    }
+}
+
+// Copies n packed integers, which are there, into out from a place on.
+pub fn copy_packed(bytes: &[u8], start: usize, n: usize, out: &mut [i32], to: usize)
+    requires { ⌜ (start ≤ length (now bytes)) × (to + n ≤ length (now out)) ⌝ }
+    ensures { λ _. ⌜ ((i : List ℤ) → Copies (source true (now (bytes .entry)) i) start n to (now (out .entry)) (now (out .exit))) ⌝ }
+{
+    let mut at = start;
+    let mut i: usize = 0;
+    while i < n {
+        let IntRead::Int { value, next, .. } = packer::read_int(bytes, at) else {
+            return;
+        };
+        out[to + i] = value;
+        at = next;
+        i += 1;
+    }
+}
+
+// Copies n integers, which are there, into out from a place on.
+pub fn copy_ints(
+    bytes: &[u8],
+    ints: &[i32],
+    packed: bool,
+    at: usize,
+    n: usize,
+    out: &mut [i32],
+    to: usize,
+)
+    requires { ⌜ (at ≤ size (source packed (now bytes) (now ints))) × (to + n ≤ length (now out)) ⌝ }
+    ensures { λ _. ⌜ Copies (source packed (now (bytes .entry)) (now (ints .entry))) at n to (now (out .entry)) (now (out .exit)) ⌝ }
+{
+    if packed {
+        copy_packed(bytes, at, n, out, to);
+        return;
+    }
+    if ints.len() - at < n {
+        return;
+    }
+    ints::copy_into(out, to, &ints[at..at + n]);
+}
+
+// An update's key, how many differences it has, and where they begin; or why there is none.
+pub enum Head {
+    Update {
+        key: i32,
+        size: usize,
+        data: usize,
+        overlong: usize,
+        padding: usize,
+    },
+    Refused {
+        error: Error,
+        overlong: usize,
+        padding: usize,
+    },
+}
+
+// Why there is no head.
+pub fn head_refused(error: Error, overlong: usize, padding: usize) -> Head
+    ensures { λ r. ⌜ r ≡ head.Refused error overlong padding ⌝ }
+{
+    Head::Refused {
+        error,
+        overlong,
+        padding,
+    }
+}
+
+// The size that is known of a type; 2^32 where none is.
+pub fn known_size(sizes: &[i32], type_id: usize) -> usize
+    ensures { λ r. ⌜ (knownSize (now (sizes .entry)) «type_id» ≡ sized r) × (r ≤ 2 ^ 32) ⌝ }
+{
+    if sizes.len() <= type_id {
+        return 4294967296;
+    }
+    nat_at(sizes, type_id)
+}
+
+// The head with a key, whose size stands at a place; the warnings so far are added.
+pub fn read_size(
+    bytes: &[u8],
+    ints: &[i32],
+    packed: bool,
+    at: usize,
+    key: i32,
+    overlong: usize,
+    padding: usize,
+) -> Head
+    requires { ⌜ (at ≤ size (source packed (now bytes) (now ints))) × (overlong ≤ 2) × (padding ≤ 2) ⌝ }
+    ensures { λ r. ⌜ HeadOf (source packed (now (bytes .entry)) (now (ints .entry))) at (after (Laws.packed overlong padding) (sizeOf none (bits key) (from (source packed (now (bytes .entry)) (now (ints .entry))) at))) r ⌝ }
+{
+    let IntRead::Int {
+        value,
+        next,
+        overlong: o,
+        padding: p,
+    } = next_int(bytes, ints, packed, at)
+    else {
+        return head_refused(Error::ItemDiffsUnpacking, overlong, padding);
+    };
+    let overlong = overlong + ints::one_if(o);
+    let padding = padding + ints::one_if(p);
+    let size = num(value);
+    if 4294967296 <= size {
+        return head_refused(Error::NegativeSize, overlong, padding);
+    }
+    Head::Update {
+        key,
+        size,
+        data: next,
+        overlong,
+        padding,
+    }
+}
+
+// The head with a type and an id, which end at a place; the warnings so far are added.
+pub fn judge_head(
+    bytes: &[u8],
+    ints: &[i32],
+    packed: bool,
+    sizes: &[i32],
+    at: usize,
+    type_id: i32,
+    id: i32,
+    overlong: usize,
+    padding: usize,
+) -> Head
+    requires { ⌜ (at ≤ size (source packed (now bytes) (now ints))) × (overlong ≤ 2) × (padding ≤ 2) ⌝ }
+    ensures { λ r. ⌜ HeadOf (source packed (now (bytes .entry)) (now (ints .entry))) at (after (Laws.packed overlong padding) (headOf (now (sizes .entry)) «type_id» id (from (source packed (now (bytes .entry)) (now (ints .entry))) at))) r ⌝ }
+{
+    let t = num(type_id);
+    if 65536 <= t {
+        return head_refused(Error::TypeIdRange, overlong, padding);
+    }
+    let i = num(id);
+    if 65536 <= i {
+        return head_refused(Error::IdRange, overlong, padding);
+    }
+    let key = format::key(t as u16, i as u16);
+    let known = known_size(sizes, t);
+    if 4294967296 <= known {
+        return read_size(bytes, ints, packed, at, key, overlong, padding);
+    }
+    Head::Update {
+        key,
+        size: known,
+        data: at,
+        overlong,
+        padding,
+    }
+}
+
+// The head of the update at a place.
+pub fn read_head(bytes: &[u8], ints: &[i32], packed: bool, sizes: &[i32], at: usize) -> Head
+    requires { ⌜ at ≤ size (source packed (now bytes) (now ints)) ⌝ }
+    ensures { λ r. ⌜ Heads (source packed (now (bytes .entry)) (now (ints .entry))) (now (sizes .entry)) at r ⌝ }
+{
+    let IntRead::Int {
+        value: type_id,
+        next: behind,
+        overlong: o,
+        padding: p,
+    } = next_int(bytes, ints, packed, at)
+    else {
+        return head_refused(Error::ItemDiffsUnpacking, 0, 0);
+    };
+    let overlong = ints::one_if(o);
+    let padding = ints::one_if(p);
+    let IntRead::Int {
+        value: id,
+        next,
+        overlong: o2,
+        padding: p2,
+    } = next_int(bytes, ints, packed, behind)
+    else {
+        return head_refused(Error::ItemDiffsUnpacking, overlong, padding);
+    };
+    let overlong = overlong + ints::one_if(o2);
+    let padding = padding + ints::one_if(p2);
+    judge_head(
+        bytes,
+        ints,
+        packed,
+        sizes,
+        next,
+        type_id,
+        id,
+        overlong,
+        padding,
+    )
+}
+
+// The same with the place behind the update.
+pub enum Update {
+    Update {
+        key: i32,
+        size: usize,
+        data: usize,
+        next: usize,
+        overlong: usize,
+        padding: usize,
+    },
+    Refused {
+        error: Error,
+        overlong: usize,
+        padding: usize,
+    },
+}
+
+// Why there is no update.
+pub fn update_refused(error: Error, overlong: usize, padding: usize) -> Update
+    ensures { λ r. ⌜ r ≡ update.Refused error overlong padding ⌝ }
+{
+    Update::Refused {
+        error,
+        overlong,
+        padding,
+    }
+}
+
+// The update at a place.
+pub fn read_update(bytes: &[u8], ints: &[i32], packed: bool, sizes: &[i32], at: usize) -> Update
+    requires { ⌜ at ≤ size (source packed (now bytes) (now ints)) ⌝ }
+    ensures { λ r. ⌜ Updates (source packed (now (bytes .entry)) (now (ints .entry))) (now (sizes .entry)) at r ⌝ }
+{
+    match read_head(bytes, ints, packed, sizes, at) {
+        Head::Refused {
+            error,
+            overlong,
+            padding,
+        } => update_refused(error, overlong, padding),
+        Head::Update {
+            key,
+            size,
+            data,
+            overlong,
+            padding,
+        } => match skip_ints(bytes, ints, packed, data, size) {
+            Skip::Short {
+                overlong: o,
+                padding: p,
+            } => update_refused(Error::ItemDiffsUnpacking, overlong + o, padding + p),
+            Skip::Past {
+                next,
+                overlong: o,
+                padding: p,
+            } => Update::Update {
+                key,
+                size,
+                data,
+                next,
+                overlong: overlong + o,
+                padding: padding + p,
+            },
+        },
+    }
+}
+
+// A delta's header: its two numbers, whether its padding is not 0, and where the deleted keys begin; or why there is none.
+pub enum Header {
+    Delta {
+        deleted: usize,
+        updated: usize,
+        odd: bool,
+        next: usize,
+        overlong: usize,
+        padding: usize,
+    },
+    Refused {
+        error: Error,
+        overlong: usize,
+        padding: usize,
+    },
+}
+
+// Why there is no header.
+pub fn header_refused(error: Error, overlong: usize, padding: usize) -> Header
+    ensures { λ r. ⌜ r ≡ header.Refused error overlong padding ⌝ }
+{
+    Header::Refused {
+        error,
+        overlong,
+        padding,
+    }
+}
+
+// A number of the header, and where the next one stands; or why there is none.
+pub enum Number {
+    Number {
+        value: usize,
+        next: usize,
+        overlong: usize,
+        padding: usize,
+    },
+    Refused {
+        error: Error,
+        overlong: usize,
+        padding: usize,
+    },
+}
+
+// The number of the header at a place.
+pub fn read_number(bytes: &[u8], ints: &[i32], packed: bool, at: usize) -> Number
+    requires { ⌜ at ≤ size (source packed (now bytes) (now ints)) ⌝ }
+    ensures { λ r. ⌜ Numbers (source packed (now (bytes .entry)) (now (ints .entry))) at r ⌝ }
+{
+    let IntRead::Int {
+        value,
+        next,
+        overlong: o,
+        padding: p,
+    } = next_int(bytes, ints, packed, at)
+    else {
+        return Number::Refused {
+            error: Error::UnexpectedEnd,
+            overlong: 0,
+            padding: 0,
+        };
+    };
+    let overlong = ints::one_if(o);
+    let padding = ints::one_if(p);
+    let number = num(value);
+    if 4294967296 <= number {
+        return Number::Refused {
+            error: Error::IntOutOfRange,
+            overlong,
+            padding,
+        };
+    }
+    Number::Number {
+        value: number,
+        next,
+        overlong,
+        padding,
+    }
+}
+
+// The header with its two numbers, whose padding stands at a place; the warnings so far are added.
+pub fn read_padding(
+    bytes: &[u8],
+    ints: &[i32],
+    packed: bool,
+    at: usize,
+    deleted: usize,
+    updated: usize,
+    overlong: usize,
+    padding: usize,
+) -> Header
+    requires { ⌜ (at ≤ size (source packed (now bytes) (now ints))) × (overlong ≤ 2) × (padding ≤ 2) ⌝ }
+    ensures { λ r. ⌜ HeaderOf (source packed (now (bytes .entry)) (now (ints .entry))) (after (Laws.packed overlong padding) (paddingOf deleted updated (from (source packed (now (bytes .entry)) (now (ints .entry))) at))) r ⌝ }
+{
+    let IntRead::Int {
+        value,
+        next,
+        overlong: o,
+        padding: p,
+    } = next_int(bytes, ints, packed, at)
+    else {
+        return header_refused(Error::UnexpectedEnd, overlong, padding);
+    };
+    Header::Delta {
+        deleted,
+        updated,
+        odd: num(value) != 0,
+        next,
+        overlong: overlong + ints::one_if(o),
+        padding: padding + ints::one_if(p),
+    }
+}
+
+// The header of a delta.
+pub fn read_header(bytes: &[u8], ints: &[i32], packed: bool) -> Header
+    ensures { λ r. ⌜ Headers (source packed (now (bytes .entry)) (now (ints .entry))) r ⌝ }
+{
+    match read_number(bytes, ints, packed, 0) {
+        Number::Refused {
+            error,
+            overlong,
+            padding,
+        } => header_refused(error, overlong, padding),
+        Number::Number {
+            value: deleted,
+            next: behind,
+            overlong,
+            padding,
+        } => match read_number(bytes, ints, packed, behind) {
+            Number::Refused {
+                error,
+                overlong: o,
+                padding: p,
+            } => header_refused(error, overlong + o, padding + p),
+            Number::Number {
+                value: updated,
+                next,
+                overlong: o,
+                padding: p,
+            } => read_padding(
+                bytes,
+                ints,
+                packed,
+                next,
+                deleted,
+                updated,
+                overlong + o,
+                padding + p,
+            ),
+        },
+    }
+}
+
+// How a run of updates ends: at the end of the source, or in a refusal.
+pub enum Ended {
+    Whole,
+    Refused(Error),
+}
+
+// How many updates there are, how many ints they take in an area, and how they end.
+pub struct Judged {
+    pub updates: usize,
+    pub room: usize,
+    pub overlong: usize,
+    pub padding: usize,
+    pub ended: Ended,
+}
+
+// The updates from a place on, one after the other.
+pub fn judge_updates(bytes: &[u8], ints: &[i32], packed: bool, sizes: &[i32], at: usize) -> Judged
+    requires { ⌜ at ≤ size (source packed (now bytes) (now ints)) ⌝ }
+    ensures { λ r. ⌜ Judges (source packed (now (bytes .entry)) (now (ints .entry))) (now (sizes .entry)) at r ⌝ }
+{
+    let mut here = at;
+    let mut t = Judged {
+        updates: 0,
+        room: 0,
+        overlong: 0,
+        padding: 0,
+        ended: Ended::Whole,
+    };
+    while !at_end(bytes, ints, packed, here) {
+        match read_update(bytes, ints, packed, sizes, here) {
+            Update::Refused {
+                error,
+                overlong,
+                padding,
+            } => return Judged {
+                updates: t.updates,
+                room: t.room,
+                overlong: t.overlong + overlong,
+                padding: t.padding + padding,
+                ended: Ended::Refused(error),
+            },
+            Update::Update {
+                size,
+                next,
+                overlong,
+                padding,
+                ..
+            } => {
+                here = next;
+                t.updates += 1;
+                t.room += 3 + size;
+                t.overlong += overlong;
+                t.padding += padding;
+            }
+        }
+    }
+    t
+}

@@ -1,0 +1,2 @@
+// Writing deltas of areas under known sizes, as ints and packed.
+pub mod checked;
