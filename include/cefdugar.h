@@ -277,6 +277,101 @@ uint32_t cef_table_add_item(int32_t *area, size_t area_len,
                             const int32_t *values, size_t values_len,
                             size_t *count);
 
+/* ---- Deltas ---- */
+
+/* The most ints that a delta between two tables takes. */
+#define CEF_DELTA_INTS 18433
+
+/*
+ * A delta between two tables stands in a lent area of ints: deleted count,
+ * updated count, 0; the deleted keys; then type, id, size and differences for
+ * each update. Keys rise in both lists, read as signed. A delta begins at the
+ * area's first int; the ints behind it are not judged and are left.
+ *
+ * `sizes` is a list by type of how long the data of its items is known to be.
+ * A type that is absent, or whose entry is negative, has no known size. Where
+ * a delta is written, a known size is not written with it.
+ *
+ * CEF_NOT_IN_FORM means that an area holds no table, or no delta where one is
+ * asked for. A refused call leaves everything that was lent, but for the key
+ * of CEF_DELTA_DIFFERING_SIZES.
+ */
+
+/*
+ * Writes the empty delta, three ints, to the front of the `out_len` ints at
+ * `out`.
+ *
+ * CEF_OK: *count is 3.
+ * CEF_CAPACITY_ERROR: out_len < 3. `out` and *count are left.
+ */
+uint32_t cef_delta_clear(int32_t *out, size_t out_len, size_t *count);
+
+/*
+ * Makes the delta that leads from the table in `base` to the one in `target`,
+ * in the front of the `out_len` ints at `out`. Every item of the target is an
+ * update.
+ *
+ * CEF_OK: the delta takes *count ints there. *clash is left.
+ * CEF_DELTA_DIFFERING_SIZES: both tables have an item with the key *clash,
+ * with data of different lengths. `out` and *count are left.
+ * CEF_NOT_IN_FORM, CEF_CAPACITY_ERROR: `out`, *count and *clash are left.
+ */
+uint32_t cef_delta_create(const int32_t *base, size_t base_len,
+                          const int32_t *target, size_t target_len,
+                          int32_t *out, size_t out_len, size_t *count,
+                          int32_t *clash);
+
+/*
+ * Writes a delta to the front of the `out_len` ints at `out`, without the
+ * sizes that are known.
+ *
+ * CEF_OK: *count ints are written.
+ * CEF_NOT_IN_FORM, CEF_KNOWN_SIZE_DIFFERS where an update is not as long as
+ * its type is known to be, CEF_CAPACITY_ERROR, judged in this order: `out`
+ * and *count are left.
+ */
+uint32_t cef_delta_write_to_ints(const int32_t *area, size_t area_len,
+                                 const int32_t *sizes, size_t sizes_len,
+                                 int32_t *out, size_t out_len, size_t *count);
+
+/*
+ * Packs a delta into the front of the `out_len` bytes at `out`, without the
+ * sizes that are known. Answers as cef_delta_write_to_ints does; *count is
+ * how many bytes are written.
+ */
+uint32_t cef_delta_write(const int32_t *area, size_t area_len,
+                         const int32_t *sizes, size_t sizes_len, uint8_t *out,
+                         size_t out_len, size_t *count);
+
+/* ---- Differences of single items ---- */
+
+/*
+ * Writes what is to be added to the `from_len` ints at `from` for the `to_len`
+ * ints at `to`, modulo 2^32, to the front of the `out_len` ints at `out`.
+ * Where has_from is 0 there is no item to begin with, `from` is not looked at
+ * and the ints are those at `to`.
+ *
+ * CEF_OK: *count ints are written, to_len of them.
+ * CEF_DELTA_DIFFERING_SIZES: has_from is not 0, and from_len != to_len.
+ * CEF_CAPACITY_ERROR: out_len < to_len.
+ * A refused call leaves `out` and *count.
+ */
+uint32_t cef_create_item_delta(uint32_t has_from, const int32_t *from,
+                               size_t from_len, const int32_t *to,
+                               size_t to_len, int32_t *out, size_t out_len,
+                               size_t *count);
+
+/*
+ * Adds the `delta_len` differences at `delta` to the `from_len` ints at
+ * `from`, modulo 2^32, in the front of the `out_len` ints at `out`. Where
+ * has_from is 0 the ints are those at `delta`. Answers as
+ * cef_create_item_delta does.
+ */
+uint32_t cef_apply_item_delta(uint32_t has_from, const int32_t *from,
+                              size_t from_len, const int32_t *delta,
+                              size_t delta_len, int32_t *out, size_t out_len,
+                              size_t *count);
+
 #ifdef __cplusplus
 }
 #endif

@@ -187,6 +187,7 @@ static const int32_t TABLE_INTS[] = {8, 1, 0, 65538, 7};
 static int32_t scratch[CEF_SCRATCH_INTS];
 static int32_t area[CEF_TABLE_INTS + 8];
 static int32_t data[CEF_TABLE_INTS];
+static int32_t longest[CEF_DELTA_INTS];
 
 static void check_table_read(void)
 {
@@ -356,6 +357,145 @@ static void check_table_add(void)
     CHECK(count == CEF_TABLE_INTS);
 }
 
+static void check_delta_create(void)
+{
+    /* Keys 3, 65537 and -1 become 3, 65538 and -1. */
+    const int32_t base[] = {24, 3, 0, 8, 16, 3, 40, 65537, 1, -1, 5, 777};
+    const int32_t target[] = {24, 3, 0, 8, 16, 3, 41, 65538, 7, -1, INT32_MIN};
+    const int32_t delta[] = {1, 3, 0, 65537, 65535, 65535, 1, INT32_MAX - 4, 0,
+                             3, 1, 1, 1,     2,     1,     7};
+    const size_t len = 16;
+    int32_t out[20];
+    size_t count = LEFT;
+    int32_t clash = LEFT;
+
+    fill_ints(out, 20);
+    CHECK(cef_delta_clear(out, 2, &count) == CEF_CAPACITY_ERROR);
+    CHECK(cef_delta_create(base, 10, target, 11, out, 20, &count, &clash) == CEF_NOT_IN_FORM);
+    CHECK(cef_delta_create(base, 11, target, 10, out, 20, &count, &clash) == CEF_NOT_IN_FORM);
+    CHECK(cef_delta_create(base, 12, target, 11, out, len - 1, &count, &clash) ==
+          CEF_CAPACITY_ERROR);
+    CHECK(count == LEFT && clash == LEFT && ints_left(out, 0, 20));
+    CHECK(cef_delta_create(base, 12, target, 11, out, 20, &count, &clash) == CEF_OK);
+    CHECK(count == len && clash == LEFT && memcmp(out, delta, sizeof delta) == 0);
+    CHECK(ints_left(out, len, 20));
+    CHECK(cef_delta_clear(out, 3, &count) == CEF_OK && count == 3);
+    CHECK(out[0] == 0 && out[1] == 0 && out[2] == 0 && out[3] == delta[3]);
+
+    /* The key -1 with one int and with none, also where there is no room. */
+    const int32_t other[] = {4, 1, 0, -1};
+    for (size_t room = 0; room < 20; room++) {
+        fill_ints(out, 20);
+        count = LEFT;
+        clash = LEFT;
+        CHECK(cef_delta_create(base, 11, other, 4, out, room, &count, &clash) ==
+              CEF_DELTA_DIFFERING_SIZES);
+        CHECK(count == LEFT && clash == -1 && ints_left(out, 0, 20));
+    }
+
+    /* Two full tables without a common key make the longest delta. */
+    for (uint16_t side = 0; side < 2; side++) {
+        CHECK(cef_table_empty(side ? scratch : area, CEF_TABLE_INTS, &count) == CEF_OK);
+        for (uint16_t id = 0; id < CEF_TABLE_ITEMS; id++)
+            CHECK(cef_table_add_item(side ? scratch : area, CEF_TABLE_INTS, side, id, data,
+                                     id < 1022 ? 14 : 13, &count) == CEF_OK);
+    }
+    CHECK(count == CEF_TABLE_INTS);
+    count = LEFT;
+    CHECK(cef_delta_create(area, CEF_TABLE_INTS, scratch, CEF_TABLE_INTS, longest,
+                           CEF_DELTA_INTS - 1, &count, &clash) == CEF_CAPACITY_ERROR);
+    CHECK(count == LEFT);
+    CHECK(cef_delta_create(area, CEF_TABLE_INTS, scratch, CEF_TABLE_INTS, longest,
+                           CEF_DELTA_INTS, &count, &clash) == CEF_OK);
+    CHECK(count == CEF_DELTA_INTS);
+}
+
+static void check_delta_write(void)
+{
+    /* Key -1 goes; type 1 gets two ints, type 2 none, type 9 one. */
+    const int32_t delta[] = {1, 3, 0, -1, 1, 4, 2, 70, -70, 2, 4, 0, 9, 9, 1, 5, 777};
+    const int32_t none[] = {1, 3, 0, -1, 1, 4, 2, 70, -70, 2, 4, 0, 9, 9, 1, 5};
+    const int32_t known[] = {1, 3, 0, -1, 1, 4, 70, -70, 2, 4, 9, 9, 1, 5};
+    const int32_t right[] = {7, 2, 0, 7};
+    const int32_t unknown[] = {7, -1, INT32_MIN};
+    const int32_t wrong[] = {7, 2, 1};
+    const struct {
+        const int32_t *sizes;
+        size_t sizes_len;
+        const int32_t *ints;
+        size_t len;
+    } written[] = {{right, 0, none, 16}, {unknown, 3, none, 16}, {right, 4, known, 14}};
+    int32_t out[20];
+    uint8_t bytes[40];
+    uint8_t packed[40];
+    size_t count = LEFT;
+
+    for (size_t i = 0; i < 3; i++) {
+        const int32_t *sizes = written[i].sizes;
+        const size_t sizes_len = written[i].sizes_len;
+        const size_t len = written[i].len;
+        fill_ints(out, 20);
+        count = LEFT;
+        CHECK(cef_delta_write_to_ints(delta, 17, sizes, sizes_len, out, len - 1, &count) ==
+              CEF_CAPACITY_ERROR);
+        CHECK(cef_delta_write_to_ints(delta, 15, sizes, sizes_len, out, 20, &count) ==
+              CEF_NOT_IN_FORM);
+        CHECK(count == LEFT && ints_left(out, 0, 20));
+        CHECK(cef_delta_write_to_ints(delta, 17, sizes, sizes_len, out, 20, &count) == CEF_OK);
+        CHECK(count == len && ints_left(out, len, 20));
+        CHECK(memcmp(out, written[i].ints, len * sizeof out[0]) == 0);
+
+        size_t size = 0;
+        memset(packed, 0xaa, sizeof packed);
+        for (size_t j = 0; j < len; j++)
+            CHECK(cef_write_int(packed, sizeof packed, size, out[j], &size) == CEF_OK);
+        memset(bytes, 0xaa, sizeof bytes);
+        count = LEFT;
+        CHECK(cef_delta_write(delta, 17, sizes, sizes_len, bytes, size - 1, &count) ==
+              CEF_CAPACITY_ERROR);
+        CHECK(cef_delta_write(delta, 15, sizes, sizes_len, bytes, 40, &count) == CEF_NOT_IN_FORM);
+        CHECK(count == LEFT && bytes[0] == 0xaa);
+        CHECK(cef_delta_write(delta, 17, sizes, sizes_len, bytes, 40, &count) == CEF_OK);
+        CHECK(count == size && memcmp(bytes, packed, sizeof packed) == 0);
+    }
+    /* A size that differs comes before room that lacks, and behind the form. */
+    fill_ints(out, 20);
+    memset(bytes, 0xaa, sizeof bytes);
+    count = LEFT;
+    CHECK(cef_delta_write_to_ints(delta, 17, wrong, 3, out, 0, &count) == CEF_KNOWN_SIZE_DIFFERS);
+    CHECK(cef_delta_write_to_ints(delta, 15, wrong, 3, out, 20, &count) == CEF_NOT_IN_FORM);
+    CHECK(cef_delta_write(delta, 17, wrong, 3, bytes, 0, &count) == CEF_KNOWN_SIZE_DIFFERS);
+    CHECK(cef_delta_write(delta, 15, wrong, 3, bytes, 40, &count) == CEF_NOT_IN_FORM);
+    CHECK(count == LEFT && ints_left(out, 0, 20) && bytes[0] == 0xaa);
+}
+
+/* The examples of the original's format.rs. */
+static void check_item_deltas(void)
+{
+    const int32_t old[] = {0, 1337, 42, INT32_MAX};
+    const int32_t new[] = {0, 1338, 21, INT32_MIN};
+    const int32_t delta[] = {0, 1, -21, 1};
+    int32_t out[5];
+    size_t count = LEFT;
+
+    fill_ints(out, 5);
+    CHECK(cef_create_item_delta(1, old, 3, new, 4, out, 5, &count) == CEF_DELTA_DIFFERING_SIZES);
+    CHECK(cef_apply_item_delta(2, old, 3, delta, 4, out, 3, &count) == CEF_DELTA_DIFFERING_SIZES);
+    CHECK(cef_create_item_delta(1, old, 4, new, 4, out, 3, &count) == CEF_CAPACITY_ERROR);
+    CHECK(cef_apply_item_delta(1, old, 4, delta, 4, out, 3, &count) == CEF_CAPACITY_ERROR);
+    CHECK(cef_create_item_delta(0, old, 0, new, 4, out, 3, &count) == CEF_CAPACITY_ERROR);
+    CHECK(cef_apply_item_delta(0, old, 0, delta, 4, out, 3, &count) == CEF_CAPACITY_ERROR);
+    CHECK(count == LEFT && ints_left(out, 0, 5));
+    CHECK(cef_create_item_delta(1, old, 4, new, 4, out, 5, &count) == CEF_OK && count == 4);
+    CHECK(memcmp(out, delta, sizeof delta) == 0 && out[4] == LEFT);
+    CHECK(cef_apply_item_delta(UINT32_MAX, old, 4, delta, 4, out, 5, &count) == CEF_OK);
+    CHECK(count == 4 && memcmp(out, new, sizeof new) == 0 && out[4] == LEFT);
+    CHECK(cef_create_item_delta(0, old, 3, new, 4, out, 4, &count) == CEF_OK && count == 4);
+    CHECK(memcmp(out, new, sizeof new) == 0);
+    CHECK(cef_apply_item_delta(0, old, 3, delta, 4, out, 4, &count) == CEF_OK && count == 4);
+    CHECK(memcmp(out, delta, sizeof delta) == 0);
+}
+
 int main(void)
 {
     check_read();
@@ -364,6 +504,9 @@ int main(void)
     check_table_read();
     check_table_calls();
     check_table_add();
+    check_delta_create();
+    check_delta_write();
+    check_item_deltas();
     printf("C program: %d checks, %d not so\n", checks, failures);
     return failures == 0 ? 0 : 1;
 }

@@ -2,11 +2,16 @@
 use mathlib.Core.List.{List, [], _∷_}
 use mathlib.Core.Bool.{Bool, cond}
 use mathlib.Core.Option.{Option, some, none}
-use Prim.Native.Nat.{ℕ}
-use Rattle.definitions.specs.Warnings.{Counts}
+use mathlib.Core.Path.{_≡_}
+use Prim.Native.Nat.{ℕ, zero, suc}
 use lib.IntN.{ℤ}
+use Rattle.definitions.specs.Ints.{bits}
+use Rattle.definitions.specs.Refusals.{deltaDifferingSizes}
+use Rattle.definitions.specs.Warnings.{Counts}
 use Rattle.definitions.specs.Stored.{stored}
 use Rattle.definitions.specs.Outcome.{Outcome, ok, err, return, Wrote}
+use Rattle.definitions.specs.Tables.{Table}
+use Rattle.delta_making.specs.Answers.{Differing}
 
 -- the 13 counts in their order
 abbrev pub row : Counts → List ℕ
@@ -59,3 +64,13 @@ keyOr before none = before
 abbrev pub ended : Option ℤ → ℕ
 ended (some k) = 0
 ended none = 1
+
+-- ints that are there where a flag is not 0
+abbrev pub given : ℕ → List ℤ → Option (List ℤ)
+given zero l = none
+given (suc n) l = some l
+
+-- a place for a clashing key, before and after a call, by its answer: 10 comes with such a key, else what stood there is left
+pub record Named (b t : Table) (before after : ℤ) (r : ℕ) : Type 0 where
+  pub differs : r ≡ deltaDifferingSizes → Differing b t (bits after)
+  pub left : (r ≡ deltaDifferingSizes → ⊥) → after ≡ before

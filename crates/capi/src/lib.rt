@@ -2,14 +2,17 @@
 ghost use mathlib.Core.Path.{_≡_};
 ghost use Rattle.definitions.specs.Packer.{readIntAt, writeIntAt, unpackInto};
 ghost use Rattle.format.specs.Totals.{counts};
+ghost use Rattle.format.specs.Answers.{storedInts};
 ghost use Rattle.capi.specs.Boundary as Boundary;
 ghost use Rattle.capi.specs.Boundary.{status, warningsOf, output, flag};
 use format::Error;
+use format::Stored;
 use format::Warnings;
 use packer::IntRead;
 use packer::IntWrite;
 use packer::IntsRead;
 
+pub mod deltas;
 pub mod tables;
 
 // The 13 counts in their order.
@@ -31,6 +34,20 @@ fn row(w: Warnings) -> [usize; 13]
         w.differing_attributes,
         w.weird_negative_delta_tick,
     ]
+}
+
+// A count where there is one, and the number of the answer.
+fn told(w: Stored, count: &mut usize) -> u32
+    ensures { λ r. ⌜ r ≡ status (storedInts w) ⌝ }
+    ensures { λ _. ⌜ now (count .exit) ≡ output (λ n. n) (now (count .entry)) (storedInts w) ⌝ }
+{
+    match w {
+        Stored::Ints(n) => {
+            *count = n;
+            0
+        }
+        Stored::Refused(e) => format::error_number(e),
+    }
 }
 
 // The packed integer at a place of src.

@@ -4,29 +4,13 @@ ghost use lib.ListN.{length};
 ghost use Rattle.definitions.specs.Areas.{cleared};
 ghost use Rattle.definitions.specs.Tables.{keyOf};
 ghost use Rattle.definitions.specs.TableCalls.{emptyCall, readCall, readFromIntsCall, writeToIntsCall, writeCall, numItemsCall, hasItemCall, itemCall, crcCall, walkKeyCall, walkItemCall, addItemCall};
-ghost use Rattle.raw_snap.specs.Answers.{tableWrite};
 ghost use Rattle.capi.specs.Boundary as Boundary;
 ghost use Rattle.capi.specs.Boundary.{status, warningsOf, output, flag, partInto, keyOr, ended};
 use packer::IntWrite;
 use raw_snap::Checksum;
 use raw_snap::Count;
 use raw_snap::Has;
-use raw_snap::TableWrite;
 use raw_snap::Walked;
-
-// A count where there is one, and the number of the answer.
-fn told(w: TableWrite, count: &mut usize) -> u32
-    ensures { λ r. ⌜ r ≡ status (tableWrite w) ⌝ }
-    ensures { λ _. ⌜ now (count .exit) ≡ output (λ n. n) (now (count .entry)) (tableWrite w) ⌝ }
-{
-    match w {
-        TableWrite::Ints(n) => {
-            *count = n;
-            0
-        }
-        TableWrite::Refused(e) => format::error_number(e),
-    }
-}
 
 // Ints into the front of out.
 fn part_into(part: &[i32], out: &mut [i32], count: &mut usize) -> u32
@@ -48,7 +32,7 @@ pub extern "C" fn cef_table_empty(out: &mut [i32], count: &mut usize) -> u32
     ensures { λ _. ⌜ now (out .exit) ≡ emptyCall (now (out .entry)) .out ⌝ }
     ensures { λ _. ⌜ now (count .exit) ≡ output (λ n. n) (now (count .entry)) (emptyCall (now (out .entry)) .answer) ⌝ }
 {
-    told(raw_snap::empty(out), count)
+    super::told(raw_snap::empty(out), count)
 }
 
 // A packed table into the front of out.
@@ -69,7 +53,7 @@ pub extern "C" fn cef_table_read(
     let read = raw_snap::read(src, out, scratch);
     *warnings = super::row(read.warnings);
     let answer = read.answer;
-    told(answer, count)
+    super::told(answer, count)
 }
 
 // A table of ints into the front of out.
@@ -88,7 +72,7 @@ pub extern "C" fn cef_table_read_from_ints(
     let read = raw_snap::read_from_ints(src, out);
     *warnings = super::row(read.warnings);
     let answer = read.answer;
-    told(answer, count)
+    super::told(answer, count)
 }
 
 // A table packed into the front of out.
@@ -115,7 +99,7 @@ pub extern "C" fn cef_table_write_to_ints(area: &[i32], out: &mut [i32], count: 
     ensures { λ _. ⌜ now (out .exit) ≡ writeToIntsCall (now (area .entry)) (now (out .entry)) .out ⌝ }
     ensures { λ _. ⌜ now (count .exit) ≡ output (λ n. n) (now (count .entry)) (writeToIntsCall (now (area .entry)) (now (out .entry)) .answer) ⌝ }
 {
-    told(raw_snap::write_to_ints(area, out), count)
+    super::told(raw_snap::write_to_ints(area, out), count)
 }
 
 // How many items a table has.
@@ -236,7 +220,7 @@ pub extern "C" fn cef_table_add_item(
     ensures { λ _. ⌜ now (area .exit) ≡ addItemCall (now (area .entry)) (record { key = keyOf «raw_type_id» id; values = now (values .entry) }) .out ⌝ }
     ensures { λ _. ⌜ now (count .exit) ≡ output (λ n. n) (now (count .entry)) (addItemCall (now (area .entry)) (record { key = keyOf «raw_type_id» id; values = now (values .entry) }) .answer) ⌝ }
 {
-    told(
+    super::told(
         raw_snap::raw_builder::add_item(area, raw_type_id, id, values),
         count,
     )

@@ -4,6 +4,7 @@
 //! it. [`plain`] has the same calls one to one: numbers are lent and a number
 //! is answered, so that a caller sees what was set and what was left.
 
+pub mod delta;
 pub mod plain;
 mod sys;
 pub mod table;

@@ -203,3 +203,112 @@ pub fn table_add_item(
         )
     }
 }
+
+/// Writes the empty delta to the front of `out`. Refused (40): `out` and
+/// `count` are left.
+pub fn delta_clear(out: &mut [i32], count: &mut usize) -> u32 {
+    unsafe { sys::cef_delta_clear(out.as_mut_ptr(), out.len(), count) }
+}
+
+/// Makes the delta from one table to another in the front of `out`. Refused
+/// (47, 10, 40): `out` and `count` are left. `clash` is set at 10, and else
+/// left.
+pub fn delta_create(
+    base: &[i32],
+    target: &[i32],
+    out: &mut [i32],
+    count: &mut usize,
+    clash: &mut i32,
+) -> u32 {
+    unsafe {
+        sys::cef_delta_create(
+            base.as_ptr(),
+            base.len(),
+            target.as_ptr(),
+            target.len(),
+            out.as_mut_ptr(),
+            out.len(),
+            count,
+            clash,
+        )
+    }
+}
+
+/// Writes a delta under known sizes to the front of `out`. Refused (47, 46,
+/// 40): `out` and `count` are left.
+pub fn delta_write_to_ints(area: &[i32], sizes: &[i32], out: &mut [i32], count: &mut usize) -> u32 {
+    unsafe {
+        sys::cef_delta_write_to_ints(
+            area.as_ptr(),
+            area.len(),
+            sizes.as_ptr(),
+            sizes.len(),
+            out.as_mut_ptr(),
+            out.len(),
+            count,
+        )
+    }
+}
+
+/// Packs a delta under known sizes into the front of `out`. Refused (47, 46,
+/// 40): `out` and `count` are left.
+pub fn delta_write(area: &[i32], sizes: &[i32], out: &mut [u8], count: &mut usize) -> u32 {
+    unsafe {
+        sys::cef_delta_write(
+            area.as_ptr(),
+            area.len(),
+            sizes.as_ptr(),
+            sizes.len(),
+            out.as_mut_ptr(),
+            out.len(),
+            count,
+        )
+    }
+}
+
+/// The differences of `to` from `from` into the front of `out`; where
+/// `has_from` is 0, `to` itself. Refused (10, 40): `out` and `count` are left.
+pub fn create_item_delta(
+    has_from: u32,
+    from: &[i32],
+    to: &[i32],
+    out: &mut [i32],
+    count: &mut usize,
+) -> u32 {
+    unsafe {
+        sys::cef_create_item_delta(
+            has_from,
+            from.as_ptr(),
+            from.len(),
+            to.as_ptr(),
+            to.len(),
+            out.as_mut_ptr(),
+            out.len(),
+            count,
+        )
+    }
+}
+
+/// `from` with the differences added, into the front of `out`; where
+/// `has_from` is 0, the differences themselves. Refused (10, 40): `out` and
+/// `count` are left.
+pub fn apply_item_delta(
+    has_from: u32,
+    from: &[i32],
+    delta: &[i32],
+    out: &mut [i32],
+    count: &mut usize,
+) -> u32 {
+    unsafe {
+        sys::cef_apply_item_delta(
+            has_from,
+            from.as_ptr(),
+            from.len(),
+            delta.as_ptr(),
+            delta.len(),
+            out.as_mut_ptr(),
+            out.len(),
+            count,
+        )
+    }
+}

@@ -102,4 +102,53 @@ extern "C" {
         values_len: usize,
         count: *mut usize,
     ) -> u32;
+    pub fn cef_delta_clear(out: *mut i32, out_len: usize, count: *mut usize) -> u32;
+    pub fn cef_delta_create(
+        base: *const i32,
+        base_len: usize,
+        target: *const i32,
+        target_len: usize,
+        out: *mut i32,
+        out_len: usize,
+        count: *mut usize,
+        clash: *mut i32,
+    ) -> u32;
+    pub fn cef_delta_write_to_ints(
+        area: *const i32,
+        area_len: usize,
+        sizes: *const i32,
+        sizes_len: usize,
+        out: *mut i32,
+        out_len: usize,
+        count: *mut usize,
+    ) -> u32;
+    pub fn cef_delta_write(
+        area: *const i32,
+        area_len: usize,
+        sizes: *const i32,
+        sizes_len: usize,
+        out: *mut u8,
+        out_len: usize,
+        count: *mut usize,
+    ) -> u32;
+    pub fn cef_create_item_delta(
+        has_from: u32,
+        from: *const i32,
+        from_len: usize,
+        to: *const i32,
+        to_len: usize,
+        out: *mut i32,
+        out_len: usize,
+        count: *mut usize,
+    ) -> u32;
+    pub fn cef_apply_item_delta(
+        has_from: u32,
+        from: *const i32,
+        from_len: usize,
+        delta: *const i32,
+        delta_len: usize,
+        out: *mut i32,
+        out_len: usize,
+        count: *mut usize,
+    ) -> u32;
 }

@@ -2,6 +2,7 @@
 
 pub mod area;
 pub mod bench;
+pub mod counted;
 pub mod damage;
 pub mod oracle;
 pub mod random;

@@ -1,4 +1,4 @@
-//! Bytes and numbers as text.
+//! Bytes, ints and numbers as text.
 
 /// Two digits a byte, lowercase; `-` for no bytes.
 pub fn hex(bytes: &[u8]) -> String {
@@ -14,6 +14,15 @@ pub fn hex_short(bytes: &[u8]) -> String {
     match bytes.len() {
         0..=MOST => hex(bytes),
         len => format!("{}.. ({len} bytes)", hex(&bytes[..MOST])),
+    }
+}
+
+/// Ints as a list, cut where it gets long.
+pub fn ints_short(ints: &[i32]) -> String {
+    const MOST: usize = 60;
+    match ints.len() {
+        0..=MOST => format!("{ints:?}"),
+        len => format!("{:?}.. ({len} ints)", &ints[..MOST]),
     }
 }
 

@@ -4,6 +4,7 @@
 //! Rust says stands in its `oracle`, what both sides do on one input in its
 //! `calls`, and which inputs they get in its `compare`.
 
+mod deltas;
 mod examples;
 mod packer;
 mod tables;
@@ -37,5 +38,10 @@ pub struct Part {
 }
 
 pub fn all() -> Vec<Part> {
-    vec![examples::part(), packer::part(), tables::part()]
+    vec![
+        examples::part(),
+        packer::part(),
+        tables::part(),
+        deltas::part(),
+    ]
 }

@@ -7,11 +7,15 @@ use crate::core::area::Area;
 use crate::core::area::LEFT_FLAG;
 use crate::core::area::LEFT_INT;
 use crate::core::area::LEFT_SIZE;
+use crate::core::counted::left;
+use crate::core::counted::room;
+use crate::core::counted::Counted;
 use crate::core::report::Compared;
 use crate::core::report::Difference;
 use crate::core::report::Run;
 use crate::core::report::Shown;
 use crate::core::text::hex_short;
+use crate::core::text::ints_short;
 use crate::core::told::Told;
 use cefdugar::plain;
 use cefdugar::table;
@@ -21,62 +25,11 @@ use libtw2_snapshot::snap::RawSnap;
 
 const LEFT_WARNINGS: Warnings = Warnings([LEFT_SIZE; cefdugar::WARNINGS]);
 
-/// What the caller holds after a call, beside the areas.
-#[derive(Clone, Copy, Debug, PartialEq)]
-struct Counted {
-    number: u32,
-    count: usize,
-}
-
-impl Counted {
-    const LEFT: Counted = Counted {
-        number: 0,
-        count: LEFT_SIZE,
-    };
-    /// `needed` entries into `room`, or 40.
-    fn fits(needed: usize, room: usize) -> Counted {
-        if needed <= room {
-            Counted {
-                number: 0,
-                count: needed,
-            }
-        } else {
-            Counted::refused(40)
-        }
-    }
-    fn refused(number: u32) -> Counted {
-        Counted {
-            number,
-            count: LEFT_SIZE,
-        }
-    }
-    /// As the safe calls answer it.
-    fn answer(self) -> Result<usize, Refusal> {
-        match self.number {
-            0 => Ok(self.count),
-            number => Err(Refusal(number)),
-        }
-    }
-}
-
 /// What the caller holds after a question.
 #[derive(Clone, Copy, Debug, PartialEq)]
 struct Asked<T> {
     number: u32,
     value: T,
-}
-
-fn ints_short(ints: &[i32]) -> String {
-    const MOST: usize = 60;
-    match ints.len() {
-        0..=MOST => format!("{ints:?}"),
-        len => format!("{:?}.. ({len} ints)", &ints[..MOST]),
-    }
-}
-
-/// Room for `needed` entries and `spare` more, or none where that is negative.
-fn room(needed: usize, spare: isize) -> usize {
-    (needed as isize).saturating_add(spare).max(0) as usize
 }
 
 /// The written form of the Rust's table; nothing where it refused.
@@ -85,10 +38,6 @@ fn written(said: &Told<RawSnap>) -> Vec<i32> {
         Told::Value(snap) => oracle::written(snap),
         _ => vec![],
     }
-}
-
-fn left(name: &str, how: Result<(), String>) -> Compared {
-    how.map_err(|how| Shown::touched(name, how))
 }
 
 /// The port's areas, lent again and again.

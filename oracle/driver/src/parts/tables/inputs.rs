@@ -27,7 +27,8 @@ pub fn listed(items: &[Item]) -> Vec<i32> {
     ints
 }
 
-fn key(random: &mut Random) -> i32 {
+/// A key of any sort.
+pub fn key(random: &mut Random) -> i32 {
     match random.below(4) {
         0 => random.pick(&KEYS),
         1 => random.below(40) as i32,

@@ -2,8 +2,8 @@
 
 mod bench;
 mod calls;
-mod inputs;
-mod oracle;
+pub mod inputs;
+pub mod oracle;
 mod record;
 
 use super::packer::numbered;
@@ -210,7 +210,8 @@ fn limits(run: &mut Run, calls: &mut Calls) -> Result {
     Ok(())
 }
 
-fn sorted(items: &[Item]) -> Vec<Item> {
+/// Items in the order of a table.
+pub fn sorted(items: &[Item]) -> Vec<Item> {
     let mut items = items.to_vec();
     items.sort_by_key(|(key, _)| *key as u32);
     items

@@ -1,11 +1,11 @@
--- `capi::tables::told` meets its contract: by the answer. Assumes nothing.
+-- `capi::told` meets its contract: by the answer. Assumes nothing.
 use mathlib.Core.Path.{_≡_, refl, ap, _∙_}
 use Prim.Native.Nat.{ℕ}
-use Rattle.raw_snap.specs.Answers.{tableWrite}
+use Rattle.format.specs.Answers.{storedInts}
 use Rattle.capi.proofs.Outcomes.{refused}
 use borrow.Author.Needs.{needs}
-use Rattle.capi.proofs.tables.told.Statement.{statement}
-use Rattle.capi.proofs.tables.told.Tie as tie
+use Rattle.capi.proofs.told.Statement.{statement}
+use Rattle.capi.proofs.told.Tie as tie
 
 enum-known-w : tie.Need-enum-known-w
 enum-known-w c = search needs
@@ -20,7 +20,7 @@ returns : tie.Need-returns
 returns c = search needs
 
 returns-2 : tie.Need-returns-2
-returns-2 c = refused _ (λ (n : ℕ). n) (ap tableWrite (c .before .before .w2 .given .1)) _ _ (c .error-number .ensures)
+returns-2 c = refused _ (λ (n : ℕ). n) (ap storedInts (c .before .before .w2 .given .1)) _ _ (c .error-number .ensures)
 
 pub told-spec : {M : Type 1} → statement M
 told-spec =

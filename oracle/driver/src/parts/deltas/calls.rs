@@ -1,0 +1,256 @@
+//! Each call on both sides: what was answered, what was set, what was left.
+
+use super::inputs::Ints;
+use super::oracle;
+use crate::core::area::Area;
+use crate::core::area::Pattern;
+use crate::core::area::LEFT_INT;
+use crate::core::counted::left;
+use crate::core::counted::room;
+use crate::core::counted::Counted;
+use crate::core::report::Compared;
+use crate::core::report::Difference;
+use crate::core::report::Run;
+use crate::core::report::Shown;
+use crate::core::text::ints_short;
+use crate::core::told::Told;
+use crate::parts::tables::inputs::List;
+use cefdugar::delta;
+use cefdugar::delta::NoDelta;
+use cefdugar::plain;
+use cefdugar::Refusal;
+use libtw2_snapshot::Delta;
+
+/// Room to spare: none, one too little, some, no room at all.
+const SPARES: [isize; 4] = [0, -1, 3, isize::MIN];
+
+/// What the caller is to hold where `said` is to be written to `room`
+/// entries; `panicked` is the refusal that stands for the Rust's panic.
+fn expected<T>(said: &Told<Vec<T>>, panicked: u32, room: usize) -> Counted {
+    match said {
+        Told::Value(written) => Counted::fits(written.len(), room),
+        Told::Refused(number) => Counted::refused(*number),
+        Told::Panicked => Counted::refused(panicked),
+    }
+}
+
+fn entries<T>(said: &Told<Vec<T>>) -> &[T] {
+    match said {
+        Told::Value(written) => written,
+        _ => &[],
+    }
+}
+
+/// Some room where the Rust refused, just enough and `spare` more where not.
+fn room_for<T>(said: &Told<Vec<T>>, spare: isize) -> usize {
+    match said {
+        Told::Value(written) => room(written.len(), spare),
+        _ => room(8, spare),
+    }
+}
+
+/// A call that writes to the front of an area, with all sorts of room.
+fn compare_stored<T: Pattern>(
+    out: &mut Area<T>,
+    said: &Told<Vec<T>>,
+    panicked: u32,
+    mut call: impl FnMut(&mut [T], &mut usize) -> u32,
+    mut safe: impl FnMut(&mut [T]) -> Result<usize, Refusal>,
+) -> Compared {
+    for spare in SPARES {
+        let room = room_for(said, spare);
+        let oracle = expected(said, panicked, room);
+        let written = if oracle.number == 0 {
+            entries(said)
+        } else {
+            &[]
+        };
+        let mut port = Counted::LEFT;
+        port.number = call(out.lend(room), &mut port.count);
+        Shown::compare(&oracle, &port)?;
+        left("out", out.check(0, written))?;
+        Shown::compare(&oracle.answer(), &safe(out.lend(room)))?;
+        left("out", out.check(0, written))?;
+    }
+    Ok(())
+}
+
+/// The port's areas, lent again and again.
+pub struct Calls {
+    ints: [Area<i32>; 2],
+    out: Area<i32>,
+    bytes: Area<u8>,
+}
+
+impl Calls {
+    pub fn new() -> Calls {
+        Calls {
+            ints: [Area::new(), Area::new()],
+            out: Area::new(),
+            bytes: Area::new(),
+        }
+    }
+
+    /// The delta between the tables of two areas.
+    pub fn create(
+        &mut self,
+        run: &mut Run,
+        base: &[i32],
+        target: &[i32],
+    ) -> Result<(), Difference> {
+        let compared = self.compare_create(base, target);
+        run.case(
+            compared,
+            || (List(base.to_vec()), List(target.to_vec())),
+            |(base, target)| self.compare_create(&base.0, &target.0),
+            |(base, target)| {
+                format!(
+                    "create from {} to {}",
+                    ints_short(&base.0),
+                    ints_short(&target.0)
+                )
+            },
+        )
+    }
+
+    /// Writes a delta to ints and packed.
+    pub fn write(&mut self, run: &mut Run, area: &[i32], sizes: &[i32]) -> Result<(), Difference> {
+        let compared = self.compare_write(area, sizes);
+        run.case(
+            compared,
+            || (Ints(area.to_vec()), sizes.to_vec()),
+            |(area, sizes)| self.compare_write(&area.0, sizes),
+            |(area, sizes)| {
+                let (area, sizes) = (ints_short(&area.0), ints_short(sizes));
+                format!("write of {area}, sizes {sizes}")
+            },
+        )
+    }
+
+    /// The differences of an item, made and applied. `has` is the flag.
+    pub fn item(
+        &mut self,
+        run: &mut Run,
+        has: u32,
+        from: &[i32],
+        other: &[i32],
+    ) -> Result<(), Difference> {
+        let compared = self.compare_item(has, from, other);
+        run.case(
+            compared,
+            || (has as usize, from.to_vec(), other.to_vec()),
+            |(has, from, other)| self.compare_item(*has as u32, from, other),
+            |(has, from, other)| {
+                let (from, other) = (ints_short(from), ints_short(other));
+                format!("item deltas, flag {has}, {from} and {other}")
+            },
+        )
+    }
+
+    /// The empty delta.
+    pub fn clear(&mut self, run: &mut Run, len: usize) -> Result<(), Difference> {
+        let compared = self.compare_clear(len);
+        run.case(
+            compared,
+            || len,
+            |len| self.compare_clear(*len),
+            |len| format!("the empty delta into {len} ints"),
+        )
+    }
+
+    fn compare_create(&mut self, base: &[i32], target: &[i32]) -> Compared {
+        let said = oracle::created(base, target);
+        let clashes = match said {
+            Told::Panicked => oracle::clashes(base, target),
+            _ => vec![],
+        };
+        let [lent_base, lent_target] = &mut self.ints;
+        let mut clash = LEFT_INT;
+        compare_stored(
+            &mut self.out,
+            &said,
+            10,
+            |out, count| {
+                plain::delta_create(
+                    lent_base.lend_filled(base),
+                    lent_target.lend_filled(target),
+                    out,
+                    count,
+                    &mut clash,
+                )
+            },
+            |out| delta::create(base, target, out).map_err(NoDelta::refusal),
+        )?;
+        left("base", self.ints[0].check(0, base))?;
+        left("target", self.ints[1].check(0, target))?;
+        if said != Told::Panicked {
+            return Shown::compare(&LEFT_INT, &clash);
+        }
+        let named = delta::create(base, target, self.out.lend(1));
+        Shown::compare(&Err(NoDelta::Clash(clash)), &named)?;
+        if clashes.contains(&clash) {
+            return Ok(());
+        }
+        Err(Shown {
+            oracle: format!("a key of {clashes:?}"),
+            port: format!("{clash}"),
+        })
+    }
+
+    fn compare_write(&mut self, area: &[i32], sizes: &[i32]) -> Compared {
+        let held = oracle::held(area);
+        let (ints, bytes) = match &held {
+            Some(delta) => (
+                oracle::written(delta, sizes, area.len()),
+                oracle::packed(delta, sizes, area.len()),
+            ),
+            None => (Told::Refused(47), Told::Refused(47)),
+        };
+        compare_stored(
+            &mut self.out,
+            &ints,
+            46,
+            |out, count| plain::delta_write_to_ints(area, sizes, out, count),
+            |out| delta::write_to_ints(area, sizes, out),
+        )?;
+        compare_stored(
+            &mut self.bytes,
+            &bytes,
+            46,
+            |out, count| plain::delta_write(area, sizes, out, count),
+            |out| delta::write(area, sizes, out),
+        )
+    }
+
+    fn compare_item(&mut self, has: u32, from: &[i32], other: &[i32]) -> Compared {
+        let base = (has != 0).then_some(from);
+        compare_stored(
+            &mut self.out,
+            &oracle::created_item(base, other),
+            Told::<()>::PANICKED,
+            |out, count| plain::create_item_delta(has, from, other, out, count),
+            |out| delta::create_item(base, other, out),
+        )?;
+        compare_stored(
+            &mut self.out,
+            &oracle::applied_item(base, other),
+            Told::<()>::PANICKED,
+            |out, count| plain::apply_item_delta(has, from, other, out, count),
+            |out| delta::apply_item(base, other, out),
+        )
+    }
+
+    fn compare_clear(&mut self, len: usize) -> Compared {
+        let written = oracle::written(&Delta::new(), &[], 3);
+        let oracle = expected(&written, 0, len);
+        let mut port = Counted::LEFT;
+        port.number = plain::delta_clear(self.out.lend(len), &mut port.count);
+        Shown::compare(&oracle, &port)?;
+        let written = match oracle.number {
+            0 => entries(&written),
+            _ => &[],
+        };
+        left("out", self.out.check(0, written))?;
+        Shown::compare(&oracle.answer(), &delta::clear(self.out.lend(len)))
+    }
+}
