@@ -9,30 +9,15 @@ use libc::STDOUT_FILENO;
 use packer::IntRead;
 use packer::IntWrite;
 use packer::IntsRead;
-use replay_text::put;
 use replay_text::put_byte;
 use replay_text::put_hex;
 use replay_text::put_int;
 use replay_text::put_ints;
+use replay_text::put_next;
 use replay_text::put_number;
+use replay_text::put_odd;
+use replay_text::put_refused;
 use replay_text::word;
-
-// A space and a number.
-fn put_next(out: &mut [u8], at: usize, n: usize) -> usize {
-    let end = put_byte(out, at, b' ');
-    put_number(out, end, n)
-}
-
-// The answer of a call that is refused.
-fn put_refused(out: &mut [u8], e: Error) -> usize {
-    let end = put(out, 0, b"refused ");
-    put_number(out, end, format::error_number(e) as usize)
-}
-
-// The answer of a line that is no case.
-fn put_odd(out: &mut [u8]) -> usize {
-    put(out, 0, b"odd")
-}
 
 // The counts of the packer's two warnings.
 fn put_warnings(out: &mut [u8], at: usize, w: Warnings) -> usize {

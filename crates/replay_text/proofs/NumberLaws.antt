@@ -19,7 +19,8 @@ use lib.Seq.{drop-cons, getD-take}
 use Rattle.definitions.specs.Ints.{fromBits, wrappingSub}
 use Rattle.laws.specs.Tests.{below}
 use Rattle.io.specs.Digits.{digits, glyph, Fewest}
-use Rattle.replay_text.specs.Numbers.{number, int, bytes, digit, decimal, decimalOf, hex, hexDigits, signed, list}
+use Rattle.replay_text.specs.Words.{until}
+use Rattle.replay_text.specs.Numbers.{number, int, ints, bytes, digit, decimal, decimalOf, hex, hexDigits, signed, list}
 
 -- ---- reading
 
@@ -53,6 +54,16 @@ module _ (text : List ℕ) (i : ℕ) where
 
   pub bytes-done : length text ≤ i + 1 → bytes (drop i text) ≡ []
   bytes-done h = lone (drop i text) (simp length-drop (omega arith))
+
+module _ (line : List ℕ) (i : ℕ) where
+  pub ints-next : {x : ℤ} → i < length line → getD line i 0 ≡ 32 → x ≡ int (until 32 (drop (i + 1) line)) → ints (drop i line) ≡ x ∷ ints (drop (i + 1) line)
+  ints-next h e a = rw (a, add-one, drop-cons line i 0 h, eq-eqb (getD line i 0) 32 e)
+
+  pub ints-other : i < length line → (getD line i 0 ≡ 32 → ⊥) → ints (drop i line) ≡ ints (drop (i + 1) line)
+  ints-other h n = rw (add-one, drop-cons line i 0 h, ne-eqb (getD line i 0) 32 n)
+
+  pub ints-done : length line ≤ i → ints (drop i line) ≡ []
+  ints-done h = rw (drop-of-length-le line h)
 
 -- ---- writing
 

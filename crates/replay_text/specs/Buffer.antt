@@ -1,9 +1,11 @@
--- A buffer that a text is put into. Assumes nothing.
+-- A buffer that a text is put into, and an area that ints are put into. Assumes nothing.
+use mathlib.Core.Path.{_≡_}
 use mathlib.Core.Bool.{cond}
 use mathlib.Core.List.{List, [], _∷_}
-use Prim.Native.Nat.{ℕ, _+_}
+use Prim.Native.Nat.{ℕ, _+_, _≤_}
 use lib.Dec.{ltb}
-use lib.ListN.{length, set}
+use lib.IntN.{ℤ}
+use lib.ListN.{length, set, take}
 
 -- a buffer, and the place after what was put into it
 pub record Put : Type 0 where
@@ -21,3 +23,24 @@ putByte b p =
 abbrev pub puts : List ℕ → Put → Put
 puts [] p = p
 puts (b ∷ text) p = puts text (putByte b p)
+
+-- an area of ints, and the place after what was put into it
+pub record PutInts : Type 0 where
+  pub next : ℕ
+  pub out : List ℤ
+
+-- one more int; a full area stays as it is
+unfoldable pub putValue : ℤ → PutInts → PutInts
+putValue x p =
+    cond (ltb (p .next) (length (p .out)))
+    (record { next = p .next + 1; out = set (p .out) (p .next) x })
+    (record { next = length (p .out); out = p .out })
+
+-- ints, one after the other
+abbrev pub putValues : List ℤ → PutInts → PutInts
+putValues [] p = p
+putValues (x ∷ ints) p = putValues ints (putValue x p)
+
+-- n counts ints at the start of xs; the second part follows from the first
+abbrev pub CountsInts : ℕ → List ℤ → Type 0
+CountsInts n xs = (n ≤ length xs) × (n ≡ length (take n xs))

@@ -2,3 +2,4 @@
 pub mod Words
 pub mod Buffer
 pub mod Numbers
+pub mod Answers

@@ -6,6 +6,7 @@ use lib.Dec.{ltb, eqb}
 use lib.IntN.{ℤ, pos, negsuc}
 use Rattle.definitions.specs.Ints.{fromBits, wrappingSub}
 use Rattle.io.specs.Digits.{glyph}
+use Rattle.replay_text.specs.Words.{until}
 
 -- the value of a digit, decimal or hexadecimal in lower case: the last four bits of its character, and 9 more for a letter
 abbrev pub digit : ℕ → ℕ
@@ -27,6 +28,11 @@ int (b ∷ text) =
     cond (eqb b 45)
     (wrappingSub (pos 0) (fromBits (number text % 2 ^ 32)))
     (fromBits (number (b ∷ text) % 2 ^ 32))
+
+-- the ints of the words of a line, without the first: a space stands before each
+abbrev pub ints : List ℕ → List ℤ
+ints [] = []
+ints (b ∷ line) = cond (eqb b 32) (int (until 32 line) ∷ ints line) (ints line)
 
 -- the bytes of these hexadecimal digits; a lone one gives none
 abbrev pub bytes : List ℕ → List ℕ

@@ -5,8 +5,11 @@ ghost use lib.ListN.{length, take};
 ghost use Rattle.io.specs.Counts.{Counts};
 ghost use Rattle.io.specs.Digits as Digits;
 ghost use Rattle.replay_text.specs.Words as Words;
-ghost use Rattle.replay_text.specs.Buffer.{putByte, puts};
+ghost use Rattle.replay_text.specs.Buffer.{putByte, puts, putValue, putValues, CountsInts};
 ghost use Rattle.replay_text.specs.Numbers as Numbers;
+ghost use Rattle.replay_text.specs.Answers as Answers;
+ghost use Rattle.format.specs.Numbers.{number};
+use format::Error;
 
 // How many bytes stand before the first b, or in all.
 fn count_until(src: &[u8], b: u8) -> usize
@@ -84,6 +87,36 @@ pub fn int(text: &[u8]) -> i32
     }
     let size = number(text) % 4294967296;
     ints::from_bits(size as u32)
+}
+
+// An int in an area, at a place; the place after it. A full area stays as it is.
+fn put_value(out: &mut [i32], at: usize, value: i32) -> usize
+    ensures { λ r. ⌜ putValue value (record { next = at; out = now (out .entry) }) ≡ record { next = r; out = now (out .exit) } ⌝ }
+    ensures { λ r. ⌜ CountsInts r (now (out .exit)) ⌝ }
+{
+    if at < out.len() {
+        out[at] = value;
+        return at + 1;
+    }
+    out.len()
+}
+
+// The ints of a line's words, without the first, in the front of out; how many there are.
+pub fn ints(line: &[u8], out: &mut [i32]) -> usize
+    ensures { λ r. ⌜ putValues (Numbers.ints (now (line .entry))) (record { next = 0; out = now (out .entry) }) ≡ record { next = r; out = now (out .exit) } ⌝ }
+    ensures { λ r. ⌜ CountsInts r (now (out .exit)) ⌝ }
+{
+    let mut next: usize = 0;
+    let mut i: usize = 0;
+    while i < line.len() {
+        let b = line[i];
+        i += 1;
+        if b != b' ' {
+            continue;
+        }
+        next = put_value(out, next, int(until(&line[i..], b' ')));
+    }
+    next
 }
 
 // The bytes of these hexadecimal digits, in the front of out; how many there are.
@@ -186,4 +219,38 @@ pub fn put_hex(out: &mut [u8], at: usize, bytes: &[u8]) -> usize
         i += 1;
     }
     next
+}
+
+// A space and the first bytes of an area in a buffer, as put_hex puts them; the place after them.
+pub fn put_bytes(out: &mut [u8], at: usize, area: &[u8], count: usize) -> usize
+    ensures { λ r. ⌜ puts (Answers.bytes (take count (now (area .entry)))) (record { next = at; out = now (out .entry) }) ≡ record { next = r; out = now (out .exit) } ⌝ }
+{
+    let next = put_byte(out, at, b' ');
+    if area.len() < count {
+        return put_hex(out, next, area);
+    }
+    put_hex(out, next, &area[..count])
+}
+
+// A space and a number in a buffer, at a place; the place after them.
+pub fn put_next(out: &mut [u8], at: usize, n: usize) -> usize
+    ensures { λ r. ⌜ puts (Answers.next n) (record { next = at; out = now (out .entry) }) ≡ record { next = r; out = now (out .exit) } ⌝ }
+{
+    let next = put_byte(out, at, b' ');
+    put_number(out, next, n)
+}
+
+// The answer of a call that is refused, at the front of a buffer; the place after it.
+pub fn put_refused(out: &mut [u8], e: Error) -> usize
+    ensures { λ r. ⌜ puts (Answers.refused (number e)) (record { next = 0; out = now (out .entry) }) ≡ record { next = r; out = now (out .exit) } ⌝ }
+{
+    let next = put(out, 0, b"refused");
+    put_next(out, next, format::error_number(e) as usize)
+}
+
+// The answer of a line that is no case, at the front of a buffer; the place after it.
+pub fn put_odd(out: &mut [u8]) -> usize
+    ensures { λ r. ⌜ puts Answers.odd (record { next = 0; out = now (out .entry) }) ≡ record { next = r; out = now (out .exit) } ⌝ }
+{
+    put(out, 0, b"odd")
 }

@@ -1,0 +1,223 @@
+// Replays recorded cases on deltas: each line of the standard input is a case, and gets one line of answer. ROOM is the length of the area that is lent.
+//     e ROOM                      the empty delta: COUNT INT.., or refused NUMBER
+//     c ROOM LEN INT.. INT..      the delta from a base of LEN ints to a target: COUNT INT.., or refused 10 KEY, or refused NUMBER
+//     i ROOM LEN INT.. INT..      a delta is written to ints under LEN known sizes: COUNT INT.., or refused NUMBER
+//     b ROOM LEN INT.. INT..      the same, packed: LEN HEX, or refused NUMBER
+//     m ROOM HAS LEN INT.. INT..  the differences of an item's data from the LEN ints of its base, where it has one: COUNT INT.., or refused NUMBER
+//     a ROOM HAS LEN INT.. INT..  the same with the differences given, which are applied: COUNT INT.., or refused NUMBER
+use delta_making::Made;
+use format::Error;
+use format::Stored;
+use libc::STDIN_FILENO;
+use libc::STDOUT_FILENO;
+use packer::IntWrite;
+use replay_text::put_byte;
+use replay_text::put_bytes;
+use replay_text::put_int;
+use replay_text::put_ints;
+use replay_text::put_number;
+use replay_text::put_odd;
+use replay_text::put_refused;
+use replay_text::word;
+
+// What a case says before its lists: its letter, the length of the area, and whether an item has a base.
+struct Case {
+    kind: u8,
+    room: usize,
+    has_base: bool,
+}
+
+// How many ints were stored, and these; or the refusal.
+fn put_stored(out: &mut [u8], area: &[i32], answer: Stored) -> usize {
+    match answer {
+        Stored::Ints(count) => put_counted(out, area, count),
+        Stored::Refused(e) => put_refused(out, e),
+    }
+}
+
+// A count, and as many ints.
+fn put_counted(out: &mut [u8], area: &[i32], count: usize) -> usize {
+    let end = put_number(out, 0, count);
+    put_ints(out, end, area, count)
+}
+
+// How many ints a delta takes, and these; or the refusal, with the key where two lengths differ.
+fn put_made(out: &mut [u8], area: &[i32], answer: Made) -> usize {
+    match answer {
+        Made::Ints(count) => put_counted(out, area, count),
+        Made::DifferingSizes(key) => put_differing(out, key),
+        Made::Refused(e) => put_refused(out, e),
+    }
+}
+
+// The refusal of two items of one key that differ in length, and the key.
+fn put_differing(out: &mut [u8], key: i32) -> usize {
+    let end = put_refused(out, Error::DeltaDifferingSizes);
+    let end = put_byte(out, end, b' ');
+    put_int(out, end, key)
+}
+
+// How many bytes were written, and these; or the refusal.
+fn put_written(out: &mut [u8], bytes: &[u8], answer: IntWrite) -> usize {
+    match answer {
+        IntWrite::Next(len) => {
+            let end = put_number(out, 0, len);
+            put_bytes(out, end, bytes, len)
+        }
+        IntWrite::Refused(e) => put_refused(out, e),
+    }
+}
+
+// The empty delta, in an area.
+fn clear(area: &mut [i32], out: &mut [u8]) -> usize {
+    let answer = delta::clear(area);
+    put_stored(out, area, answer)
+}
+
+// The delta from a base to a target, in an area.
+fn create(base: &[i32], target: &[i32], area: &mut [i32], out: &mut [u8]) -> usize {
+    let answer = delta::create(base, target, area);
+    put_made(out, area, answer)
+}
+
+// A delta written to ints under known sizes, in an area.
+fn write_to_ints(sizes: &[i32], delta: &[i32], area: &mut [i32], out: &mut [u8]) -> usize {
+    let answer = delta::write_to_ints(delta, sizes, area);
+    put_stored(out, area, answer)
+}
+
+// A delta packed under known sizes, in an area of bytes.
+fn write(sizes: &[i32], delta: &[i32], area: &mut [u8], out: &mut [u8]) -> usize {
+    let answer = delta::write(delta, sizes, area);
+    put_written(out, area, answer)
+}
+
+// The differences of an item's data from the base's, where it has any, in an area.
+fn create_item(has: bool, base: &[i32], data: &[i32], area: &mut [i32], out: &mut [u8]) -> usize {
+    let answer = format::create_item_delta(has, base, data, area);
+    put_stored(out, area, answer)
+}
+
+// An item's data from its differences and the base's data, where it has any, in an area.
+fn apply_item(
+    has: bool,
+    base: &[i32],
+    differences: &[i32],
+    area: &mut [i32],
+    out: &mut [u8],
+) -> usize {
+    let answer = format::apply_item_delta(has, base, differences, area);
+    put_stored(out, area, answer)
+}
+
+// The answer of a case that fills an area of ints, which is lent.
+fn fill(case: Case, first: &[i32], second: &[i32], area: &mut [i32], out: &mut [u8]) -> usize {
+    let kind = case.kind;
+    match kind {
+        b'e' => clear(area, out),
+        b'c' => create(first, second, area, out),
+        b'i' => write_to_ints(first, second, area, out),
+        b'm' => create_item(case.has_base, first, second, area, out),
+        b'a' => apply_item(case.has_base, first, second, area, out),
+        _ => put_odd(out),
+    }
+}
+
+// The answer of a case that fills an area of ints.
+fn ints_case(case: Case, first: &[i32], second: &[i32], out: &mut [u8]) -> usize {
+    let room = case.room;
+    let mut area = [77i32; 128];
+    if 128 < room {
+        return put_odd(out);
+    }
+    fill(case, first, second, &mut area[..room], out)
+}
+
+// The answer of b, with the known sizes and the delta.
+fn bytes_case(room: usize, sizes: &[i32], delta: &[i32], out: &mut [u8]) -> usize {
+    let mut area = [77u8; 128];
+    if 128 < room {
+        return put_odd(out);
+    }
+    write(sizes, delta, &mut area[..room], out)
+}
+
+// The answer of a case, with its two lists of ints.
+fn answer_lists(case: Case, first: &[i32], second: &[i32], out: &mut [u8]) -> usize {
+    if case.kind == b'b' {
+        return bytes_case(case.room, first, second, out);
+    }
+    ints_case(case, first, second, out)
+}
+
+// The answer of a case whose two lists stand after head ints; the last of these is the length of the first list.
+fn lists_case(line: &[u8], case: Case, head: usize, out: &mut [u8]) -> usize {
+    let mut given = [0i32; 128];
+    let count = replay_text::ints(line, &mut given);
+    let len = replay_text::number(word(line, head));
+    if 64 < len {
+        return put_odd(out);
+    }
+    if 3 < head {
+        return put_odd(out);
+    }
+    let from = len + head;
+    if count < from {
+        return put_odd(out);
+    }
+    let rest = given;
+    answer_lists(case, &given[head..from], &rest[from..count], out)
+}
+
+// The answer of e ROOM, which has no lists.
+fn clear_case(case: Case, out: &mut [u8]) -> usize {
+    let none = [0i32; 1];
+    let empty = &none[..0];
+    ints_case(case, empty, empty, out)
+}
+
+// The answer of a line, at the front of out; where it ends.
+fn answer(line: &[u8], out: &mut [u8]) -> usize {
+    if line.len() == 0 {
+        return put_odd(out);
+    }
+    let kind = line[0];
+    let room = replay_text::number(word(line, 1));
+    let has_base = replay_text::number(word(line, 2)) == 1;
+    let case = Case {
+        kind,
+        room,
+        has_base,
+    };
+    match kind {
+        b'e' => clear_case(case, out),
+        b'c' | b'i' | b'b' => lists_case(line, case, 2, out),
+        b'm' | b'a' => lists_case(line, case, 3, out),
+        _ => put_odd(out),
+    }
+}
+
+// Writes the answer of a line.
+fn reply(line: &[u8]) {
+    let mut out = [0u8; 2048];
+    let end = answer(line, &mut out);
+    let end = put_byte(&mut out, end, b'\n');
+    io::write_all(STDOUT_FILENO, &out[..end]);
+}
+
+// Writes the answer of each line.
+fn replay(cases: &[u8]) {
+    let mut at: usize = 0;
+    while at < cases.len() {
+        let line = replay_text::until(&cases[at..], b'\n');
+        reply(line);
+        at += line.len() + 1;
+    }
+}
+
+// Reads all cases, and answers them.
+fn main() {
+    let mut cases = io::large_buffer();
+    let len = io::read_full(STDIN_FILENO, &mut cases);
+    replay(&cases[..len]);
+}

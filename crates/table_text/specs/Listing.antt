@@ -1,0 +1,49 @@
+-- The text that `tablelist` writes, by document 01's paragraph on it. Assumes nothing.
+use mathlib.Core.List.{List, [], _∷_, _++_}
+use Prim.Native.Nat.{ℕ, _/_, _%_}
+use lib.Dec.{leb}
+use lib.IntN.{ℤ}
+use lib.ListN.{length}
+use Rattle.definitions.specs.Refusals.{inputTooLong}
+use Rattle.definitions.specs.Outcome.{Outcome, ok, err, require, _>>_}
+use Rattle.definitions.specs.Tables.{Item, Table, crc}
+use Rattle.definitions.specs.TableReading.{readPacked}
+use Rattle.replay_text.specs.Numbers.{decimal, signed}
+use Rattle.replay_text.specs.Answers.{next, refused}
+
+-- a text, ended by a newline
+abbrev pub ended : List ℕ → List ℕ
+ended text = text ++ 10 ∷ []
+
+-- type, id and int count of an item, a space between two of them
+abbrev pub line : ℕ → ℕ → ℕ → List ℕ
+line type id count = ended (decimal type ++ next id ++ next count)
+
+-- the line of an item: the upper 16 bits of its key are the type, the lower 16 the id
+unfoldable pub itemLine : Item → List ℕ
+itemLine x = line (x .key / 65536) (x .key % 65536) (length (x .values))
+
+-- the lines of a table: one an item, in unsigned key order
+unfoldable pub itemLines : Table → List ℕ
+itemLines [] = []
+itemLines (x ∷ t) = itemLine x ++ itemLines t
+
+-- the words "items" and "sum", each with its number behind it
+unfoldable pub heading : ℕ → ℤ → List ℕ
+heading n sum = ended (105 ∷ 116 ∷ 101 ∷ 109 ∷ 115 ∷ next n ++ 32 ∷ 115 ∷ 117 ∷ 109 ∷ 32 ∷ signed sum)
+
+-- the text of a table: how many items and the sum of their ints, then the items
+unfoldable pub tableText : Table → List ℕ
+tableText t = heading (length t) (crc t) ++ itemLines t
+
+-- the text of what reading comes to: the table's, or the refusal and its number
+abbrev pub answerText : Outcome Table → List ℕ
+answerText (ok t w) = tableText t
+answerText (err n w) = ended (refused n)
+
+-- the text of a packed table of at most 8,192 bytes; more are refused with 42
+unfoldable pub listingText : List ℕ → List ℕ
+listingText bytes =
+    answerText do
+      require (leb (length bytes) 8192) inputTooLong
+      readPacked bytes
