@@ -76,9 +76,13 @@ module _ {src : List ℕ} {before out : List ℤ} {at : ℕ} {t : Totals} where
         laid = sym (layAt-split (t .count) x (ints rest) out) ∙ (rw (f .step) at (s .laid));
       }
 
+  -- one integer more that may be overlong
+  pub turn-short : {x : ℤ} {next : ℕ} (overlong : Bool) → Scanning src before out at t → Found src at x next (warned overlong false) → Scanning src before (layAt (t .count) (x ∷ []) out) next (record { count = t .count + 1; cut = t .cut; overlong = t .overlong + cond overlong 1 0; padding = t .padding })
+  turn-short overlong s f = rw (add-zero (t .padding)) at (turn overlong false s f)
+
   -- one integer more without a warning
   pub turn-plain : {x : ℤ} {next : ℕ} → Scanning src before out at t → Found src at x next (warned false false) → Scanning src before (layAt (t .count) (x ∷ []) out) next (record { count = t .count + 1; cut = t .cut; overlong = t .overlong; padding = t .padding })
-  turn-plain s f = rw (add-zero (t .overlong), add-zero (t .padding)) at (turn false false s f)
+  turn-plain s f = rw (add-zero (t .overlong)) at (turn-short false s f)
 
   -- nothing more comes
   last : {u : Stream} → Scanning src before out at t → stream (drop at src) ≡ u → ints u ≡ [] → warnings u ≡ none → Scanned (stream src) before (record { count = t .count; cut = isCut u; overlong = t .overlong; padding = t .padding }) out

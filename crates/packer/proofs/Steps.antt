@@ -67,6 +67,13 @@ module _ (src : List ℕ) (p : ℕ) where
   unfolding moreAt more
   more-last d s h k = rw (drop-cons src p 0 h, fifth d byte k, next h)
 
+-- an integer of two bytes
+pub read-two : (src : List ℕ) (p c : ℕ) → p < length src → 128 ≤ getD src p 0 → p + 1 < length src → c ≡ getD src (p + 1) 0 → c < 128 → readIntAt src p ≡ found (signed (sign (getD src p 0)) (getD src p 0 % 64 + c * 64)) (p + 2) (eqb c 0) false
+read-two src p c h k m e l =
+    let q : p + 1 + 1 ≡ p + 2 = omega arith in
+    let b : getD src (p + 1) 0 < 128 = omega arith in
+    read-more src p h k ∙ more-one src (p + 1) 3 64 (getD src p 0 % 64) (sign (getD src p 0)) (omega arith) m b ∙ rw (q, ← e)
+
 -- ---- the weights of the bytes after the first
 
 -- how many more bytes may follow the next one, and its weight

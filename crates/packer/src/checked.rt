@@ -1,5 +1,6 @@
 // A pass over the packed integers of some bytes, and packing some ints at a place.
 ghost use mathlib.Core.Path.{_≡_};
+ghost use mathlib.Core.Bool.{false};
 ghost use Prim.Native.Nat.{_+_, _≤_};
 ghost use lib.ListN.{length};
 ghost use Rattle.definitions.specs.Areas.{layAt};
@@ -16,23 +17,38 @@ pub struct Totals {
     pub padding: usize,
 }
 
-// All the integers of src over the front of out, as far as it goes. Those of one byte are read on the spot.
-pub fn scan(src: &[u8], out: &mut [i32]) -> Totals
-    ensures { λ r. ⌜ Scanned (stream (now (src .entry))) (now (out .entry)) r (now (out .exit)) ⌝ }
+// Before any integer is read.
+fn nothing() -> Totals
+    ensures { λ r. ⌜ r ≡ record { count = 0; cut = false; overlong = 0; padding = 0 } ⌝ }
 {
-    let mut at: usize = 0;
-    let mut t = Totals {
+    Totals {
         count: 0,
         cut: false,
         overlong: 0,
         padding: 0,
-    };
+    }
+}
+
+// All the integers of src over the front of out, as far as it goes. Those of one and two bytes are read on the spot.
+pub fn scan(src: &[u8], out: &mut [i32]) -> Totals
+    ensures { λ r. ⌜ Scanned (stream (now (src .entry))) (now (out .entry)) r (now (out .exit)) ⌝ }
+{
+    let mut at: usize = 0;
+    let mut t = nothing();
     while at < src.len() {
         let b = src[at] as u32;
         if b < 128 {
             super::put(out, t.count, super::signed_value(b / 64 % 2 == 1, b % 64));
             t.count += 1;
             at += 1;
+            continue;
+        }
+        let c = super::second_byte(src, at);
+        if c < 128 {
+            super::put(out, t.count, super::two_bytes(b, c));
+            t.count += 1;
+            t.overlong += ints::one_if(c == 0);
+            at += 2;
             continue;
         }
         let IntRead::Int {

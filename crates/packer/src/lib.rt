@@ -3,13 +3,13 @@
 // E: another byte follows; S: sign; D: digits, the lowest first; P: padding, which must be 0.
 ghost use mathlib.Core.Path.{_≡_};
 ghost use mathlib.Core.List.{[], _∷_};
-ghost use Prim.Native.Nat.{_+_, _/_, _≤_, _<_, _^_};
+ghost use Prim.Native.Nat.{_+_, _*_, _/_, _%_, _≤_, _<_, _^_};
 ghost use lib.Dec.{leb};
-ghost use lib.ListN.{length};
+ghost use lib.ListN.{length, getD};
 ghost use lib.Signed.{mag};
 ghost use Rattle.definitions.specs.Areas.{layAt};
 ghost use Rattle.definitions.specs.Outcome.{return};
-ghost use Rattle.definitions.specs.Packed.{signed, signBit, writeMore, writeInt, packInts};
+ghost use Rattle.definitions.specs.Packed.{signed, sign, signBit, writeMore, writeInt, packInts};
 ghost use Rattle.definitions.specs.Stored.{stored};
 ghost use Rattle.definitions.specs.Stream as Stream;
 ghost use Rattle.definitions.specs.Stream.{stream};
@@ -82,6 +82,25 @@ pub fn read_int(src: &[u8], at: usize) -> IntRead
         };
     }
     read_more(src, at + 1, sign, b % 64)
+}
+
+// The second byte of the integer at a place, where it ends there; else 128.
+fn second_byte(src: &[u8], at: usize) -> u32
+    requires { ⌜ at < length (now src) ⌝ }
+    ensures { λ r. ⌜ (r < 128 → at + 1 < length (now (src .entry))) × (r < 128 → r ≡ getD (now (src .entry)) (at + 1) 0) × (r < 256) ⌝ }
+{
+    if src.len() - at < 2 {
+        return 128;
+    }
+    src[at + 1] as u32
+}
+
+// The int of two bytes.
+fn two_bytes(b: u32, c: u32) -> i32
+    requires { ⌜ c < 128 ⌝ }
+    ensures { λ r. ⌜ r ≡ signed (sign b) (b % 64 + c * 64) ⌝ }
+{
+    signed_value(b / 64 % 2 == 1, b % 64 + c * 64)
 }
 
 // The bytes of an integer after its first, whose digits are first.
