@@ -15,3 +15,12 @@ pub mod Deltas
 pub mod DeltaMaking
 pub mod DeltaReading
 pub mod DeltaCalls
+pub mod Applying
+pub mod Types
+pub mod Builder
+pub mod Messages
+pub mod Receiver
+pub mod Storage
+pub mod StorageCalls
+pub mod Manager
+pub mod Logbook

@@ -5,8 +5,8 @@ use Prim.Native.Nat.{ℕ, zero, suc, _+_, _≤_, _<_}
 use native.Mathlib.Numerals.{add-one}
 use native.Mathlib.Omega.{arith}
 use native.Mathlib.Nat.{add-assoc, add-zero}
-use lib.ListN.{length, drop, getD, set, drop-of-length-le}
-use lib.Seq.{drop-cons}
+use lib.ListN.{length, take, drop, getD, set, drop-of-length-le}
+use lib.Seq.{drop-cons, take-append-seam}
 use lib.IntN.{ℤ, pos}
 use Rattle.definitions.specs.Areas.{lay, layAt, cleared}
 
@@ -81,6 +81,41 @@ module _ {E : Type 0} where
   layAt-append n (x ∷ xs) ys area =
       let e : n + 1 + length xs ≡ n + suc (length xs) = omega arith in
       rw (layAt-split n x (xs ++ ys) area, layAt-split n x xs area, layAt-append (n + 1) xs ys (layAt n (x ∷ []) area), e)
+
+  -- ---- what stands at a place, where something is laid
+
+  -- what was laid
+  pub laid-there : (at : ℕ) (xs area : List E) → at + length xs ≤ length area → take (length xs) (drop at (layAt at xs area)) ≡ xs
+  laid-there zero xs area h = rw (lay-append xs area (omega arith)) (take-append-seam xs (drop (length xs) area))
+  laid-there (suc n) [] [] h = refl
+  laid-there (suc n) (x ∷ xs) [] h = absurd (omega arith)
+  laid-there (suc n) xs (a ∷ area) h = laid-there n xs area (omega arith)
+
+  lay-behind : (xs area : List E) (from : ℕ) → length xs ≤ from → drop from (lay xs area) ≡ drop from area
+  lay-behind [] area from h = refl
+  lay-behind (x ∷ xs) [] from h = refl
+  lay-behind (x ∷ xs) (a ∷ area) zero h = absurd (omega arith)
+  lay-behind (x ∷ xs) (a ∷ area) (suc from) h = lay-behind xs area from (omega arith)
+
+  -- what stands behind it
+  pub laid-behind : (at : ℕ) (xs area : List E) (from : ℕ) → at + length xs ≤ from → drop from (layAt at xs area) ≡ drop from area
+  laid-behind zero xs area from h = lay-behind xs area from (omega arith)
+  laid-behind (suc n) xs [] from h = refl
+  laid-behind (suc n) xs (a ∷ area) zero h = absurd (omega arith)
+  laid-behind (suc n) xs (a ∷ area) (suc from) h = laid-behind n xs area from (omega arith)
+
+  lay-front : (at : ℕ) (xs area : List E) (n : ℕ) → n ≤ at → take n (layAt at xs area) ≡ take n area
+  lay-front at xs area zero h = refl
+  lay-front zero xs area (suc n) h = absurd (omega arith)
+  lay-front (suc at) xs [] (suc n) h = refl
+  lay-front (suc at) xs (a ∷ area) (suc n) h = ap (λ (l : List E). a ∷ l) (lay-front at xs area n (omega arith))
+
+  -- what stands before it
+  pub laid-before : (at : ℕ) (xs area : List E) (from n : ℕ) → from + n ≤ at → take n (drop from (layAt at xs area)) ≡ take n (drop from area)
+  laid-before at xs area zero n h = lay-front at xs area n (omega arith)
+  laid-before zero xs area (suc from) n h = absurd (omega arith)
+  laid-before (suc at) xs [] (suc from) n h = refl
+  laid-before (suc at) xs (a ∷ area) (suc from) n h = laid-before at xs area from n (omega arith)
 
 -- areas of one length are cleared alike
 pub cleared-same : (a b : List ℤ) → length a ≡ length b → cleared a ≡ cleared b

@@ -1,20 +1,23 @@
 -- Document 01's marked cases, proved of the definitions. Assumes nothing.
-use mathlib.Core.Path.{_≡_, refl}
+use mathlib.Core.Path.{_≡_, refl, ap, _∙_}
 use mathlib.Core.List.{List, [], _∷_}
 use mathlib.Core.Option.{none}
-use Prim.Native.Nat.{ℕ, _+_, _≤_}
+use Prim.Native.Nat.{ℕ, _+_, _*_, _≤_}
 use native.Mathlib.Omega.{arith}
 use borrow.Author.Tests.{lt-ltb, le-ltb, le-leb, lt-leb}
 use lib.IntN.{ℤ, pos, negsuc}
-use lib.ListN.{length, length-append}
-use Rattle.definitions.specs.Ints.{fromBits}
+use lib.ListN.{length, take, drop, length-append, length-drop}
+use lib.Seq.{take-all}
+use Rattle.definitions.specs.Ints.{fromBits, wrappingSub}
 use Rattle.definitions.specs.Warnings.{OverlongIntEncoding, NonZeroIntPadding, one}
 use Rattle.definitions.specs.Refusals.{tooLongSnap, tooManyItems, invalidOffset}
 use Rattle.definitions.specs.Outcome.{ok, return, refuse}
 use Rattle.definitions.specs.Packed.{Read, signed, more, readInt, writeMore, writeInt}
-use Rattle.definitions.specs.Tables.{Item, Table, body, written, num, nat, edge, find, insert}
+use Rattle.definitions.specs.Tables.{Item, Table, body, written, num, nat, edge, find, insert, list}
 use Rattle.definitions.specs.TableReading.{headerInt, readItems, readTable, addItem}
+use Rattle.definitions.specs.Messages.{Message, Snap, SnapEmpty, SnapSingle, numParts, deltaChunks}
 use Rattle.laws.specs.TableForm.{length-written}
+use Rattle.laws.specs.CutLaws.{chunks-none, chunks-single, chunks-parts}
 
 -- ---- packed integers
 
@@ -81,4 +84,31 @@ marked-tables =
       items-1025 = λ i t n f. rw (f, le-ltb (length t) 1024 (omega arith));
       ints-16380 = λ k v n. rw (le-leb (length (written (single k v ∷ []))) 16384 (omega (arith, length-single k v)));
       ints-16381 = λ k v n. rw (lt-leb (length (written (single k v ∷ []))) 16384 (omega (arith, length-single k v)));
+    }
+
+-- ---- messages
+
+-- the marked cases of messages, whatever the bytes are
+pub record MarkedMessages (tick base crc : ℤ) : Type 0 where
+  pub bytes-0 : (x : List ℕ) → length x ≡ 0 → deltaChunks tick base x crc ≡ record { numbers = SnapEmpty tick (wrappingSub tick base); bytes = [] } ∷ []
+  pub bytes-900 : (x : List ℕ) → length x ≡ 900 → deltaChunks tick base x crc ≡ record { numbers = SnapSingle tick (wrappingSub tick base) crc; bytes = x } ∷ []
+  pub bytes-901 : (x : List ℕ) → length x ≡ 901 → deltaChunks tick base x crc ≡ record { numbers = Snap tick (wrappingSub tick base) (pos 2) (pos 0) crc; bytes = take 900 x } ∷ record { numbers = Snap tick (wrappingSub tick base) (pos 2) (pos 1) crc; bytes = drop 900 x } ∷ []
+
+-- two parts
+in-two : (tick distance crc : ℤ) (x : List ℕ) (n : ℕ) → n ≡ 2 → take 900 (drop 900 x) ≡ drop 900 x → list {X = Message} (λ p. record { numbers = Snap tick distance (pos n) (pos p) crc; bytes = take 900 (drop (900 * p) x) }) n ≡ record { numbers = Snap tick distance (pos 2) (pos 0) crc; bytes = take 900 x } ∷ record { numbers = Snap tick distance (pos 2) (pos 1) crc; bytes = drop 900 x } ∷ []
+unfolding list
+in-two tick distance crc x n m e =
+    rw m
+    (ap (λ (y : List ℕ). record { numbers = Snap tick distance (pos 2) (pos 0) crc; bytes = take 900 x } ∷ record { numbers = Snap tick distance (pos 2) (pos 1) crc; bytes = y } ∷ []) e)
+
+pub marked-messages : (tick base crc : ℤ) → MarkedMessages tick base crc
+marked-messages tick base crc =
+    record {
+      bytes-0 = λ x n. chunks-none tick base x crc n;
+      bytes-900 = λ x n. chunks-single tick base x crc (omega arith) (omega arith);
+      bytes-901 =
+          λ x n.
+          let e : take 900 (drop 900 x) ≡ drop 900 x = take-all 900 (drop 900 x) (omega (arith, length-drop 900 x)) in
+          let m : numParts x ≡ 2 = omega arith in
+          chunks-parts tick base x crc (omega arith) ∙ in-two tick (wrappingSub tick base) crc x (numParts x) m e;
     }

@@ -32,12 +32,13 @@ length-lacking t (x ∷ b) = go (isSome (find (x .key) t)) (length-lacking t b)
     go true l = omega arith
     go false l = omega arith
 
-record Sound (t : Table) : Type 0 where
-  few : length t ≤ 1024
-  short : length (written t) ≤ 16384
-  rises : rising 0 t ≡ true
+-- what a sound table is known to be
+pub record Sound (t : Table) : Type 0 where
+  pub few : length t ≤ 1024
+  pub short : length (written t) ≤ 16384
+  pub rises : rising 0 t ≡ true
 
-facts : (t : Table) → sound t ≡ true → Sound t
+pub facts : (t : Table) → sound t ≡ true → Sound t
 unfolding sound
 facts t e =
     let p = both (leb (length t) 1024) _ e in

@@ -110,7 +110,7 @@ deltaFrom-inOrder b t e f =
 -- ---- no key is deleted and updated
 
 -- every item's key is found in t
-abbrev Known : Table → Table → Type 0
+abbrev pub Known : Table → Table → Type 0
 Known t [] = Unit {0}
 Known t (x ∷ u) = (isSome (find (x .key) t) ≡ true) × Known t u
 
@@ -123,7 +123,7 @@ known-more x t (y ∷ u) h = (go (eqb (x .key) (y .key)) (h .0), known-more x t 
     go true e = refl
     go false e = e
 
-known-own : (t : Table) → Known t t
+pub known-own : (t : Table) → Known t t
 unfolding find
 known-own [] = tt
 known-own (x ∷ t) = (rw (eq-eqb (x .key) (x .key) refl), known-more x t t (known-own t))

@@ -78,6 +78,12 @@ wrappingSub-wrappingAdd {a} {b} f g =
     same-bits (wrappingSub-fits (wrappingAdd b a) b) f
     (omega (arith, bits-wrappingSub (wrappingAdd b a) b, bits-wrappingAdd b a, bits-lt f, bits-lt g))
 
+-- a base, from the distance to it
+pub wrappingSub-wrappingSub : (a : ℤ) {b : ℤ} → SFits w32 b → wrappingSub a (wrappingSub a b) ≡ b
+wrappingSub-wrappingSub a {b} g =
+    same-bits (wrappingSub-fits a (wrappingSub a b)) g
+    (omega (arith, bits-wrappingSub a (wrappingSub a b), bits-wrappingSub a b, bits-lt g))
+
 fold-left : (x y : ℕ) → (x % 2 ^ 32 + y) % 2 ^ 32 ≡ (x + y) % 2 ^ 32
 fold-left x y = omega arith
 

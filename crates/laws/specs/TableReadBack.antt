@@ -54,7 +54,8 @@ module _ (a : List ℤ) (h : Shape a) where
   adds i l =
       rw (new i l, lt-ltb (length (list (itemAt a) i)) 1024 (omega (arith, length-list (itemAt a) i, h .few)), grows i l, le-leb (length (written (list (itemAt a) (suc i)))) 16384 (long (suc i) l))
 
-  reads : (i : ℕ) → i ≤ count a → readItems a i ≡ return (list (itemAt a) i)
+  -- the first i items are read
+  pub reads : (i : ℕ) → i ≤ count a → readItems a i ≡ return (list (itemAt a) i)
   unfolding readItems list
   reads zero l = rw (eq-eqb (edge a 0) 0 (h .first))
   reads (suc i) l =

@@ -16,7 +16,7 @@ use mir.Val.{SFits}
 use mir.Facts.{sfits-lit}
 use Rattle.definitions.specs.Refusals.{offsetsUnpacking, invalidOffset, itemsUnpacking}
 use Rattle.definitions.specs.Warnings.{Counts, ExcessSnapData}
-use Rattle.definitions.specs.Outcome.{Outcome, ok, err, require, warn, warnIf, after, _>>=_, _>>_}
+use Rattle.definitions.specs.Outcome.{Outcome, ok, err, return, require, warn, warnIf, after, _>>=_, _>>_}
 use Rattle.definitions.specs.Packed.{Read, extend, sign, signed, more, readInt}
 use Rattle.definitions.specs.Stream.{Stream, andThen, streamUpTo, stream, ints, isCut, warnings}
 use Rattle.definitions.specs.Tables.{Item, Table, body, offsets, written, rising, sound, start, keyAt, itemAt, edge, ends, find, isSome, insert}
@@ -88,7 +88,7 @@ whole-at (cons f h) (suc i) = whole-at h i
 -- ---- an item more leaves keys that rise
 
 -- a key that no item has is not the first item's, and none of the others'
-not-here : (x : Item) (t : Table) (k : ℕ) → isSome (find k (x ∷ t)) ≡ false → (x .key ≡ k → ⊥) × (isSome (find k t) ≡ false)
+pub not-here : (x : Item) (t : Table) (k : ℕ) → isSome (find k (x ∷ t)) ≡ false → (x .key ≡ k → ⊥) × (isSome (find k t) ≡ false)
 unfolding find
 not-here x t k e = go (eqb (x .key) k) refl e
   where
@@ -97,7 +97,7 @@ not-here x t k e = go (eqb (x .key) k) refl e
     go false q n = (λ d. false≢true (sym q ∙ eq-eqb (x .key) k d), n)
 
 -- a new key goes to its place
-rising-insert : (i : Item) (t : Table) (low : ℕ) → rising low t ≡ true → isSome (find (i .key) t) ≡ false → low ≤ i .key → i .key < 2 ^ 32 → rising low (insert i t) ≡ true
+pub rising-insert : (i : Item) (t : Table) (low : ℕ) → rising low t ≡ true → isSome (find (i .key) t) ≡ false → low ≤ i .key → i .key < 2 ^ 32 → rising low (insert i t) ≡ true
 unfolding rising insert
 rising-insert i [] low e n l h = rw (le-leb low (i .key) l, lt-ltb (i .key) (2 ^ 32) h)
 rising-insert i (x ∷ t) low e n l h =
@@ -113,7 +113,7 @@ rising-insert i (x ∷ t) low e n l h =
     (below (i .key) (x .key))
 
 -- and is one more
-length-insert : (i : Item) (t : Table) → length (insert i t) ≡ suc (length t)
+pub length-insert : (i : Item) (t : Table) → length (insert i t) ≡ suc (length t)
 unfolding insert
 length-insert i [] = refl
 length-insert i (x ∷ t) = go (ltb (i .key) (x .key)) (length-insert i t)
@@ -149,7 +149,7 @@ sound-if : (b : Bool) (n : ℕ) (o : Outcome Table) → (b ≡ true → Sound o)
 sound-if true n o h = sound-after _ o (h refl)
 sound-if false n o h = refused
 
-no-item : (b : Bool) → not b ≡ true → b ≡ false
+pub no-item : (b : Bool) → not b ≡ true → b ≡ false
 no-item true e = sym e
 no-item false e = refl
 
@@ -166,7 +166,14 @@ add-sound i t h s =
     rw (le-leb (length (insert i t)) 1024 (let l : length t < 1024 = ltb-true _ _ few in omega (arith, length-insert i t)), short)
     (rising-insert i t 0 (q .1) (no-item _ new) (omega arith) h)))))
 
-empty-sound : sound [] ≡ true
+-- a table that an item was added to is sound
+pub added-sound : (i : Item) (t u : Table) → i .key < 2 ^ 32 → sound t ≡ true → addItem i t ≡ return u → sound u ≡ true
+added-sound i t u h s e = told (subst Sound e (add-sound i t h s))
+  where
+    told : {w : Counts} → Sound (ok u w) → sound u ≡ true
+    told (is-sound q) = q
+
+pub empty-sound : sound [] ≡ true
 unfolding sound written rising body offsets
 empty-sound = refl
 
