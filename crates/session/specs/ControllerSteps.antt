@@ -1,0 +1,127 @@
+-- A controller's call on a store in form, by what it comes to. Assumes nothing.
+use mathlib.Core.Path.{_≡_, refl}
+use mathlib.Core.Bool.{Bool, true, false, cond, not, _&&_}
+use mathlib.Core.List.{List, [], _∷_}
+use mathlib.Core.Option.{some, none}
+use Prim.Native.Nat.{ℕ, _≤_, _<_}
+use borrow.Author.Tests.{ltb-true, ltb-false, leb-true}
+use lib.Dec.{ltb, leb}
+use lib.IntN.{ℤ, pos, negsuc}
+use lib.ListN.{length}
+use Rattle.definitions.specs.Ints.{signedLess}
+use Rattle.definitions.specs.Refusals.{deltaDifferingSizes, capacityError, storeFull, unknownSnap}
+use Rattle.definitions.specs.Warnings.{Counts, WeirdNegativeDeltaTick}
+use Rattle.definitions.specs.Warnings as Warnings
+use Rattle.definitions.specs.Outcome.{Outcome, ok, return, refuse, require, warnIf, _>>_}
+use Rattle.definitions.specs.Tables.{Table, tableOf}
+use Rattle.definitions.specs.TableCalls.{held}
+use Rattle.definitions.specs.Deltas.{writtenDelta}
+use Rattle.definitions.specs.DeltaMaking.{alike, deltaFrom, createDelta}
+use Rattle.definitions.specs.Receiver.{same}
+use Rattle.definitions.specs.Storage.{StoredSnap, Storage, storeInts, storageOf, dropOlder, oldestAt, baseFor, dropFor, isNegative, warnWeird, isHeld, Keeps, withSnaps, withDeltaTick, chosenBase, AddedSnap, adding, addedTo, addSnap, setDeltaTick}
+use Rattle.definitions.specs.StorageCalls.{laidOut, afterJudging, heldStorage, judgeTable, addSnapStep, addStep}
+use Rattle.laws.specs.TableShape.{both}
+use Rattle.session.specs.Runs.{Controller, ControllerStep, added, baseSet, controllerCall}
+use Rattle.session.specs.Runs as Runs
+use Rattle.session.specs.Lists.{contra, either}
+
+-- ---- a table is added
+
+-- the base that a table is measured against
+abbrev pub baseOf : StoredSnap → Storage → StoredSnap
+baseOf x s = chosenBase (s .deltaTick) x (s .snaps)
+
+-- what adding a table comes to, for a store area of n ints and a delta area of m
+pub data Adds (n m : ℕ) (x : StoredSnap) (s : Storage) : Outcome AddedSnap → Type 0 where
+  full : 100 ≤ length (s .snaps) → Adds n m x s (refuse storeFull)
+  clashes : length (s .snaps) < 100 → alike (baseOf x s .snap) (x .snap) ≡ false → Adds n m x s (refuse deltaDifferingSizes)
+  lacks : Adds n m x s (refuse capacityError)
+  fits : length (s .snaps) < 100 → alike (baseOf x s .snap) (x .snap) ≡ true → length (writtenDelta (deltaFrom (baseOf x s .snap) (x .snap))) ≤ m → Adds n m x s (return (record { base = baseOf x s .tick; delta = deltaFrom (baseOf x s .snap) (x .snap) }))
+
+-- tables of which one item clashes make no delta
+pub made-not : (b t : Table) → alike b t ≡ false → createDelta b t ≡ refuse deltaDifferingSizes
+unfolding createDelta
+made-not b t e = rw e
+
+-- others make theirs
+pub made-is : (b t : Table) → alike b t ≡ true → createDelta b t ≡ return (deltaFrom b t)
+unfolding createDelta
+made-is b t e = rw e
+
+-- whether the table and its delta have room
+abbrev hasRoom : ℕ → ℕ → StoredSnap → Storage → Bool
+hasRoom n m x s =
+    leb (length (storeInts (x ∷ s .snaps))) n
+    && leb (length (writtenDelta (deltaFrom (baseOf x s .snap) (x .snap)))) m
+
+-- what the three tests come to: fewer than 100 tables, no clash, room
+tests-are : (n m : ℕ) (x : StoredSnap) (s : Storage) (few same room : Bool) → ltb (length (s .snaps)) 100 ≡ few → alike (baseOf x s .snap) (x .snap) ≡ same → hasRoom n m x s ≡ room → Adds n m x s (require few storeFull >> (require same deltaDifferingSizes >> (require room capacityError >> return (record { base = baseOf x s .tick; delta = deltaFrom (baseOf x s .snap) (x .snap) }))))
+tests-are n m x s false same room f a r = full (ltb-false (length (s .snaps)) 100 f)
+tests-are n m x s true false room f a r = clashes (ltb-true (length (s .snaps)) 100 f) a
+tests-are n m x s true true false f a r = lacks
+tests-are n m x s true true true f a r =
+    fits (ltb-true (length (s .snaps)) 100 f) a (leb-true _ m (both (leb (length (storeInts (x ∷ s .snaps))) n) _ r .1))
+
+-- adding a table comes to one of these
+pub adding-is : (n m : ℕ) (x : StoredSnap) (s : Storage) → Adds n m x s (adding n m x s)
+unfolding adding createDelta
+adding-is n m x s =
+    either (alike (baseOf x s .snap) (x .snap))
+    (λ a. rw a (tests-are n m x s (ltb (length (s .snaps)) 100) true (hasRoom n m x s) refl a refl))
+    (λ a. rw a (tests-are n m x s (ltb (length (s .snaps)) 100) false (hasRoom n m x s) refl a refl))
+
+-- the step of a controller from what adding came to
+abbrev pub addedStep : Controller → StoredSnap → Storage → Outcome AddedSnap → ControllerStep
+addedStep c x s o = added (addStep (laidOut (c .area) (addedTo x s o)) (addedTo x s o .answer) (c .delta))
+
+-- a table in form is added to a store in form
+pub call-adds : (c : Controller) (tick : ℤ) (table : List ℤ) (t : Table) (s : Storage) → storageOf (c .store) (c .area) ≡ some s → tableOf table ≡ some t → controllerCall c (Runs.addSnap tick table) ≡ addedStep c (record { tick = tick; snap = t }) s (adding (length (c .area)) (length (c .delta)) (record { tick = tick; snap = t }) s)
+unfolding controllerCall addSnapStep judgeTable heldStorage held afterJudging addSnap
+call-adds c tick table t s e d = rw (e, d)
+
+-- ---- the base tick is set
+
+-- what setting a base tick comes to
+pub data Sets (tick : ℤ) (s : Storage) : Keeps (Unit {0}) → Type 0 where
+  unsets : {w : Counts} → signedLess tick (pos 0) ≡ true → Sets tick s (record { answer = ok tt w; storage = withDeltaTick s none })
+  sets : signedLess tick (pos 0) ≡ false → isHeld (baseFor tick (s .snaps)) ≡ true → Sets tick s (record { answer = return tt; storage = withDeltaTick (withSnaps s (dropFor tick (s .snaps))) (some tick) })
+  lacks : signedLess tick (pos 0) ≡ false → isHeld (baseFor tick (s .snaps)) ≡ false → Sets tick s (record { answer = refuse unknownSnap; storage = withDeltaTick (withSnaps s (dropFor tick (s .snaps))) none })
+
+-- a tick that is not negative drops what is older
+pub drops : (tick : ℤ) (l : List StoredSnap) → signedLess tick (pos 0) ≡ false → dropFor tick l ≡ dropOlder tick l
+drops tick l e = rw e
+
+-- its base is then the oldest
+pub base-left : (tick : ℤ) (l : List StoredSnap) → signedLess tick (pos 0) ≡ false → baseFor tick l ≡ oldestAt tick (dropOlder tick l)
+base-left tick l e = go (signedLess tick (pos 0)) e
+  where
+    go : (b : Bool) → b ≡ false → cond b (some []) (oldestAt tick (dropOlder tick l)) ≡ oldestAt tick (dropOlder tick l)
+    go true q = contra refl q
+    go false q = refl
+
+-- a negative tick is taken, with or without a warning
+weird-is : (tick : ℤ) → (w : Counts) × (warnWeird tick ≡ ok tt w)
+weird-is tick = go (isNegative tick && not (same tick (negsuc 0)))
+  where
+    go : (b : Bool) → (w : Counts) × (warnIf b WeirdNegativeDeltaTick ≡ ok tt w)
+    go true = (Warnings.one WeirdNegativeDeltaTick, refl)
+    go false = (Warnings.none, refl)
+
+-- setting a base tick comes to one of these
+pub setting-is : (tick : ℤ) (s : Storage) → Sets tick s (setDeltaTick tick s)
+unfolding setDeltaTick
+setting-is tick s = go (isNegative tick) (isHeld (baseFor tick (s .snaps))) refl refl (weird-is tick)
+  where
+    go : (n h : Bool) → isNegative tick ≡ n → isHeld (baseFor tick (s .snaps)) ≡ h → (w : Counts) × (warnWeird tick ≡ ok tt w) → Sets tick s (cond n (record { answer = warnWeird tick; storage = withDeltaTick s none }) (cond h (record { answer = return tt; storage = withDeltaTick (withSnaps s (dropFor tick (s .snaps))) (some tick) }) (record { answer = refuse unknownSnap; storage = withDeltaTick (withSnaps s (dropFor tick (s .snaps))) none })))
+    go true h e q (w, r) = rw r (unsets {w = w} e)
+    go false true e q w = sets e q
+    go false false e q w = lacks e q
+
+-- the step of a controller from what setting came to
+abbrev pub setStep : Controller → Keeps (Unit {0}) → ControllerStep
+setStep c k = baseSet (c .delta) (laidOut (c .area) k)
+
+-- a base tick is set in a store in form
+pub call-sets : (c : Controller) (tick : ℤ) (s : Storage) → storageOf (c .store) (c .area) ≡ some s → controllerCall c (Runs.setDeltaTick tick) ≡ setStep c (setDeltaTick tick s)
+unfolding controllerCall heldStorage afterJudging
+call-sets c tick s e = rw e

@@ -1,0 +1,188 @@
+-- The lists of calls of a controller and of a printer, what they are answered and what they leave. Assumes nothing.
+use mathlib.Core.Bool.{Bool, cond, _&&_}
+use mathlib.Core.List.{List, [], _∷_, _++_}
+use mathlib.Core.Option.{Option, some, none}
+use Prim.Native.Nat.{ℕ}
+use lib.Dec.{eqb}
+use lib.IntN.{ℤ, pos}
+use lib.ListN.{length, replicate}
+use Rattle.definitions.specs.Ints.{wrappingSub}
+use Rattle.definitions.specs.Outcome.{Outcome, ok, err, return, _>>=_}
+use Rattle.definitions.specs.Packed.{packInts}
+use Rattle.definitions.specs.Tables.{Table, items, crc}
+use Rattle.definitions.specs.Deltas.{Delta, deltaInts, deltaIn}
+use Rattle.definitions.specs.Messages.{SnapEmpty, Message, deltaChunks}
+use Rattle.definitions.specs.Receiver.{Receiver, freshReceiver}
+use Rattle.definitions.specs.Storage.{StoredSnap, Storage, freshStorage, Store, beside, storageOf}
+use Rattle.definitions.specs.StorageCalls.{Added, AddStep, StoreStep, addSnapCall, setDeltaTickCall}
+use Rattle.definitions.specs.Manager.{ManagerStep, messageCall}
+use Rattle.definitions.specs.Logbook.{Answer, refused, notYet, acknowledges, Logbook, noteMessage}
+
+-- ---- the controller
+
+-- a table, of a lent area, added at a tick; or a base tick set
+pub data ControllerCall : Type 0 where
+  addSnap : ℤ → List ℤ → ControllerCall
+  setDeltaTick : ℤ → ControllerCall
+
+-- the controller's store, its area, and the area that takes deltas
+pub record Controller : Type 0 where
+  pub store : Store
+  pub area : List ℤ
+  pub delta : List ℤ
+
+-- an answer, with the base and the length of a delta that was made, and what is left
+pub record ControllerStep : Type 0 where
+  pub answer : Outcome (Option Added)
+  pub next : Controller
+
+abbrev pub added : AddStep → ControllerStep
+added x =
+    record {
+      answer = x .answer >>= λ a. return (some a);
+      next = record { store = x .store; area = x .area; delta = x .delta };
+    }
+
+abbrev pub baseSet : List ℤ → StoreStep (Unit {0}) → ControllerStep
+baseSet delta x =
+    record {
+      answer = x .answer >>= λ u. return none;
+      next = record { store = x .store; area = x .area; delta = delta };
+    }
+
+-- a call, as `add_snap` and `set_delta_tick` are defined
+unfoldable pub controllerCall : Controller → ControllerCall → ControllerStep
+controllerCall c (addSnap tick table) = added (addSnapCall (c .store) (c .area) tick table (c .delta))
+controllerCall c (setDeltaTick tick) = baseSet (c .delta) (setDeltaTickCall (c .store) (c .area) tick)
+
+-- an empty store in an area of n ints, and a delta area
+abbrev pub freshController : ℕ → List ℤ → Controller
+freshController n delta = record { store = beside freshStorage; area = replicate n (pos 0); delta = delta }
+
+-- the controller after some calls
+unfoldable pub afterCalls : Controller → List ControllerCall → Controller
+afterCalls c [] = c
+afterCalls c (x ∷ xs) = afterCalls (controllerCall c x .next) xs
+
+-- a table that was accepted: its tick, the base that it was measured against, and its delta
+pub record Accepted : Type 0 where
+  pub tick : ℤ
+  pub base : ℤ
+  pub table : Table
+  pub delta : Delta
+
+-- the table that a call added, if it did, before those accepted already
+abbrev pub acceptedBy : ControllerCall → ControllerStep → Outcome (Option Added) → List Accepted → List Accepted
+acceptedBy (addSnap tick table) x (ok (some a) w) l =
+    record { tick = tick; base = a .base; table = items table; delta = deltaIn [] (x .next .delta) } ∷ l
+acceptedBy (addSnap tick table) x (ok none w) l = l
+acceptedBy (addSnap tick table) x (err n w) l = l
+acceptedBy (setDeltaTick tick) x o l = l
+
+-- all tables that were accepted, the newest first
+unfoldable pub acceptedFrom : Controller → List ControllerCall → List Accepted → List Accepted
+acceptedFrom c [] l = l
+acceptedFrom c (x ∷ xs) l =
+    acceptedFrom (controllerCall c x .next) xs (acceptedBy x (controllerCall c x) (controllerCall c x .answer) l)
+
+-- ---- what goes out
+
+-- a delta packed under known sizes
+abbrev pub packed : List ℤ → Accepted → List ℕ
+packed sizes a = packInts (deltaInts sizes (a .delta))
+
+-- the empty message of a table
+abbrev pub emptyMessage : Accepted → Message
+emptyMessage a = record { numbers = SnapEmpty (a .tick) (wrappingSub (a .tick) (a .base)); bytes = [] }
+
+-- whether a delta is empty
+abbrev pub isEmpty : Delta → Bool
+isEmpty d = eqb (length (d .deleted)) 0 && eqb (length (d .updated)) 0
+
+-- the messages of a table: its delta cut; or an empty message instead of them; or beside them, where the delta is empty
+unfoldable pub messagesOf : List ℤ → (ℤ → Bool) → Accepted → List Message
+messagesOf sizes instead a =
+    cond (instead (a .tick)) (emptyMessage a ∷ [])
+    (deltaChunks (a .tick) (a .base) (packed sizes a) (crc (a .table))
+    ++ cond (isEmpty (a .delta)) (emptyMessage a ∷ []) [])
+
+-- ---- the printer
+
+-- its manager, and the areas that are lent to it
+pub record Printer : Type 0 where
+  pub receiver : Receiver
+  pub store : Store
+  pub parts : List ℕ
+  pub joined : List ℕ
+  pub delta : List ℤ
+  pub area : List ℤ
+
+-- an empty store in an area of n ints, part areas and a delta area
+abbrev pub freshPrinter : ℕ → List ℕ → List ℕ → List ℤ → Printer
+freshPrinter n parts joined delta =
+    record {
+      receiver = freshReceiver;
+      store = beside freshStorage;
+      parts = parts;
+      joined = joined;
+      delta = delta;
+      area = replicate n (pos 0);
+    }
+
+abbrev pub left : ManagerStep → Printer
+left x =
+    record {
+      receiver = x .receiver;
+      store = x .store;
+      parts = x .parts;
+      joined = x .joined;
+      delta = x .delta;
+      area = x .area;
+    }
+
+-- what the printer may rely on: known sizes, and scratch of a length
+pub record Lent : Type 0 where
+  pub sizes : List ℤ
+  pub scratch : ℕ
+
+-- a message, as the manager's calls are defined
+abbrev pub printerCall : Lent → Printer → Message → ManagerStep
+printerCall lent p m =
+    messageCall (lent .sizes) (p .receiver) (p .store) m (p .parts) (p .joined) (p .delta) (p .area) (lent .scratch)
+
+-- the printer after some messages
+unfoldable pub afterMessages : Lent → Printer → List Message → Printer
+afterMessages lent p [] = p
+afterMessages lent p (m ∷ ms) = afterMessages lent (left (printerCall lent p m)) ms
+
+-- an answer as the logbook gives it
+abbrev pub answerOf : Outcome (Option ℤ) → Answer
+answerOf (ok (some tick) w) = acknowledges tick
+answerOf (ok none w) = notYet
+answerOf (err n w) = refused n
+
+-- the answers to some messages
+unfoldable pub answers : Lent → Printer → List Message → List Answer
+answers lent p [] = []
+answers lent p (m ∷ ms) =
+    answerOf (printerCall lent p m .answer) ∷ answers lent (left (printerCall lent p m)) ms
+
+-- the tables that a printer holds
+abbrev pub snapsIn : Option Storage → List StoredSnap
+snapsIn (some s) = s .snaps
+snapsIn none = []
+
+abbrev pub heldBy : Printer → List StoredSnap
+heldBy p = snapsIn (storageOf (p .store) (p .area))
+
+-- ---- the logbook
+
+-- the logbook after some messages
+unfoldable pub afterNotes : Logbook → List Message → Logbook
+afterNotes g [] = g
+afterNotes g (m ∷ ms) = afterNotes (noteMessage g (m .numbers) .logbook) ms
+
+-- its answers
+unfoldable pub noted : Logbook → List Message → List Answer
+noted g [] = []
+noted g (m ∷ ms) = noteMessage g (m .numbers) .answer ∷ noted (noteMessage g (m .numbers) .logbook) ms

@@ -1,0 +1,114 @@
+-- What goes out for an accepted table, message by message. Assumes nothing.
+use mathlib.Core.Path.{_≡_, refl, sym, _∙_, ap, ap₂, subst}
+use mathlib.Core.Logic.{_⊎_, inl, inr}
+use mathlib.Core.Bool.{Bool, true, false, cond, not, _&&_}
+use mathlib.Core.List.{List, [], _∷_}
+use Prim.Native.Nat.{ℕ, zero, suc, _≤_, _<_}
+use native.Mathlib.Omega.{arith}
+use borrow.Author.Tests.{leb-true, leb-false, eqb-true, lt-ltb, le-ltb}
+use lib.Dec.{ltb, leb, eqb}
+use lib.IntN.{ℤ}
+use lib.ListN.{length}
+use Rattle.definitions.specs.Ints.{wrappingSub}
+use Rattle.definitions.specs.Tables.{Item, list, crc}
+use Rattle.definitions.specs.Deltas.{Delta, deltaInts}
+use Rattle.definitions.specs.Packed.{packInts}
+use Rattle.definitions.specs.Messages.{SnapSingle, Message, numParts, partMessage, deltaChunks}
+use Rattle.definitions.specs.Manager.{emptyDelta}
+use Rattle.laws.specs.TableShape.{both}
+use Rattle.laws.specs.DeltaLaws.{delta-packs, empty-packs}
+use Rattle.session.specs.Runs.{Accepted, packed, emptyMessage, isEmpty, messagesOf}
+use Rattle.session.specs.Statement.{Among, Base}
+use Rattle.session.specs.Lists.{either, among-nothing, among-append, among-one}
+
+-- one of what is listed
+among-list : {A : Type 0} (f : ℕ → A) (k : ℕ) (m : A) → Among m (list f k) → (p : ℕ) × (p < k) × (m ≡ f p)
+unfolding list
+among-list f zero m h = absurd (among-nothing h)
+among-list {A} f (suc k) m h = go (among-append (list f k) h) (λ u. among-list f k m u)
+  where
+    go : Among m (list f k) ⊎ Among m (f k ∷ []) → (Among m (list f k) → (p : ℕ) × (p < k) × (m ≡ f p)) → (p : ℕ) × (p < suc k) × (m ≡ f p)
+    go (inl u) g = let (p, l, e) = g u in (p, omega arith, e)
+    go (inr u) g = (k, omega arith, among-one u)
+
+-- ---- an empty delta
+
+-- a list of length 0 is empty
+length-zero : {A : Type 0} (l : List A) → eqb (length l) 0 ≡ true → l ≡ []
+length-zero [] e = refl
+length-zero (x ∷ l) e = absurd (omega (arith, eqb-true (length (x ∷ l)) 0 e))
+
+-- a delta that is empty is the empty delta
+pub empty-is : (d : Delta) → isEmpty d ≡ true → d ≡ emptyDelta
+empty-is d e =
+    let p = both (eqb (length (d .deleted)) 0) _ e in
+    ap₂ (λ (k : List ℕ) (u : List Item). record { deleted = k; updated = u }) (length-zero (d .deleted) (p .0)) (length-zero (d .updated) (p .1))
+
+module _ (sizes : List ℤ) (instead : ℤ → Bool) where
+  -- whether a table's tick takes several messages
+  unfoldable pub isLarge : Accepted → Bool
+  isLarge a = not (instead (a .tick)) && ltb 900 (length (packed sizes a))
+
+  -- how many parts finish a table's tick
+  unfoldable pub partsNeeded : Accepted → ℕ
+  partsNeeded a = cond (isLarge a) (numParts (packed sizes a)) 1
+
+  -- part p of a table
+  abbrev pub partOfTable : Accepted → ℕ → Message
+  partOfTable a p = partMessage (a .tick) (wrappingSub (a .tick) (a .base)) (packed sizes a) (crc (a .table)) p
+
+  -- the single message of a table
+  abbrev pub singleOfTable : Accepted → Message
+  singleOfTable a =
+      record {
+        numbers = SnapSingle (a .tick) (wrappingSub (a .tick) (a .base)) (crc (a .table));
+        bytes = packed sizes a;
+      }
+
+  -- a message of a table: a part of several, the single one, or the empty one
+  pub data Goes (l : List Accepted) (a : Accepted) : Message → Type 0 where
+    asPart : (p : ℕ) → isLarge a ≡ true → p < numParts (packed sizes a) → Goes l a (partOfTable a p)
+    asSingle : isLarge a ≡ false → length (packed sizes a) ≤ 900 → Goes l a (singleOfTable a)
+    asEmpty : isLarge a ≡ false → Base l (a .base) (a .table) ⊎ (a .delta ≡ emptyDelta) → Goes l a (emptyMessage a)
+
+  -- an empty delta fits one message
+  empty-short : (a : Accepted) → isEmpty (a .delta) ≡ true → length (packed sizes a) ≤ 900
+  empty-short a e =
+      let z : packed sizes a ≡ 0 ∷ 0 ∷ 0 ∷ [] = ap (λ (d : Delta). packInts (deltaInts sizes d)) (empty-is (a .delta) e) ∙ empty-packs sizes in
+      rw z (omega arith)
+
+  -- each message of a table's delta
+  chunk-goes : (l : List Accepted) (a : Accepted) (m : Message) → instead (a .tick) ≡ false → Among m (deltaChunks (a .tick) (a .base) (packed sizes a) (crc (a .table))) → Goes l a m
+  unfolding deltaChunks isLarge
+  chunk-goes l a m q h =
+      either (eqb (length (packed sizes a)) 0)
+      (λ u. absurd (omega (arith, eqb-true (length (packed sizes a)) 0 u, delta-packs sizes (a .delta))))
+      (λ u.
+      either (leb (length (packed sizes a)) 900)
+      (λ v.
+      let w : length (packed sizes a) ≤ 900 = leb-true (length (packed sizes a)) 900 v in
+      subst (Goes l a) (sym (among-one (rw (u, v) at h))) (asSingle (rw (q, le-ltb 900 (length (packed sizes a)) w) refl) w))
+      (λ v. part v (among-list (partOfTable a) (numParts (packed sizes a)) m (rw (u, v) at h))))
+    where
+      part : leb (length (packed sizes a)) 900 ≡ false → (p : ℕ) × (p < numParts (packed sizes a)) × (m ≡ partOfTable a p) → Goes l a m
+      part v (p, u, f) =
+          unfold isLarge in
+          subst (Goes l a) (sym f) (asPart p (rw (q, lt-ltb 900 (length (packed sizes a)) (leb-false (length (packed sizes a)) 900 v)) refl) u)
+
+  -- each message of a table is one of these
+  pub message-goes : (l : List Accepted) (a : Accepted) (m : Message) → (instead (a .tick) ≡ true → Base l (a .base) (a .table)) → Among m (messagesOf sizes instead a) → Goes l a m
+  unfolding messagesOf
+  message-goes l a m q h =
+      either (instead (a .tick))
+      (λ e. subst (Goes l a) (sym (among-one (rw e at h))) (asEmpty (unfold isLarge in rw e refl) (inl (q e))))
+      (λ e. go e (among-append (deltaChunks (a .tick) (a .base) (packed sizes a) (crc (a .table))) (rw e at h)))
+    where
+      go : instead (a .tick) ≡ false → Among m (deltaChunks (a .tick) (a .base) (packed sizes a) (crc (a .table))) ⊎ Among m (cond (isEmpty (a .delta)) (emptyMessage a ∷ []) []) → Goes l a m
+      go e (inl k) = chunk-goes l a m e k
+      go e (inr k) =
+          either (isEmpty (a .delta))
+          (λ c.
+          unfold isLarge in
+          subst (Goes l a) (sym (among-one (rw c at k)))
+          (asEmpty (rw (e, le-ltb 900 (length (packed sizes a)) (empty-short a c)) refl) (inr (empty-is (a .delta) c))))
+          (λ c. absurd (among-nothing (rw c at k)))

@@ -1,0 +1,1 @@
+// Demand 3: a controller, a printer and a radio that loses, repeats and reorders.
