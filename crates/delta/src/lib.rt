@@ -1,9 +1,12 @@
 // Deltas between tables, in lent areas of ints.
 ghost use mathlib.Core.Path.{_≡_};
+ghost use lib.ListN.{length};
+ghost use Rattle.definitions.specs.Areas.{cleared};
 ghost use Rattle.definitions.specs.Tables.{items};
-ghost use Rattle.definitions.specs.DeltaCalls.{clearCall, createCall, writeToIntsCall, writeCall};
+ghost use Rattle.definitions.specs.DeltaCalls.{clearCall, createCall, writeToIntsCall, writeCall, readFromIntsCall, readCall};
 ghost use Rattle.delta_making.specs.Answers.{madeInts, Clash};
-ghost use Rattle.format.specs.Answers.{storedInts};
+ghost use Rattle.format.specs.Totals.{counts};
+ghost use Rattle.format.specs.Answers.{storedInts, storedWith};
 ghost use Rattle.packer.specs.Answers.{intWrite};
 use delta_form::checked::DeltaForm;
 use delta_form::checked::form;
@@ -12,9 +15,12 @@ use delta_writing::checked::sizes_match;
 use delta_writing::checked::write_ints;
 use delta_writing::checked::write_packed;
 use format::Error;
+use format::Reading;
 use format::Stored;
 use packer::IntWrite;
 use table::checked::TableForm;
+
+pub mod checked;
 
 // Writes the empty delta.
 pub fn clear(out: &mut [i32]) -> Stored
@@ -78,4 +84,23 @@ pub fn write(area: &[i32], sizes: &[i32], out: &mut [u8]) -> IntWrite
         return IntWrite::Refused(Error::KnownSizeDiffers);
     }
     write_packed(area, deleted, updated, sizes, out)
+}
+
+// A delta of ints under known sizes, into the front of out: how many ints it takes there. A refused call leaves out as it was.
+// Scratch has 16,384 entries or more; it is zeros afterwards.
+pub fn read_from_ints(src: &[i32], sizes: &[i32], out: &mut [i32], scratch: &mut [i32]) -> Reading
+    ensures { λ r. ⌜ (readFromIntsCall (now (src .entry)) (now (sizes .entry)) (now (out .entry)) (length (now (scratch .entry))) ≡ record { answer = storedWith (r .answer) (counts (r .warnings)); out = now (out .exit) }) × (now (scratch .exit) ≡ cleared (now (scratch .entry))) ⌝ }
+{
+    let read = checked::judge_ints(src, sizes, out, scratch);
+    ints::clear(scratch);
+    read
+}
+
+// A packed delta under known sizes, into the front of out. Scratch has 16,384 entries or more, and one for each byte; it is zeros afterwards.
+pub fn read(src: &[u8], sizes: &[i32], out: &mut [i32], scratch: &mut [i32]) -> Reading
+    ensures { λ r. ⌜ (readCall (now (src .entry)) (now (sizes .entry)) (now (out .entry)) (length (now (scratch .entry))) ≡ record { answer = storedWith (r .answer) (counts (r .warnings)); out = now (out .exit) }) × (now (scratch .exit) ≡ cleared (now (scratch .entry))) ⌝ }
+{
+    let read = checked::judge_packed(src, sizes, out, scratch);
+    ints::clear(scratch);
+    read
 }

@@ -1,6 +1,7 @@
 -- The deleted keys and the updates of a delta as pairs of a rank and a place, and what they tell once they are sorted.
 pub mod Entries
 pub mod Steps
+pub mod Walks
 pub mod DeletedLaws
 pub mod Placing
 pub mod UpdateLaws

@@ -1,8 +1,19 @@
 -- A place in the deleted keys, by the rank of a key that is looked for. Assumes nothing.
+use Prim.Native.Nat.{ℕ, _<_, _≤_, _^_}
+use mathlib.Core.Path.{_≡_, refl, sym, ap}
+use mathlib.Core.Bool.{Bool, true, false, _&&_}
 use mathlib.Core.List.{List}
-use Prim.Native.Nat.{ℕ, _<_, _≤_}
+use mathlib.Core.Logic.{⊎-elim}
+use native.Mathlib.Omega.{arith}
 use lib.IntN.{ℤ}
+use lib.Dec.{ltb, eqb}
+use borrow.Author.Tests.{lt-ltb, le-ltb, eqb-true, eqb-false}
+use Rattle.definitions.specs.Tables.{list}
 use Rattle.definitions.specs.Deltas.{rank, deletedAt}
+use Rattle.definitions.specs.DeltaReading.{elem}
+use Rattle.laws.specs.Tests.{below}
+use Rattle.laws.specs.DeltaShape.{DeletedKey}
+use Rattle.laws.specs.DeltaKeys.{rank-same, is-listed, not-listed, deleted-below, ranks-rise}
 
 -- the deleted keys before the i-th are below a rank
 pub record Under (a : List ℤ) (i low : ℕ) : Type 0 where
@@ -13,3 +24,23 @@ pub record Reached (a : List ℤ) (k i low : ℕ) : Type 0 where
   pub few : i ≤ k
   pub under : Under a i low
   pub here : i < k → low ≤ rank (deletedAt a i)
+
+module _ (a : List ℤ) (k : ℕ) (keys : (i : ℕ) → i < k → DeletedKey a i) where
+  -- a key is deleted where the first deleted key of its rank or above is of its rank
+  pub elem-reached : (i key : ℕ) → key < 2 ^ 32 → Reached a k i (rank key) → elem key (list (deletedAt a) k) ≡ (ltb i k && eqb (rank (deletedAt a i)) (rank key))
+  elem-reached i key w r =
+      ⊎-elim
+      (λ (l : i < k). rw (lt-ltb i k l) (at-it l (eqb (rank (deletedAt a i)) (rank key)) refl))
+      (λ (l : k ≤ i).
+      rw (le-ltb i k l)
+      (not-listed (deletedAt a) key k (λ j m e. let n = r .under .below j (omega arith) in let q = ap rank e in omega arith)))
+      (below i k)
+    where
+      at-it : i < k → (b : Bool) → eqb (rank (deletedAt a i)) (rank key) ≡ b → elem key (list (deletedAt a) k) ≡ b
+      at-it l true e = is-listed (deletedAt a) key k i l (sym (rank-same (deletedAt a i) key (deleted-below a k keys i l) w (eqb-true (rank (deletedAt a i)) (rank key) e)))
+      at-it l false e = not-listed (deletedAt a) key k (λ j m q.
+          let d = ap rank q in
+          ⊎-elim
+          (λ (t : j < i). let n = r .under .below j t in omega arith)
+          (λ (t : i ≤ j). eqb-false (rank (deletedAt a i)) (rank key) e (omega (arith, r .here l, ranks-rise a k keys i j t m)))
+          (below j i))

@@ -125,7 +125,7 @@ pub fn write_area(
 }
 
 // The place of the first deleted key of a rank or above, from a place on before which all are below it.
-fn deleted_from(src: &[i32], deleted: usize, start: usize, low: usize) -> usize
+pub fn deleted_from(src: &[i32], deleted: usize, start: usize, low: usize) -> usize
     requires { ⌜ (3 + deleted ≤ length (now src)) × (start ≤ deleted) × Under (now src) start low ⌝ }
     ensures { λ r. ⌜ Reached (now (src .entry)) deleted r low ⌝ }
 {
@@ -140,7 +140,7 @@ fn deleted_from(src: &[i32], deleted: usize, start: usize, low: usize) -> usize
 }
 
 // Whether there is an i-th deleted key, and it is of a rank.
-fn has_rank(src: &[i32], deleted: usize, i: usize, here: usize) -> bool
+pub fn has_rank(src: &[i32], deleted: usize, i: usize, here: usize) -> bool
     requires { ⌜ 3 + deleted ≤ length (now src) ⌝ }
     ensures { λ r. ⌜ r ≡ (ltb i deleted && eqb (Deltas.rank (deletedAt (now (src .entry)) i)) here) ⌝ }
 {

@@ -38,14 +38,14 @@ module _ (s : Source) (at : ℕ) where
   module _ {x : ℤ} {next : ℕ} (overlong padding : Bool) where
     pub negative-number : Next s at (read.Int x next overlong padding) → mag x < 2 ^ 31 → 2 ^ 32 ≤ num x → Numbers s at (number.Refused error.IntOutOfRange (cond overlong 1 0) (cond padding 1 0))
     unfolding headerNumber
-    negative-number (found e a b) m h =
+    negative-number (found e q a b) m h =
         Steps.refused {e = error.IntOutOfRange} {o = cond overlong 1 0} {p = cond padding 1 0}
         (rw (e, ap nonNegative (as-negative x m h)) (ap (err intOutOfRange) (plus-none (warned overlong padding) ∙ warned-packed overlong padding)))
         (at-most-one overlong) (at-most-one padding)
 
     pub number-read : Next s at (read.Int x next overlong padding) → num x < 2 ^ 32 → Numbers s at (number.Number (num x) next (cond overlong 1 0) (cond padding 1 0))
     unfolding headerNumber
-    number-read (found e a b) h =
+    number-read (found e q a b) h =
         let r : Got ℕ = record { value = num x; rest = from s next } in
         Steps.some-number {n = num x} {next = next} {o = cond overlong 1 0} {p = cond padding 1 0}
         (rw (e, ap nonNegative (as-count x h)) (ap (ok r) (plus-none (warned overlong padding) ∙ warned-packed overlong padding)))
@@ -72,7 +72,7 @@ module _ (s : Source) (at k u o p : ℕ) where
   module _ {x : ℤ} {next : ℕ} (overlong padding odd : Bool) where
     pub padding-read : Next s at (read.Int x next overlong padding) → odd ≡ not (eqb (num x) 0) → HeaderOf s (after (packed o p) (paddingOf k u (from s at))) (header.Delta k u odd next (o + cond overlong 1 0) (p + cond padding 1 0))
     unfolding paddingOf
-    padding-read (found e a b) q =
+    padding-read (found e i a b) q =
         let w = warned overlong padding in
         let r : Got DeltaHeader = record { value = record { deleted = k; updated = u }; rest = from s next } in
         Steps.delta {k = k} {u = u} {next = next} {o = o + cond overlong 1 0} {p = p + cond padding 1 0} {odd = odd}

@@ -1,5 +1,5 @@
 -- Updates one after the other. Assumes nothing.
-use mathlib.Core.Path.{_≡_, refl}
+use mathlib.Core.Path.{_≡_, refl, sym, ap₂, _∙_}
 use mathlib.Core.Bool.{true, false}
 use mathlib.Core.List.{List, [], _∷_, _++_, append-assoc, append-nil}
 use mathlib.Core.Option.{Option}
@@ -15,7 +15,7 @@ use Rattle.definitions.specs.Deltas.{updateInts, updatesInts}
 use Rattle.definitions.specs.DeltaReading.{isEnd}
 use Rattle.laws.specs.WarningLaws.{packed, none-plus, plus-none, plus-assoc}
 use Rattle.format.specs.declared.Error.{Error}
-use Rattle.delta_source.specs.Source.{Source, size, from, Updates, Walks, Judges}
+use Rattle.delta_source.specs.Source.{Source, size, from, behindInts, dataPlace, behindUpdate, Updates, Walks, Judges}
 use Rattle.delta_source.specs.Source as Source
 use Rattle.delta_source.specs.SourceLaws.{overlongs, paddings, few-from, few-left}
 use Rattle.delta_source.specs.SourceBounds.{update-counted, update-bounded, length-update, length-updates}
@@ -25,7 +25,11 @@ use Rattle.delta_source.specs.declared.checked.Judged.{Judged}
 
 -- the place moves on
 pub update-on : {s : Source} {sizes : List ℤ} {at n d next o p : ℕ} {k : ℤ} → Updates s sizes at (update.Update k n d next o p) → at < next
-update-on (Source.update xs v l q e a b h) = omega arith
+update-on (Source.update xs v l q e r m a b h) = omega arith
+
+-- the place behind it
+update-place : (s : Source) (sizes : List ℤ) (at key : ℕ) (xs : List ℤ) {n d next : ℕ} → length xs ≡ n → d ≡ dataPlace s sizes at key → next ≡ behindInts s d n → next ≡ behindUpdate s sizes at (record { key = key; values = xs })
+update-place s sizes at key xs l e f = f ∙ ap₂ (behindInts s) e (sym l)
 
 -- those walked so far, put before what is left, are the whole
 pub record Judging (s : Source) (sizes : List ℤ) (start here : ℕ) (t : Judged) : Type 0 where
@@ -64,8 +68,8 @@ module _ (s : Source) (sizes : List ℤ) (start : ℕ) where
   module _ {here : ℕ} {t : Judged} where
     pub turn-judging : {k : ℤ} {n d next o p : ℕ} → Judging s sizes start here t → isEnd (from s here) ≡ false → Updates s sizes here (update.Update k n d next o p) → Judging s sizes start next (counting t n o p)
     unfolding updatesInts
-    turn-judging {k} {n} {d} {next} {o} {p} i f (Source.update xs v l q e a b h) =
-        let again : Updates s sizes here (update.Update k n d next o p) = Source.update xs v l q e a b h in
+    turn-judging {k} {n} {d} {next} {o} {p} i f (Source.update xs v l q e r m a b h) =
+        let again : Updates s sizes here (update.Update k n d next o p) = Source.update xs v l q e r m a b h in
         let c = update-counted again in
         let u : Item = record { key = bits k; values = xs } in
         record {
@@ -77,7 +81,7 @@ module _ (s : Source) (sizes : List ℤ) (start : ℕ) where
           room-is = omega (arith, i .room-is, length-updates (i .done) (u ∷ []), length-update u, length-append (updateInts [] u) []);
           joins = λ {us} {w} j.
               rw (append-assoc (i .done) (u ∷ []) us, plus-assoc (packed (t .overlong) (t .padding)) (packed o p) w)
-              (i .joins (Source.more f e (omega arith) h j));
+              (i .joins (Source.more f e (update-place s sizes here (bits k) xs l r m) (omega arith) h j));
           overlong-all = omega (arith, i .overlong-all, c .overlong-all);
           padding-all = omega (arith, i .padding-all, c .padding-all);
           room-most = omega (arith, i .room-most, c .ints-all);

@@ -24,7 +24,7 @@ use Rattle.laws.specs.StreamLaws as StreamLaws
 use Rattle.packer.specs.Answers.{intRead}
 use Rattle.packer.specs.declared.IntRead.{IntRead}
 use Rattle.packer.specs.declared.IntRead.the-variants as read
-use Rattle.delta_source.specs.Source.{Source, source, size, from, Next, found, nothing}
+use Rattle.delta_source.specs.Source.{Source, source, size, from, placeOf, behind, Next, found, nothing}
 
 -- ---- packed bytes
 
@@ -33,10 +33,10 @@ module _ (src : List ℕ) (l : List ℤ) (at : ℕ) where
   stream-past h = ap stream (drop-of-length-le src h) ∙ stream-end
 
   pub read-next : (r : IntRead) → readIntAt src at ≡ intRead r → Next (source true src l) at r
-  unfolding from
+  unfolding from behind
   read-next (read.Int x next o p) e =
       let f = StreamLaws.found src at x next (warned o p) e in
-      found (f .step) (f .on) (f .inside)
+      found (f .step) (sym (ap placeOf e)) (f .on) (f .inside)
   read-next read.End e =
       ⊎-elim
       (λ (h : at < length src). nothing (λ refusal. rw (ended src at unexpectedEnd Warnings.none h e)))
@@ -67,8 +67,8 @@ module _ (src : List ℕ) (l : List ℤ) (at : ℕ) where
   int-past h = ap intStream (drop-of-length-le l h)
 
   pub int-next : at < length l → Next (source false src l) at (read.Int (getD l at (pos 0)) (at + 1) false false)
-  unfolding from
-  int-next h = found {x = getD l at (pos 0)} {next = at + 1} {o = false} {p = false} (int-step h) (omega arith) (omega arith)
+  unfolding from behind
+  int-next h = found {x = getD l at (pos 0)} {next = at + 1} {o = false} {p = false} (int-step h) refl (omega arith) (omega arith)
 
   pub no-int : length l ≤ at → Next (source false src l) at read.End
   unfolding from
@@ -84,4 +84,4 @@ module _ (src : List ℕ) (l : List ℤ) (at : ℕ) where
 
 -- the place behind an integer
 pub next-inside : {s : Source} {at next : ℕ} {x : ℤ} {o p : Bool} → Next s at (read.Int x next o p) → next ≤ size s
-next-inside (found e a b) = b
+next-inside (found e q a b) = b

@@ -1,33 +1,35 @@
 -- The head of an update, and the update, step by step. Assumes nothing.
-use mathlib.Core.Path.{_≡_, refl, ap, _∙_}
+use mathlib.Core.Path.{_≡_, refl, sym, ap, _∙_}
 use mathlib.Core.Bool.{Bool, cond}
-use mathlib.Core.List.{List}
+use mathlib.Core.List.{List, []}
 use mathlib.Core.Option.{some, none}
-use Prim.Native.Nat.{ℕ, _+_, _≤_, _<_, _^_}
+use Prim.Native.Nat.{ℕ, _+_, _/_, _≤_, _<_, _^_}
 use native.Mathlib.Omega.{arith}
 use borrow.Author.Tests.{lt-ltb, le-ltb}
 use lib.IntN.{ℤ, pos, negsuc}
-use lib.ListN.{length, getD}
+use lib.ListN.{length}
 use lib.Signed.{mag}
 use Rattle.definitions.specs.Ints.{bits}
 use Rattle.definitions.specs.Refusals.{itemDiffsUnpacking, typeIdRange, idRange, negativeSize}
 use Rattle.definitions.specs.Warnings.{Counts, plus}
-use Rattle.definitions.specs.Outcome.{ok, err, after}
+use Rattle.definitions.specs.Outcome.{Outcome, ok, err, return, after, _>>=_}
 use Rattle.definitions.specs.Packed.{warned}
 use Rattle.definitions.specs.Stream.{int}
-use Rattle.definitions.specs.Tables.{keyOf, num, nat}
-use Rattle.definitions.specs.Deltas.{known, knownSize}
+use Rattle.definitions.specs.Tables.{keyOf, num}
+use Rattle.definitions.specs.Deltas.{knownSize}
 use Rattle.definitions.specs.DeltaReading.{Got, next, writtenSize, updateSize, readHead, readUpdate}
 use Rattle.definitions.specs.DeltaReading as Reading
-use Rattle.laws.specs.OutcomeLaws.{after-none, after-after}
+use Rattle.laws.specs.OutcomeLaws.{after-none, after-after, ok-value, ok-not-err}
 use Rattle.laws.specs.WarningLaws.{packed, warned-packed, plus-none}
 use Rattle.format.specs.declared.Error.{Error}
 use Rattle.format.specs.declared.Error.the-variants as error
+use Rattle.delta_form.specs.Held.{sizeFrom}
 use Rattle.packer.specs.declared.IntRead.the-variants as read
-use Rattle.delta_source.specs.Source.{Source, size, from, Next, found, nothing, Skips, past, short, Heads, Updates}
+use Rattle.delta_source.specs.Source.{Source, size, from, behind, behindInts, Next, found, nothing, Skips, past, short, Heads, Updates}
 use Rattle.delta_source.specs.Source as Source
-use Rattle.delta_source.specs.Steps.{sized, sizeOf, headOf, HeadOf}
+use Rattle.delta_source.specs.Steps.{sizeLength, sizeOf, headOf, HeadOf}
 use Rattle.delta_source.specs.Steps as Steps
+use Rattle.delta_source.specs.SourcePlaces.{behind-none, behind-step, behind-head}
 use Rattle.delta_source.specs.declared.checked.Head.{Head}
 use Rattle.delta_source.specs.declared.checked.Head.the-variants as head
 use Rattle.delta_source.specs.declared.checked.Skip.the-variants as skip
@@ -39,16 +41,7 @@ more-warned o p overlong padding = ap (plus (packed o p)) (warned-packed overlon
 
 -- ---- known sizes
 
-known-num : (z : ℤ) → mag z < 2 ^ 31 → known z ≡ sized (num z)
-unfolding num
-known-num (pos n) h = rw (lt-ltb n (2 ^ 32) (omega arith))
-known-num (negsuc n) h = refl
-
-pub known-there : (sizes : List ℤ) (i r : ℕ) → i < length sizes → mag (getD sizes i (pos 0)) < 2 ^ 31 → r ≡ nat sizes i → knownSize sizes i ≡ sized r
-unfolding knownSize nat
-known-there sizes i r h m e = rw (lt-ltb i (length sizes) h, e) (known-num (getD sizes i (pos 0)) m)
-
-pub known-absent : (sizes : List ℤ) (i : ℕ) → length sizes ≤ i → knownSize sizes i ≡ none
+known-absent : (sizes : List ℤ) (i : ℕ) → length sizes ≤ i → knownSize sizes i ≡ none
 unfolding knownSize
 known-absent sizes i h = rw (le-ltb i (length sizes) h)
 
@@ -65,36 +58,45 @@ unfolding num
 as-negative (pos n) m h = absurd (omega arith)
 as-negative (negsuc n) m h = refl
 
+-- behind a size that is not known
+size-place : (s : Source) (at type : ℕ) {next : ℕ} → next ≡ behind s at → next ≡ behindInts s at (sizeLength (knownSize [] type))
+size-place s at type {next} e = rw (known-absent [] type (omega arith)) (sym (behind-step s at 0 e ∙ behind-none s next))
+
+-- the key of a head whose size was read
+key-kept : (w v : Counts) (key : ℕ) (u : Outcome (Got ℕ)) (g : Got Reading.Head) → after w (u >>= λ n. return (record { value = record { key = key; size = n .value }; rest = n .rest })) ≡ ok g v → g .value .key ≡ key
+key-kept w v key (ok n c) g e = sym (ap (λ (h : Got Reading.Head). h .value .key) (ok-value e))
+key-kept w v key (err n c) g e = absurd (ok-not-err (sym e))
+
 module _ (s : Source) (at k o p : ℕ) where
-  pub size-end : Next s at read.End → HeadOf s at (after (packed o p) (sizeOf none k (from s at))) (head.Refused error.ItemDiffsUnpacking o p)
+  pub size-end : Next s at read.End → HeadOf s [] at (after (packed o p) (sizeOf none k (from s at))) (head.Refused error.ItemDiffsUnpacking o p)
   unfolding sizeOf updateSize
   size-end (nothing e) = Steps.refused {e = error.ItemDiffsUnpacking} {over = o} {padd = p} (rw (e itemDiffsUnpacking) (ap (err itemDiffsUnpacking) (plus-none (packed o p))))
 
   module _ {x : ℤ} {next : ℕ} (overlong padding : Bool) where
-    pub size-negative : Next s at (read.Int x next overlong padding) → mag x < 2 ^ 31 → 2 ^ 32 ≤ num x → HeadOf s at (after (packed o p) (sizeOf none k (from s at))) (head.Refused error.NegativeSize (o + cond overlong 1 0) (p + cond padding 1 0))
+    pub size-negative : Next s at (read.Int x next overlong padding) → mag x < 2 ^ 31 → 2 ^ 32 ≤ num x → HeadOf s [] at (after (packed o p) (sizeOf none k (from s at))) (head.Refused error.NegativeSize (o + cond overlong 1 0) (p + cond padding 1 0))
     unfolding sizeOf updateSize
-    size-negative (found e a b) m h =
+    size-negative (found e j a b) m h =
         let w = warned overlong padding in
         Steps.refused {e = error.NegativeSize} {over = o + cond overlong 1 0} {padd = p + cond padding 1 0} (rw (e, ap writtenSize (as-negative x m h)) (ap (λ (v : Counts). err negativeSize (plus (packed o p) v)) (plus-none w) ∙ ap (err negativeSize) (more-warned o p overlong padding)))
 
   module _ {key x : ℤ} {next : ℕ} (overlong padding : Bool) where
-    pub size-read : bits key ≡ k → Next s at (read.Int x next overlong padding) → num x < 2 ^ 32 → HeadOf s at (after (packed o p) (sizeOf none k (from s at))) (head.Update key (num x) next (o + cond overlong 1 0) (p + cond padding 1 0))
+    pub size-read : bits key ≡ k → Next s at (read.Int x next overlong padding) → num x < 2 ^ 32 → HeadOf s [] at (after (packed o p) (sizeOf none k (from s at))) (head.Update key (num x) next (o + cond overlong 1 0) (p + cond padding 1 0))
     unfolding sizeOf updateSize
-    size-read q (found e a b) h =
+    size-read q (found e j a b) h =
         let w = warned overlong padding in
         let r : Got Reading.Head = record { value = record { key = k; size = num x }; rest = from s next } in
         Steps.update {k = key} {n = num x} {d = next} {over = o + cond overlong 1 0} {padd = p + cond padding 1 0}
         (rw (e, ap writtenSize (as-count x h), q) (ap (λ (v : Counts). ok r (plus (packed o p) v)) (plus-none _ ∙ plus-none w) ∙ ap (ok r) (more-warned o p overlong padding)))
-        (omega arith) b
+        (size-place s at (bits key / 65536) j) (omega arith) b
 
 -- ---- type and id
 
 module _ (s : Source) (sizes : List ℤ) (at : ℕ) (t i : ℤ) (o p : ℕ) where
-  pub type-range : 65536 ≤ num t → HeadOf s at (after (packed o p) (headOf sizes t i (from s at))) (head.Refused error.TypeIdRange o p)
+  pub type-range : 65536 ≤ num t → HeadOf s sizes at (after (packed o p) (headOf sizes t i (from s at))) (head.Refused error.TypeIdRange o p)
   unfolding headOf
   type-range h = Steps.refused {e = error.TypeIdRange} {over = o} {padd = p} (rw (le-ltb (num t) 65536 h) (ap (err typeIdRange) (plus-none (packed o p))))
 
-  pub id-range : num t < 65536 → 65536 ≤ num i → HeadOf s at (after (packed o p) (headOf sizes t i (from s at))) (head.Refused error.IdRange o p)
+  pub id-range : num t < 65536 → 65536 ≤ num i → HeadOf s sizes at (after (packed o p) (headOf sizes t i (from s at))) (head.Refused error.IdRange o p)
   unfolding headOf
   id-range h k = Steps.refused {e = error.IdRange} {over = o} {padd = p} (rw (lt-ltb (num t) 65536 h, le-ltb (num i) 65536 k) (ap (err idRange) (plus-none (packed o p))))
 
@@ -103,19 +105,28 @@ module _ (s : Source) (sizes : List ℤ) (at : ℕ) (t i : ℤ) (o p : ℕ) wher
     unfolding headOf
     in-range = rw (lt-ltb (num t) 65536 h, lt-ltb (num i) 65536 k) (after-none _ ∙ after-none _)
 
-    pub size-known : {key : ℤ} {n : ℕ} → bits key ≡ keyOf (num t) (num i) → knownSize sizes (num t) ≡ sized n → n < 2 ^ 32 → at ≤ size s → HeadOf s at (after (packed o p) (headOf sizes t i (from s at))) (head.Update key n at o p)
+    type-of : {key : ℕ} → key ≡ keyOf (num t) (num i) → key / 65536 ≡ num t
+    type-of e = omega arith
+
+    pub size-known : {key : ℤ} {n : ℕ} → bits key ≡ keyOf (num t) (num i) → knownSize sizes (num t) ≡ sizeFrom n → n < 2 ^ 32 → at ≤ size s → HeadOf s sizes at (after (packed o p) (headOf sizes t i (from s at))) (head.Update key n at o p)
     unfolding sizeOf updateSize
     size-known {key} {n} e q l b =
         let r : Got Reading.Head = record { value = record { key = bits key; size = n }; rest = from s at } in
-        let m : sized n ≡ some n = rw (lt-ltb n (2 ^ 32) l) in
+        let m : sizeFrom n ≡ some n = rw (lt-ltb n (2 ^ 32) l) in
         Steps.update {k = key} {n = n} {d = at} {over = o} {padd = p}
         (rw (in-range, q, m, ← e) (ap (ok r) (plus-none (packed o p))))
-        (omega arith) b
+        (rw (type-of e, q, m) (sym (behind-none s at))) (omega arith) b
 
-    pub size-unknown : (key : ℤ) (n : ℕ) {r : Head} → bits key ≡ keyOf (num t) (num i) → knownSize sizes (num t) ≡ sized n → 2 ^ 32 ≤ n → HeadOf s at (after (packed o p) (sizeOf none (bits key) (from s at))) r → HeadOf s at (after (packed o p) (headOf sizes t i (from s at))) r
-    size-unknown key n e q l f =
-        let m : sized n ≡ none = rw (le-ltb n (2 ^ 32) l) in
-        rw (in-range, q, m, ← e) f
+    pub size-unknown : (key : ℤ) (n : ℕ) {r : Head} → bits key ≡ keyOf (num t) (num i) → knownSize sizes (num t) ≡ sizeFrom n → 2 ^ 32 ≤ n → HeadOf s [] at (after (packed o p) (sizeOf none (bits key) (from s at))) r → HeadOf s sizes at (after (packed o p) (headOf sizes t i (from s at))) r
+    unfolding sizeOf
+    size-unknown key n e q l (Steps.update {k = k₂} {n = c} {d = d} {over = u} {padd = v} g f a b) =
+        let m : sizeFrom n ≡ none = rw (le-ltb n (2 ^ 32) l) in
+        let y : bits k₂ ≡ bits key = key-kept (packed o p) _ (bits key) (updateSize none (from s at)) _ g in
+        let z : d ≡ behindInts s at 1 = rw (known-absent [] (bits k₂ / 65536) (omega arith)) at f in
+        Steps.update {k = k₂} {n = c} {d = d} {over = u} {padd = v} (rw (in-range, q, m, ← e) g) (rw (type-of (y ∙ e), q, m) z) a b
+    size-unknown key n e q l (Steps.refused {e = x} {over = u} {padd = v} g) =
+        let m : sizeFrom n ≡ none = rw (le-ltb n (2 ^ 32) l) in
+        Steps.refused {e = x} {over = u} {padd = v} (rw (in-range, q, m, ← e) g)
 
 -- ---- the head
 
@@ -127,7 +138,7 @@ module _ (s : Source) (sizes : List ℤ) (at : ℕ) where
   module _ (t : ℤ) (a : ℕ) (overlong padding : Bool) where
     pub no-id : Next s at (read.Int t a overlong padding) → Next s a read.End → Heads s sizes at (head.Refused error.ItemDiffsUnpacking (cond overlong 1 0) (cond padding 1 0))
     unfolding readHead
-    no-id (found e x y) (nothing f) =
+    no-id (found e j x y) (nothing f) =
         Source.refused {e = error.ItemDiffsUnpacking} {o = cond overlong 1 0} {p = cond padding 1 0} (rw (e, f itemDiffsUnpacking) (ap (err itemDiffsUnpacking) (plus-none _ ∙ warned-packed overlong padding)))
 
     module _ (i : ℤ) (d : ℕ) (overlong₂ padding₂ : Bool) where
@@ -140,15 +151,16 @@ module _ (s : Source) (sizes : List ℤ) (at : ℕ) where
           ∙ ap (λ (w : Counts). after (plus w (warned overlong₂ padding₂)) o) (warned-packed overlong padding)
           ∙ ap (λ (w : Counts). after w o) (more-warned (cond overlong 1 0) (cond padding 1 0) overlong₂ padding₂))
 
-      pub head-judged : {r : Head} → Next s at (read.Int t a overlong padding) → Next s a (read.Int i d overlong₂ padding₂) → HeadOf s d (after (packed (cond overlong 1 0 + cond overlong₂ 1 0) (cond padding 1 0 + cond padding₂ 1 0)) (headOf sizes t i (from s d))) r → Heads s sizes at r
-      head-judged (found e x y) (found f z u) (Steps.update g h k) = Source.update (both-read e f ∙ g) (omega arith) k
-      head-judged (found e x y) (found f z u) (Steps.refused g) = Source.refused (both-read e f ∙ g)
+      pub head-judged : {r : Head} → Next s at (read.Int t a overlong padding) → Next s a (read.Int i d overlong₂ padding₂) → HeadOf s sizes d (after (packed (cond overlong 1 0 + cond overlong₂ 1 0) (cond padding 1 0 + cond padding₂ 1 0)) (headOf sizes t i (from s d))) r → Heads s sizes at r
+      head-judged (found e q x y) (found f r z u) (Steps.update {k = k} g j h b) =
+          Source.update (both-read e f ∙ g) (j ∙ sym (behind-head s at (knownSize sizes (bits k / 65536)) q r)) (omega arith) b
+      head-judged (found e q x y) (found f r z u) (Steps.refused g) = Source.refused (both-read e f ∙ g)
 
 -- ---- the update
 
 -- the place of the differences
 pub data-inside : {s : Source} {sizes : List ℤ} {at n d o p : ℕ} {k : ℤ} → Heads s sizes at (head.Update k n d o p) → d ≤ size s
-data-inside (Source.update e a b) = b
+data-inside (Source.update e q a b) = b
 
 module _ (s : Source) (sizes : List ℤ) (at : ℕ) where
   pub head-refused : {e : Error} {o p : ℕ} → Heads s sizes at (head.Refused e o p) → Updates s sizes at (update.Refused e o p)
@@ -158,9 +170,9 @@ module _ (s : Source) (sizes : List ℤ) (at : ℕ) where
   module _ {k : ℤ} {n d o p : ℕ} where
     pub values-short : {o₂ p₂ : ℕ} → Heads s sizes at (head.Update k n d o p) → Skips s d n (skip.Short o₂ p₂) → Updates s sizes at (update.Refused error.ItemDiffsUnpacking (o + o₂) (p + p₂))
     unfolding readUpdate
-    values-short {o₂} {p₂} (Source.update e a b) (short f) = Source.refused {e = error.ItemDiffsUnpacking} {o = o + o₂} {p = p + p₂} (rw (e, f itemDiffsUnpacking))
+    values-short {o₂} {p₂} (Source.update e q a b) (short f) = Source.refused {e = error.ItemDiffsUnpacking} {o = o + o₂} {p = p + p₂} (rw (e, f itemDiffsUnpacking))
 
     pub update-read : {next o₂ p₂ : ℕ} → Heads s sizes at (head.Update k n d o p) → Skips s d n (skip.Past next o₂ p₂) → Updates s sizes at (update.Update k n d next (o + o₂) (p + p₂))
     unfolding readUpdate
-    update-read {next} {o₂} {p₂} (Source.update e a b) (past xs l f h i) =
-        Source.update {k = k} {n = n} {d = d} {next = next} {o = o + o₂} {p = p + p₂} xs (packed o₂ p₂) l f (rw (e, f itemDiffsUnpacking) (ap (λ (w : Counts). ok (record { value = record { key = bits k; values = xs }; rest = from s next }) (plus (packed o p) w)) (plus-none (packed o₂ p₂)))) a h i
+    update-read {next} {o₂} {p₂} (Source.update e q a b) (past xs l f r h i) =
+        Source.update {k = k} {n = n} {d = d} {next = next} {o = o + o₂} {p = p + p₂} xs (packed o₂ p₂) l f (rw (e, f itemDiffsUnpacking) (ap (λ (w : Counts). ok (record { value = record { key = bits k; values = xs }; rest = from s next }) (plus (packed o p) w)) (plus-none (packed o₂ p₂)))) q r a h i

@@ -22,7 +22,8 @@ use Rattle.laws.specs.OutcomeLaws.{ok-value, ok-not-err}
 use Rattle.laws.specs.DeltaReadBack.{reads}
 use Rattle.ints.specs.Copies.{Copied, copyAt}
 use Rattle.packer.specs.declared.IntRead.the-variants as read
-use Rattle.delta_source.specs.Source.{Source, source, size, from, Next, found, nothing, Skips, past, short, Copies}
+use Rattle.delta_source.specs.Source.{Source, source, size, from, behindInts, Next, found, nothing, Skips, past, short, Copies}
+use Rattle.delta_source.specs.SourcePlaces.{behind-none, behind-step, behind-ints}
 use Rattle.delta_source.specs.declared.checked.Skip.the-variants as skip
 
 -- ---- one integer more
@@ -59,6 +60,7 @@ pub record Skipping (s : Source) (start n at left o p : ℕ) : Type 0 where
   pub few-padding : p ≤ at
   pub done : List ℤ
   pub long : length done + left ≡ n
+  pub place : behindInts s at left ≡ behindInts s start n
   pub joins : (refusal : ℕ) → nextInts refusal n (from s start) ≡ prefixed done (packed o p) (nextInts refusal left (from s at))
 
 module _ (s : Source) (start n : ℕ) where
@@ -75,6 +77,7 @@ module _ (s : Source) (start n : ℕ) where
         few-padding = omega arith;
         done = [];
         long = omega arith;
+        place = refl;
         joins = λ refusal. nothing-first (nextInts refusal n (from s start));
       }
 
@@ -89,7 +92,7 @@ module _ (s : Source) (start n : ℕ) where
         ∙ ap (λ (w : Counts). prefixed (i .done ++ x ∷ []) (plus (packed o p) w) rest) (warned-packed overlong padding)
 
     pub turn-skip : {x : ℤ} {next : ℕ} (overlong padding : Bool) → Skipping s start n at left o p → 0 < left → Next s at (read.Int x next overlong padding) → Skipping s start n next (left - 1) (o + cond overlong 1 0) (p + cond padding 1 0)
-    turn-skip {x} {next} overlong padding i h (found e a b) =
+    turn-skip {x} {next} overlong padding i h (found e q a b) =
         record {
           on = omega (arith, i .on);
           inside = b;
@@ -97,14 +100,21 @@ module _ (s : Source) (start n : ℕ) where
           few-padding = omega (arith, i .few-padding, at-most-one padding);
           done = i .done ++ x ∷ [];
           long = omega (arith, i .long, length-append (i .done) (x ∷ []));
-          joins = joined (left - 1) overlong padding x next i (omega arith) e;
+          place = sym (ap (behindInts s at) l ∙ behind-step s at (left - 1) q) ∙ i .place;
+          joins = joined (left - 1) overlong padding x next i l e;
         }
+      where
+        l : left ≡ suc (left - 1)
+        l = omega arith
 
     -- all are passed over
     pub skipped : Skipping s start n at left o p → left ≤ 0 → Skips s start n (skip.Past at o p)
     unfolding nextInts
-    skipped i h = past (i .done) (omega (arith, i .long)) (λ refusal. i .joins refusal ∙ last refusal left h) (i .on) (i .inside)
+    skipped i h = past (i .done) (omega (arith, i .long)) (λ refusal. i .joins refusal ∙ last refusal left h) (sym (ap (behindInts s at) all-past ∙ behind-none s at) ∙ i .place) (i .on) (i .inside)
       where
+        all-past : left ≡ 0
+        all-past = omega arith
+
         last : (refusal m : ℕ) → m ≤ 0 → prefixed (i .done) (packed o p) (nextInts refusal m (from s at)) ≡ ok (record { value = i .done; rest = from s at }) (packed o p)
         last refusal zero h = rw (append-nil (i .done)) (ap (λ (w : Counts). ok (record { value = i .done; rest = from s at }) w) (plus-none (packed o p)))
         last refusal (suc m) h = absurd (omega arith)
@@ -151,7 +161,7 @@ module _ (b : List ℕ) (l : List ℤ) (at n : ℕ) where
         e ∙ f ∙ reads refusal xs (drop n (drop at l)) ∙ g
 
     pub skip-part : Skips (source false b l) at n (skip.Past (at + n) 0 0)
-    skip-part = past (take n (drop at l)) part-long part-read (omega arith) h
+    skip-part = past (take n (drop at l)) part-long part-read (sym (behind-ints b l at n)) (omega arith) h
 
 -- ---- copying
 
@@ -199,7 +209,7 @@ module _ (s : Source) (start n to : ℕ) (before : List ℤ) where
 
   module _ (out : List ℤ) (at i : ℕ) where
     pub turn-copy : {x : ℤ} {next : ℕ} (overlong padding : Bool) → Copying s start n to before out at i → i < n → to + n ≤ length before → Next s at (read.Int x next overlong padding) → Copying s start n to before (set out (to + i) x) next (i + 1)
-    turn-copy {x} {next} overlong padding c h room (found e a b) =
+    turn-copy {x} {next} overlong padding c h room (found e j a b) =
         record {
           few-copied = omega arith;
           same = length-set out (to + i) x ∙ c .same;

@@ -2,19 +2,21 @@
 use mathlib.Core.Path.{_≡_}
 use mathlib.Core.Bool.{Bool, true, false, cond}
 use mathlib.Core.List.{List, [], _∷_}
-use mathlib.Core.Option.{Option, some, none}
-use Prim.Native.Nat.{ℕ, _<_, _≤_}
+use mathlib.Core.Option.{Option, some}
+use mathlib.Core.Option as Option
+use Prim.Native.Nat.{ℕ, zero, suc, _+_, _/_, _<_, _≤_}
 use lib.IntN.{ℤ}
 use lib.ListN.{length, drop}
 use Rattle.definitions.specs.Ints.{bits}
 use Rattle.definitions.specs.Areas.{layAt}
 use Rattle.definitions.specs.Warnings.{Counts, NonZeroPadding, one, plus}
 use Rattle.definitions.specs.Warnings as Warnings
-use Rattle.definitions.specs.Outcome.{ok, err, refuse}
+use Rattle.definitions.specs.Outcome.{Outcome, ok, err, refuse}
 use Rattle.definitions.specs.Packed.{warned}
+use Rattle.definitions.specs.Packer.{IntAt, readIntAt}
 use Rattle.definitions.specs.Stream.{Stream, int, stream}
 use Rattle.definitions.specs.Tables.{Item}
-use Rattle.definitions.specs.Deltas.{updatesInts}
+use Rattle.definitions.specs.Deltas.{knownSize, headLength, updatesInts}
 use Rattle.definitions.specs.DeltaReading.{intStream, isEnd, nextInts, readHead, readUpdate, readDeltaHeader}
 use Rattle.definitions.specs.DeltaReading as Reading
 use Rattle.laws.specs.WarningLaws.{packed}
@@ -51,14 +53,36 @@ size s = cond (s .packed) (length (s .bytes)) (length (s .ints))
 unfoldable pub from : Source → ℕ → Stream
 from s at = cond (s .packed) (stream (drop at (s .bytes))) (intStream (drop at (s .ints)))
 
+-- the place of what was read; 0 where there is nothing
+abbrev pub placeOf : Outcome IntAt → ℕ
+placeOf (ok r w) = r .next
+placeOf (err n w) = 0
+
+-- the place behind the integer at a place
+unfoldable pub behind : Source → ℕ → ℕ
+behind s at = cond (s .packed) (placeOf (readIntAt (s .bytes) at)) (at + 1)
+
+-- the place behind n integers
+unfoldable pub behindInts : Source → ℕ → ℕ → ℕ
+behindInts s at zero = at
+behindInts s at (suc n) = behindInts s (behind s at) n
+
+-- where the differences of an update with a key begin: behind type, id, size unless known
+abbrev pub dataPlace : Source → List ℤ → ℕ → ℕ → ℕ
+dataPlace s sizes at key = behindInts s at (headLength (knownSize sizes (key / 65536)))
+
+-- the place behind an update
+abbrev pub behindUpdate : Source → List ℤ → ℕ → Item → ℕ
+behindUpdate s sizes at u = behindInts s (dataPlace s sizes at (u .key)) (length (u .values))
+
 -- the integer at a place, or that there is none
 pub data Next (s : Source) (at : ℕ) : IntRead → Type 0 where
-  found : {x : ℤ} {next : ℕ} {o p : Bool} → from s at ≡ int x (warned o p) (from s next) → at < next → next ≤ size s → Next s at (read.Int x next o p)
+  found : {x : ℤ} {next : ℕ} {o p : Bool} → from s at ≡ int x (warned o p) (from s next) → next ≡ behind s at → at < next → next ≤ size s → Next s at (read.Int x next o p)
   nothing : ((refusal : ℕ) → Reading.next refusal (from s at) ≡ refuse refusal) → Next s at read.End
 
 -- n integers were passed over, or are not all there
 pub data Skips (s : Source) (at n : ℕ) : Skip → Type 0 where
-  past : {next o p : ℕ} (xs : List ℤ) → length xs ≡ n → ((refusal : ℕ) → nextInts refusal n (from s at) ≡ ok (record { value = xs; rest = from s next }) (packed o p)) → at ≤ next → next ≤ size s → Skips s at n (skip.Past next o p)
+  past : {next o p : ℕ} (xs : List ℤ) → length xs ≡ n → ((refusal : ℕ) → nextInts refusal n (from s at) ≡ ok (record { value = xs; rest = from s next }) (packed o p)) → next ≡ behindInts s at n → at ≤ next → next ≤ size s → Skips s at n (skip.Past next o p)
   short : {o p : ℕ} → ((refusal : ℕ) → nextInts refusal n (from s at) ≡ err refusal (packed o p)) → Skips s at n (skip.Short o p)
 
 -- n integers that are there stand in an area from a place on
@@ -68,12 +92,12 @@ Copies s at n to before after =
 
 -- the head of an update, or why there is none
 pub data Heads (s : Source) (sizes : List ℤ) (at : ℕ) : Head → Type 0 where
-  update : {k : ℤ} {n d o p : ℕ} → readHead sizes (from s at) ≡ ok (record { value = record { key = bits k; size = n }; rest = from s d }) (packed o p) → at < d → d ≤ size s → Heads s sizes at (head.Update k n d o p)
+  update : {k : ℤ} {n d o p : ℕ} → readHead sizes (from s at) ≡ ok (record { value = record { key = bits k; size = n }; rest = from s d }) (packed o p) → d ≡ dataPlace s sizes at (bits k) → at < d → d ≤ size s → Heads s sizes at (head.Update k n d o p)
   refused : {e : Error} {o p : ℕ} → readHead sizes (from s at) ≡ err (number e) (packed o p) → Heads s sizes at (head.Refused e o p)
 
 -- an update, whose n differences begin at d, or why there is none
 pub data Updates (s : Source) (sizes : List ℤ) (at : ℕ) : Update → Type 0 where
-  update : {k : ℤ} {n d next o p : ℕ} (xs : List ℤ) (v : Counts) → length xs ≡ n → ((refusal : ℕ) → nextInts refusal n (from s d) ≡ ok (record { value = xs; rest = from s next }) v) → readUpdate sizes (from s at) ≡ ok (record { value = record { key = bits k; values = xs }; rest = from s next }) (packed o p) → at < d → d ≤ next → next ≤ size s → Updates s sizes at (whole-update.Update k n d next o p)
+  update : {k : ℤ} {n d next o p : ℕ} (xs : List ℤ) (v : Counts) → length xs ≡ n → ((refusal : ℕ) → nextInts refusal n (from s d) ≡ ok (record { value = xs; rest = from s next }) v) → readUpdate sizes (from s at) ≡ ok (record { value = record { key = bits k; values = xs }; rest = from s next }) (packed o p) → d ≡ dataPlace s sizes at (bits k) → next ≡ behindInts s d n → at < d → d ≤ next → next ≤ size s → Updates s sizes at (whole-update.Update k n d next o p)
   refused : {e : Error} {o p : ℕ} → readUpdate sizes (from s at) ≡ err (number e) (packed o p) → Updates s sizes at (whole-update.Refused e o p)
 
 -- a warning of padding that is not 0
@@ -87,13 +111,24 @@ pub data Headers (s : Source) : Header → Type 0 where
 
 -- the updates from a place on, the packer's warnings up to their end, and the refusal that ends them, if any
 pub data Walks (s : Source) (sizes : List ℤ) : ℕ → List Item → Counts → Option ℕ → Type 0 where
-  whole : {at : ℕ} → isEnd (from s at) ≡ true → Walks s sizes at [] Warnings.none none
+  whole : {at : ℕ} → isEnd (from s at) ≡ true → Walks s sizes at [] Warnings.none Option.none
   broken : {at n : ℕ} {w : Counts} → isEnd (from s at) ≡ false → readUpdate sizes (from s at) ≡ err n w → Walks s sizes at [] w (some n)
-  more : {at next : ℕ} {u : Item} {us : List Item} {v w : Counts} {e : Option ℕ} → isEnd (from s at) ≡ false → readUpdate sizes (from s at) ≡ ok (record { value = u; rest = from s next }) v → at < next → next ≤ size s → Walks s sizes next us w e → Walks s sizes at (u ∷ us) (plus v w) e
+  more : {at next : ℕ} {u : Item} {us : List Item} {v w : Counts} {e : Option ℕ} → isEnd (from s at) ≡ false → readUpdate sizes (from s at) ≡ ok (record { value = u; rest = from s next }) v → next ≡ behindUpdate s sizes at u → at < next → next ≤ size s → Walks s sizes next us w e → Walks s sizes at (u ∷ us) (plus v w) e
+
+-- the first updates from a place on
+pub data Items (s : Source) (sizes : List ℤ) : ℕ → List Item → Type 0 where
+  none : {at : ℕ} → Items s sizes at []
+  more : {at next : ℕ} {u : Item} {us : List Item} {v : Counts} → readUpdate sizes (from s at) ≡ ok (record { value = u; rest = from s next }) v → next ≡ behindUpdate s sizes at u → at < next → next ≤ size s → Items s sizes next us → Items s sizes at (u ∷ us)
+
+-- the updates that a walk meets
+pub walked : {s : Source} {sizes : List ℤ} {at : ℕ} {us : List Item} {w : Counts} {e : Option ℕ} → Walks s sizes at us w e → Items s sizes at us
+walked (whole h) = Items.none
+walked (broken h g) = Items.none
+walked (more h r q l m k) = Items.more r q l m (walked k)
 
 -- the refusal of an ending
 abbrev pub refusalOf : Ended → Option ℕ
-refusalOf ended.Whole = none
+refusalOf ended.Whole = Option.none
 refusalOf (ended.Refused e) = some (number e)
 
 -- what is told of the updates from a place on

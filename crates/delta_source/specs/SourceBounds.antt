@@ -58,7 +58,7 @@ counted-most {s} {at} c =
 
 module _ {s : Source} {at : ℕ} where
   pub skip-counted : {n next o p : ℕ} → Skips s at n (skip.Past next o p) → Counted s at next n o p
-  skip-counted {n} {next} {o} {p} (past xs l e a b) =
+  skip-counted {n} {next} {o} {p} (past xs l e q a b) =
       let c = counted s at next o p xs (rw (e 0) at (ints-reads 0 n 0 (from s at))) in
       record { overlong-all = c .overlong-all; padding-all = c .padding-all; ints-all = omega (arith, c .ints-all) }
 
@@ -67,7 +67,7 @@ module _ {s : Source} {at : ℕ} where
 
 module _ {s : Source} {sizes : List ℤ} {at : ℕ} where
   pub update-counted : {k : ℤ} {n d next o p : ℕ} → Updates s sizes at (update.Update k n d next o p) → Counted s at next (2 + n) o p
-  update-counted {next = next} {o = o} {p = p} (Source.update xs v l f e a b i) =
+  update-counted {next = next} {o = o} {p = p} (Source.update xs v l f e q r a b i) =
       let c = counted s at next o p _ (rw e at (update-reads sizes (from s at))) in
       record { overlong-all = c .overlong-all; padding-all = c .padding-all; ints-all = omega (arith, c .ints-all) }
 
@@ -124,7 +124,7 @@ module _ {s : Source} where
   unfolding updatesInts
   walk-bounded {sizes} {at} (whole e) = record { overlong-most = omega arith; padding-most = omega arith; room-most = omega arith }
   walk-bounded {sizes} {at} (broken f e) = ends-walked (rw e at (update-reads sizes (from s at)))
-  walk-bounded {sizes} {at} (more f e a b i) = goes-on (rw e at (update-reads sizes (from s at))) (walk-bounded i)
+  walk-bounded {sizes} {at} (more f e q a b i) = goes-on (rw e at (update-reads sizes (from s at))) (walk-bounded i)
 
 -- the same of what is told of updates: there are no more of them than ints of room
 pub judged-most : {s : Source} {sizes : List ℤ} {at : ℕ} {j : Judged} → Judges s sizes at j → (j .overlong ≤ size s) × (j .padding ≤ size s) × (2 * j .room ≤ 3 * size s) × (j .updates ≤ j .room)

@@ -1,9 +1,9 @@
 -- The steps of reading a head and a header, and what the functions of each step tell. Assumes nothing.
 use mathlib.Core.Path.{_≡_}
-use mathlib.Core.Bool.{Bool, cond, not}
+use mathlib.Core.Bool.{Bool, not}
 use mathlib.Core.List.{List}
 use mathlib.Core.Option.{Option, some, none}
-use Prim.Native.Nat.{ℕ, _≤_, _^_}
+use Prim.Native.Nat.{ℕ, _/_, _≤_}
 use lib.Dec.{ltb, eqb}
 use lib.IntN.{ℤ}
 use Rattle.definitions.specs.Ints.{bits}
@@ -18,7 +18,7 @@ use Rattle.definitions.specs.DeltaReading as Reading
 use Rattle.laws.specs.WarningLaws.{packed}
 use Rattle.format.specs.Numbers.{number}
 use Rattle.format.specs.declared.Error.{Error}
-use Rattle.delta_source.specs.Source.{Source, from, size, oddPadding}
+use Rattle.delta_source.specs.Source.{Source, from, size, behindInts, oddPadding}
 use Rattle.delta_source.specs.declared.checked.Head.{Head}
 use Rattle.delta_source.specs.declared.checked.Head.the-variants as head
 use Rattle.delta_source.specs.declared.checked.Header.{Header}
@@ -26,11 +26,12 @@ use Rattle.delta_source.specs.declared.checked.Header.the-variants as he
 use Rattle.delta_source.specs.declared.checked.Number.{Number}
 use Rattle.delta_source.specs.declared.checked.Number.the-variants as found
 
--- a size as a number: 2^32 is unknown
-abbrev pub sized : ℕ → Option ℕ
-sized n = cond (ltb n (2 ^ 32)) (some n) none
-
 -- ---- a head
+
+-- how many ints a size takes: none where it is known
+abbrev pub sizeLength : Option ℕ → ℕ
+sizeLength (some m) = 0
+sizeLength none = 1
 
 -- the head with a key, of whose size so much is known
 unfoldable pub sizeOf : Option ℕ → ℕ → Stream → Outcome (Got Reading.Head)
@@ -45,10 +46,10 @@ headOf sizes type id s = do
   require (ltb (num id) 65536) idRange
   sizeOf (knownSize sizes (num type)) (keyOf (num type) (num id)) s
 
--- a head that was read from a place on, or why there is none
-pub data HeadOf (s : Source) (at : ℕ) (o : Outcome (Got Reading.Head)) : Head → Type 0 where
-  update : {k : ℤ} {n d over padd : ℕ} → o ≡ ok (record { value = record { key = bits k; size = n }; rest = from s d }) (packed over padd) → at ≤ d → d ≤ size s → HeadOf s at o (head.Update k n d over padd)
-  refused : {e : Error} {over padd : ℕ} → o ≡ err (number e) (packed over padd) → HeadOf s at o (head.Refused e over padd)
+-- a head that was read from the place of its size on, or why there is none
+pub data HeadOf (s : Source) (sizes : List ℤ) (at : ℕ) (o : Outcome (Got Reading.Head)) : Head → Type 0 where
+  update : {k : ℤ} {n d over padd : ℕ} → o ≡ ok (record { value = record { key = bits k; size = n }; rest = from s d }) (packed over padd) → d ≡ behindInts s at (sizeLength (knownSize sizes (bits k / 65536))) → at ≤ d → d ≤ size s → HeadOf s sizes at o (head.Update k n d over padd)
+  refused : {e : Error} {over padd : ℕ} → o ≡ err (number e) (packed over padd) → HeadOf s sizes at o (head.Refused e over padd)
 
 -- ---- a header
 

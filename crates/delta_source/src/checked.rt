@@ -1,24 +1,23 @@
 // A delta's source is packed bytes or ints; the other slice is not looked at.
 ghost use mathlib.Core.Path.{_≡_};
 ghost use mathlib.Core.Bool.{true};
-ghost use mathlib.Core.List.{List};
+ghost use mathlib.Core.List.{List, []};
 ghost use mathlib.Core.Option.{none};
-ghost use Prim.Native.Nat.{_+_, _≤_, _^_};
+ghost use Prim.Native.Nat.{_+_, _≤_};
 ghost use lib.IntN.{ℤ};
 ghost use lib.ListN.{length};
 ghost use Rattle.definitions.specs.Ints.{bits};
 ghost use Rattle.definitions.specs.Outcome.{after};
-ghost use Rattle.definitions.specs.Deltas.{knownSize};
 ghost use Rattle.definitions.specs.DeltaReading.{isEnd};
 ghost use Rattle.laws.specs.WarningLaws as Laws;
 ghost use Rattle.delta_source.specs.Source.{source, size, from, Next, Skips, Copies, Heads, Updates, Headers, Judges};
-ghost use Rattle.delta_source.specs.Steps.{sized, sizeOf, headOf, HeadOf, paddingOf, Numbers, HeaderOf};
+ghost use Rattle.delta_source.specs.Steps.{sizeOf, headOf, HeadOf, paddingOf, Numbers, HeaderOf};
 ghost use Rattle.delta_source.specs.declared.checked.Head.the-variants as head;
 ghost use Rattle.delta_source.specs.declared.checked.Update.the-variants as update;
 ghost use Rattle.delta_source.specs.declared.checked.Header.the-variants as header;
+use delta_form::checked::known_size;
 use format::Error;
 use packer::IntRead;
-use table::checked::nat_at;
 use table::checked::num;
 
 // The integer at a place.
@@ -183,16 +182,6 @@ pub fn head_refused(error: Error, overlong: usize, padding: usize) -> Head
     }
 }
 
-// The size that is known of a type; 2^32 where none is.
-pub fn known_size(sizes: &[i32], type_id: usize) -> usize
-    ensures { λ r. ⌜ (knownSize (now (sizes .entry)) «type_id» ≡ sized r) × (r ≤ 2 ^ 32) ⌝ }
-{
-    if sizes.len() <= type_id {
-        return 4294967296;
-    }
-    nat_at(sizes, type_id)
-}
-
 // The head with a key, whose size stands at a place; the warnings so far are added.
 pub fn read_size(
     bytes: &[u8],
@@ -204,7 +193,7 @@ pub fn read_size(
     padding: usize,
 ) -> Head
     requires { ⌜ (at ≤ size (source packed (now bytes) (now ints))) × (overlong ≤ 2) × (padding ≤ 2) ⌝ }
-    ensures { λ r. ⌜ HeadOf (source packed (now (bytes .entry)) (now (ints .entry))) at (after (Laws.packed overlong padding) (sizeOf none (bits key) (from (source packed (now (bytes .entry)) (now (ints .entry))) at))) r ⌝ }
+    ensures { λ r. ⌜ HeadOf (source packed (now (bytes .entry)) (now (ints .entry))) [] at (after (Laws.packed overlong padding) (sizeOf none (bits key) (from (source packed (now (bytes .entry)) (now (ints .entry))) at))) r ⌝ }
 {
     let IntRead::Int {
         value,
@@ -243,7 +232,7 @@ pub fn judge_head(
     padding: usize,
 ) -> Head
     requires { ⌜ (at ≤ size (source packed (now bytes) (now ints))) × (overlong ≤ 2) × (padding ≤ 2) ⌝ }
-    ensures { λ r. ⌜ HeadOf (source packed (now (bytes .entry)) (now (ints .entry))) at (after (Laws.packed overlong padding) (headOf (now (sizes .entry)) «type_id» id (from (source packed (now (bytes .entry)) (now (ints .entry))) at))) r ⌝ }
+    ensures { λ r. ⌜ HeadOf (source packed (now (bytes .entry)) (now (ints .entry))) (now (sizes .entry)) at (after (Laws.packed overlong padding) (headOf (now (sizes .entry)) «type_id» id (from (source packed (now (bytes .entry)) (now (ints .entry))) at))) r ⌝ }
 {
     let t = num(type_id);
     if 65536 <= t {

@@ -1,0 +1,137 @@
+-- What the calls that read a delta come to, with all their warnings. Assumes nothing.
+use mathlib.Core.Path.{_≡_, refl, sym, ap, ap₂, _∙_}
+use mathlib.Core.Bool.{true, false}
+use mathlib.Core.List.{List, [], _∷_}
+use Prim.Native.Nat.{ℕ, _≤_, _<_}
+use native.Mathlib.Nat.{add-zero, zero-add}
+use native.Mathlib.Omega.{arith}
+use borrow.Author.Tests.{le-leb, lt-leb}
+use lib.IntN.{ℤ}
+use lib.ListN.{length, take, drop}
+use lib.Seq.{take-at}
+use Rattle.definitions.specs.Refusals.{scratchTooShort, inputTooLong}
+use Rattle.definitions.specs.Warnings.{Counts, none, plus}
+use Rattle.definitions.specs.Outcome.{Outcome, refuse, after, Wrote}
+use Rattle.definitions.specs.Stored.{stored}
+use Rattle.definitions.specs.Stream.{Stream, stream, ints, warnings, isCut}
+use Rattle.definitions.specs.DeltaReading.{intStream, readDelta}
+use Rattle.definitions.specs.DeltaCalls.{storedDelta, readFromIntsCall, readCall}
+use Rattle.laws.specs.WarningLaws.{packed}
+use Rattle.laws.specs.OutcomeLaws.{after-none}
+use Rattle.laws.specs.AreaLaws.{lay-append}
+use Rattle.laws.specs.StreamLaws.{few-ints}
+use Rattle.laws.specs.DeltaReadBack.{ints-intStream}
+use Rattle.packer.specs.Scans.{Scanned}
+use Rattle.packer.specs.declared.checked.Totals.{Totals}
+use Rattle.format.specs.Answers.{storedWith}
+use Rattle.format.specs.declared.Stored.{Stored}
+use Rattle.delta_reading.specs.Answers.{deletedCounts, OrderedRead}
+use Rattle.delta_reading.specs.declared.checked.Ordered.the-variants as ordered
+use Rattle.delta_source.specs.Source.{source, from}
+use Rattle.delta_any_order.specs.Counted.{deltaCounts}
+
+-- one answer for another
+pub answered : {a b : Outcome ℕ} (last : List ℤ) → a ≡ b → _≡_ {A = Wrote ℕ ℤ} (record { answer = a; out = last }) (record { answer = b; out = last })
+answered last e = ap (λ (o : Outcome ℕ). record { answer = o; out = last }) e
+
+-- ---- the limits
+
+module _ (src sizes out : List ℤ) (scratch : ℕ) where
+  -- scratch is too short
+  pub ints-too-short : scratch < 16384 → readFromIntsCall src sizes out scratch ≡ record { answer = refuse scratchTooShort; out = out }
+  unfolding storedDelta stored
+  ints-too-short h = rw (lt-leb 16384 scratch h)
+
+  module _ (h : 16384 ≤ scratch) where
+    -- too many ints
+    pub ints-too-many : 1048576 < length src → readFromIntsCall src sizes out scratch ≡ record { answer = refuse inputTooLong; out = out }
+    unfolding storedDelta stored
+    ints-too-many m = rw (le-leb 16384 scratch h, lt-leb (length src) 1048576 m)
+
+    -- within the limits
+    pub ints-judged : length src ≤ 1048576 → readFromIntsCall src sizes out scratch ≡ storedDelta out (readDelta sizes (intStream src))
+    ints-judged m =
+        let o = readDelta sizes (intStream src) in
+        rw (le-leb 16384 scratch h, le-leb (length src) 1048576 m) (ap (storedDelta out) (after-none (after none o) ∙ after-none o))
+
+module _ (src : List ℕ) (sizes out : List ℤ) (scratch : ℕ) where
+  -- scratch is too short
+  pub bytes-too-short : scratch < 16384 → readCall src sizes out scratch ≡ record { answer = refuse scratchTooShort; out = out }
+  unfolding storedDelta stored
+  bytes-too-short h = rw (lt-leb 16384 scratch h)
+
+  -- or shorter than the bytes
+  pub bytes-shorter : 16384 ≤ scratch → scratch < length src → readCall src sizes out scratch ≡ record { answer = refuse scratchTooShort; out = out }
+  unfolding storedDelta stored
+  bytes-shorter h k = rw (le-leb 16384 scratch h, lt-leb (length src) scratch k)
+
+  module _ (h : 16384 ≤ scratch) (k : length src ≤ scratch) where
+    -- too many bytes
+    pub bytes-too-many : 1048576 < length src → readCall src sizes out scratch ≡ record { answer = refuse inputTooLong; out = out }
+    unfolding storedDelta stored
+    bytes-too-many m = rw (le-leb 16384 scratch h, le-leb (length src) scratch k, lt-leb (length src) 1048576 m)
+
+    -- within the limits
+    pub bytes-judged : length src ≤ 1048576 → readCall src sizes out scratch ≡ storedDelta out (readDelta sizes (stream src))
+    bytes-judged m =
+        let o = readDelta sizes (stream src) in
+        rw (le-leb 16384 scratch h, le-leb (length src) scratch k, le-leb (length src) 1048576 m) (ap (storedDelta out) (after-none (after none o) ∙ after-none o))
+
+-- ---- in any order
+
+-- what stands at a source's front
+from-ints : (b : List ℕ) (l : List ℤ) → from (source false b l) 0 ≡ intStream l
+unfolding from
+from-ints b l = refl
+
+-- the same of packed bytes
+from-bytes : (b : List ℕ) (l : List ℤ) → from (source true b l) 0 ≡ stream b
+unfolding from
+from-bytes b l = refl
+
+-- an area that was left as it was
+pub any-ints : (b : List ℕ) (src sizes out before : List ℤ) (x : Wrote ℕ ℤ) → before ≡ out → storedDelta before (readDelta sizes (from (source false b src) 0)) ≡ x → storedDelta out (readDelta sizes (intStream src)) ≡ x
+any-ints b src sizes out before x e h = ap₂ (λ (a : List ℤ) (s : Stream). storedDelta a (readDelta sizes s)) (sym e) (sym (from-ints b src)) ∙ h
+
+-- the same of packed bytes
+pub any-bytes : (src : List ℕ) (l sizes out before : List ℤ) (x : Wrote ℕ ℤ) → before ≡ out → storedDelta before (readDelta sizes (from (source true src l) 0)) ≡ x → storedDelta out (readDelta sizes (stream src)) ≡ x
+any-bytes src l sizes out before x e h = ap₂ (λ (a : List ℤ) (s : Stream). storedDelta a (readDelta sizes s)) (sym e) (sym (from-bytes src l)) ∙ h
+
+-- ---- in one pass
+
+-- the packer's warnings, and those of updates of deleted keys
+ordered-counts : (o p n : ℕ) → deltaCounts o p false false 0 n false ≡ plus (packed o p) (deletedCounts n)
+ordered-counts o p n = rw (add-zero o, add-zero p, zero-add n)
+
+-- ints are never cut
+not-cut : (xs : List ℤ) → isCut (intStream xs) ≡ false
+not-cut [] = refl
+not-cut (x ∷ xs) = not-cut xs
+
+-- nor do they count a warning
+no-warnings : (xs : List ℤ) → packed 0 0 ≡ warnings (intStream xs)
+no-warnings [] = refl
+no-warnings (x ∷ xs) = ap (plus none) (no-warnings xs)
+
+module _ (sizes src out last : List ℤ) (a : Stored) (n : ℕ) (r : OrderedRead sizes src out last (ordered.Read a n)) where
+  -- of any stream of these ints with so many warnings
+  one-pass : (s : Stream) (o p : ℕ) (w : Counts) → ints s ≡ src → isCut s ≡ false → packed o p ≡ warnings s → w ≡ deltaCounts o p false false 0 n false → storedDelta out (readDelta sizes s) ≡ record { answer = storedWith a w; out = last }
+  one-pass s o p w i c v q =
+      r s i c
+      ∙ ap (λ (u : Counts). record { answer = storedWith a u; out = last })
+      (ap (λ (u : Counts). plus u (deletedCounts n)) (sym v) ∙ (sym (ordered-counts o p n) ∙ sym q))
+
+  -- of ints
+  pub ordered-ints : (w : Counts) → w ≡ deltaCounts 0 0 false false 0 n false → storedDelta out (readDelta sizes (intStream src)) ≡ record { answer = storedWith a w; out = last }
+  ordered-ints w q = one-pass (intStream src) 0 0 w (ints-intStream src) (not-cut src) (no-warnings src) q
+
+-- what one pass over the bytes tells: their ints stand at the front of scratch
+scanned-ints : (src : List ℕ) (before after : List ℤ) (t : Totals) → length src ≤ length before → Scanned (stream src) before t after → take (t .count) after ≡ ints (stream src)
+scanned-ints src before after t h s =
+    let all = ints (stream src) in
+    ap₂ take (s .count-is) (s .out-is ∙ lay-append all before (omega (arith, few-ints src))) ∙ take-at all (drop (length all) before) (length all) refl
+
+-- of packed bytes that are not cut
+pub ordered-bytes : (src : List ℕ) (sizes out last before scanned : List ℤ) (t : Totals) (a : Stored) (n : ℕ) (w : Counts) → length src ≤ length before → Scanned (stream src) before t scanned → t .cut ≡ false → OrderedRead sizes (take (t .count) scanned) out last (ordered.Read a n) → w ≡ deltaCounts (t .overlong) (t .padding) false false 0 n false → storedDelta out (readDelta sizes (stream src)) ≡ record { answer = storedWith a w; out = last }
+ordered-bytes src sizes out last before scanned t a n w h s c r q =
+    one-pass sizes (take (t .count) scanned) out last a n r (stream src) (t .overlong) (t .padding) w (sym (scanned-ints src before scanned t h s)) (sym (s .cut-is) ∙ c) (s .warnings-are) q

@@ -1,0 +1,2 @@
+// Deltas whose keys come in any order, read from packed bytes or from ints.
+pub mod checked;

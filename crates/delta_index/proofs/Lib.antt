@@ -1,0 +1,2 @@
+-- Lemmas that the proofs of several functions cite. Assumes nothing.
+pub mod Telling
