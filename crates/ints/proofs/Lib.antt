@@ -1,2 +1,3 @@
 -- Facts that the proofs of `ints` share. Assumes nothing.
 pub mod Signs
+pub mod Nums

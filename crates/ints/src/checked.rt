@@ -1,4 +1,4 @@
-// Sums and differences of two slices of one length, into a slice that has room for them.
+// Sums and differences of two slices of one length, and copies of bytes, into a slice that has room for them.
 ghost use mathlib.Core.Path.{_≡_};
 ghost use Prim.Native.Nat.{_+_, _≤_};
 ghost use lib.ListN.{length};
@@ -26,6 +26,18 @@ pub fn sub_into(out: &mut [i32], at: usize, a: &[i32], b: &[i32])
     let mut i: usize = 0;
     while i < a.len() {
         out[at + i] = super::wrapping_sub(a[i], b[i]);
+        i += 1;
+    }
+}
+
+// Copies the bytes xs into out from a place on.
+pub fn copy_bytes(out: &mut [u8], at: usize, xs: &[u8])
+    requires { ⌜ at + length (now xs) ≤ length (now out) ⌝ }
+    ensures { λ _. ⌜ now (out .exit) ≡ layAt at (now (xs .entry)) (now (out .entry)) ⌝ }
+{
+    let mut i: usize = 0;
+    while i < xs.len() {
+        out[at + i] = xs[i];
         i += 1;
     }
 }

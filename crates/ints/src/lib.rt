@@ -1,9 +1,11 @@
 // Signed 32-bit integers: their bits, wrapping sums, both orders, and slices of them.
 ghost use mathlib.Core.Path.{_≡_};
 ghost use mathlib.Core.Bool.{cond};
+ghost use Prim.Native.Nat.{_≤_, _^_};
 ghost use Rattle.definitions.specs.Ints.{bits, fromBits, wrappingAdd, wrappingSub, signedLess, unsignedLess};
 ghost use Rattle.definitions.specs.Ints as Ints;
 ghost use Rattle.definitions.specs.Areas.{cleared};
+ghost use Rattle.definitions.specs.Tables as Tables;
 ghost use Rattle.ints.specs.Copies.{copyAt};
 
 pub mod checked;
@@ -24,6 +26,13 @@ pub fn from_bits(b: u32) -> i32
     } else {
         !(!b as i32)
     }
+}
+
+// x as a count; a negative int is 2^32, more than any count.
+pub fn num(x: i32) -> usize
+    ensures { λ r. ⌜ (r ≡ Tables.num x) × (r ≤ 2 ^ 32) ⌝ }
+{
+    if x < 0 { 4294967296 } else { x as usize }
 }
 
 // 1 where b holds, else 0.

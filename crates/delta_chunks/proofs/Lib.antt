@@ -1,0 +1,2 @@
+-- Facts that the proofs of `delta_chunks` share. Assumes nothing.
+pub mod Cuts

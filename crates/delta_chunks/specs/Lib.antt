@@ -1,0 +1,2 @@
+-- What the answers of `delta_chunks` mean. Assumes nothing.
+pub mod Answers

@@ -1,0 +1,2 @@
+-- What the messages of the code mean. Assumes nothing.
+pub mod Numbers

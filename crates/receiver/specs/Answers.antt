@@ -1,0 +1,78 @@
+-- What the answers of `receiver` mean: document 01's number and values of each case. Assumes nothing.
+use mathlib.Core.Bool.{Bool, false, cond}
+use mathlib.Core.List.{List}
+use mathlib.Core.Option.{Option, some, none}
+use Prim.Native.Nat.{ℕ, _*_}
+use lib.ListN.{length}
+use Rattle.definitions.specs.Areas.{layAt}
+use Rattle.definitions.specs.Refusals.{duplicatePart}
+use Rattle.definitions.specs.Warnings.{Counts}
+use Rattle.definitions.specs.Outcome.{Outcome, ok, err, refuse}
+use Rattle.definitions.specs.Receiver as Receiver
+use Rattle.format.specs.Numbers.{number}
+use Rattle.format.specs.Totals.{counts}
+use Rattle.receiver.specs.States.{receiverOf}
+use Rattle.receiver.specs.declared.Received.{Received}
+use Rattle.receiver.specs.declared.Received.the-variants as received
+use Rattle.receiver.specs.declared.Receiving.{Receiving}
+
+-- an answer with the counts beside it
+abbrev pub receivedWith : Received → Counts → Outcome (Option Receiver.ReceivedDelta)
+receivedWith received.NotYet w = ok none w
+receivedWith (received.Delta tick base n crc) w =
+    ok (some (record { deltaTick = base; tick = tick; dataAndCrc = some (record { length = n; crc = crc }) })) w
+receivedWith (received.Empty tick base) w = ok (some (record { deltaTick = base; tick = tick; dataAndCrc = none })) w
+receivedWith (received.Refused e) w = err (number e) w
+
+-- what a call comes to, with both areas afterwards
+abbrev pub answered : Receiving → List ℕ → List ℕ → Receiver.Receives
+answered a area second =
+    record {
+      answer = receivedWith (a .answer) (counts (a .warnings));
+      receiver = receiverOf (a .receiver);
+      parts = area;
+      joined = second;
+    }
+
+-- ---- steps of a call
+
+-- the receiver's two kinds of warning
+abbrev pub flagged : Bool → Bool → Counts
+flagged duplicate differing =
+    record {
+      overlongIntEncoding = 0;
+      nonZeroIntPadding = 0;
+      nonZeroPadding = 0;
+      duplicateDelete = 0;
+      duplicateUpdate = 0;
+      unknownDelete = 0;
+      deleteUpdate = 0;
+      numUpdatedItems = 0;
+      excessSnapData = 0;
+      excessUuidItemData = 0;
+      duplicateSnap = cond duplicate 1 0;
+      differingAttributes = cond differing 1 0;
+      weirdNegativeDeltaTick = 0;
+    }
+
+-- a call that is refused without a warning
+abbrev pub refusing : ℕ → Receiver.Receiver → List ℕ → List ℕ → Receiver.Receives
+refusing n r area second = record { answer = refuse n; receiver = r; parts = area; joined = second }
+
+-- a message that is taken, with its warnings
+unfoldable pub settled : Counts → Receiver.Taken → Receiver.Receives
+settled w t =
+    record { answer = ok (t .received) w; receiver = t .receiver; parts = t .parts; joined = t .joined }
+
+-- part p of a message whose numbers were judged
+unfoldable pub taking : Receiver.Receiver → Receiver.Part → ℕ → List ℕ → List ℕ → List ℕ → Receiver.Receives
+taking r m p bytes area second =
+    cond (Receiver.isIn (Receiver.opened r m .parts) p)
+    (record {
+      answer = err duplicatePart (flagged false (Receiver.differs (Receiver.opened r m .current) m));
+      receiver = r;
+      parts = area;
+      joined = second;
+    })
+    (settled (flagged false (Receiver.differs (Receiver.opened r m .current) m))
+    (Receiver.putPart (r .previousTick) (Receiver.withPart (Receiver.opened r m) p (length bytes)) (layAt (900 * p) bytes area) second))

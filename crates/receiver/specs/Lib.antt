@@ -1,0 +1,3 @@
+-- What the receiver of the code and its answers mean. Assumes nothing.
+pub mod States
+pub mod Answers

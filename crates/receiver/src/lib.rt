@@ -1,0 +1,160 @@
+// The receiver of a delta's parts.
+ghost use mathlib.Core.Path.{_≡_};
+ghost use mathlib.Core.List.{List};
+ghost use Prim.Native.Nat.{ℕ};
+ghost use Rattle.definitions.specs.Receiver.{freshReceiver, snapCall, snapSingleCall, snapEmptyCall};
+ghost use Rattle.format.specs.Totals.{counts};
+ghost use Rattle.receiver.specs.States.{receiverOf};
+ghost use Rattle.receiver.specs.Answers.{receivedWith};
+use checked::Part;
+use format::Error;
+use format::Warnings;
+
+pub mod checked;
+
+// The last finished tick and the unfinished one, where there are any; what the first part of the unfinished one said; and the length of each part, above 900 where it is not in.
+pub struct DeltaReceiver {
+    pub has_previous: bool,
+    pub previous_tick: i32,
+    pub has_current: bool,
+    pub tick: i32,
+    pub delta_tick: i32,
+    pub num_parts: u32,
+    pub crc: i32,
+    pub parts: [u16; 32],
+}
+
+// What a message brings: not yet a delta, the tick and the base of one with how many bytes were joined and their sum, an empty one, or why it is refused.
+pub enum Received {
+    NotYet,
+    Delta {
+        tick: i32,
+        delta_tick: i32,
+        len: usize,
+        crc: i32,
+    },
+    Empty {
+        tick: i32,
+        delta_tick: i32,
+    },
+    Refused(Error),
+}
+
+// What a call on a receiver comes to, with the warnings counted and the receiver afterwards.
+pub struct Receiving {
+    pub answer: Received,
+    pub warnings: Warnings,
+    pub receiver: DeltaReceiver,
+}
+
+impl DeltaReceiver {
+    // How many parts a delta has at most.
+    pub const MAX_PARTS: usize = 32;
+
+    // How many bytes a part has at most.
+    pub const PART_SIZE: usize = 900;
+
+    // How many bytes all parts have at most.
+    pub const AREA_SIZE: usize = 28800;
+
+    // A receiver without any tick.
+    pub fn new() -> DeltaReceiver
+        ensures { λ r. ⌜ receiverOf r ≡ freshReceiver ⌝ }
+    {
+        let has_previous = false;
+        checked::without_current(has_previous, 0)
+    }
+
+    // Forgets both ticks.
+    pub fn reset(self) -> DeltaReceiver
+        ensures { λ r. ⌜ receiverOf r ≡ freshReceiver ⌝ }
+    {
+        checked::without_current(false, 0)
+    }
+
+    // Takes a part of a delta; the last one missing joins them all in joined.
+    pub fn snap(
+        self,
+        tick: i32,
+        delta_tick: i32,
+        num_parts: i32,
+        part: i32,
+        crc: i32,
+        data: &[u8],
+        parts: &mut [u8],
+        joined: &mut [u8],
+    ) -> Receiving
+        ensures { λ r. ⌜ snapCall (receiverOf self) (record { tick = tick; deltaTick = «delta_tick»; numParts = «num_parts»; part = part; crc = crc }) (now («data» .entry)) (now (parts .entry)) (now (joined .entry)) ≡ record { answer = receivedWith (r .answer) (counts (r .warnings)); receiver = receiverOf (r .receiver); parts = now (parts .exit); joined = now (joined .exit) } ⌝ }
+    {
+        let m = Part {
+            tick,
+            delta_tick,
+            num_parts,
+            part,
+            crc,
+        };
+        checked::receive(self, m, data, parts, joined)
+    }
+
+    // Takes a whole delta, into joined.
+    pub fn snap_single(
+        self,
+        tick: i32,
+        delta_tick: i32,
+        crc: i32,
+        data: &[u8],
+        joined: &mut [u8],
+    ) -> Receiving
+        ensures { λ r. ⌜ ((area : List ℕ) → snapSingleCall (receiverOf self) tick «delta_tick» crc (now («data» .entry)) area (now (joined .entry)) ≡ record { answer = receivedWith (r .answer) (counts (r .warnings)); receiver = receiverOf (r .receiver); parts = area; joined = now (joined .exit) }) ⌝ }
+    {
+        if !checked::in_form(self) {
+            return checked::refused(Error::NotInForm, self);
+        }
+        if joined.len() < DeltaReceiver::AREA_SIZE {
+            return checked::refused(Error::ScratchTooShort, self);
+        }
+        if DeltaReceiver::PART_SIZE < data.len() {
+            return checked::refused(Error::PartTooLong, self);
+        }
+        if checked::is_old(self, tick) {
+            return checked::refused(Error::OldDelta, self);
+        }
+        let warnings = checked::warnings(checked::is_current(self, tick), false);
+        ints::checked::copy_bytes(joined, 0, data);
+        let answer = Received::Delta {
+            tick,
+            delta_tick: ints::wrapping_sub(tick, delta_tick),
+            len: data.len(),
+            crc,
+        };
+        Receiving {
+            answer,
+            warnings,
+            receiver: checked::without_current(true, tick),
+        }
+    }
+
+    // Takes an empty delta.
+    pub fn snap_empty(self, tick: i32, delta_tick: i32) -> Receiving
+        ensures { λ r. ⌜ ((area second : List ℕ) → snapEmptyCall (receiverOf self) tick «delta_tick» area second ≡ record { answer = receivedWith (r .answer) (counts (r .warnings)); receiver = receiverOf (r .receiver); parts = area; joined = second }) ⌝ }
+    {
+        if !checked::in_form(self) {
+            return checked::refused(Error::NotInForm, self);
+        }
+        if checked::is_old(self, tick) {
+            return checked::refused(Error::OldDelta, self);
+        }
+        let duplicate = checked::is_current(self, tick);
+        let warnings = checked::warnings(duplicate, false);
+        let base = ints::wrapping_sub(tick, delta_tick);
+        let answer = Received::Empty {
+            tick,
+            delta_tick: base,
+        };
+        Receiving {
+            answer,
+            warnings,
+            receiver: checked::without_current(true, tick),
+        }
+    }
+}
