@@ -1,0 +1,342 @@
+// A delta applied to its base, both in areas of their forms: judged first, then merged in two passes, for keys below 2^31 and the others.
+ghost use mathlib.Core.Path.{_≡_};
+ghost use mathlib.Core.List.{[], _∷_};
+ghost use Prim.Native.Nat.{_+_, _-_, _*_, _<_, _≤_, _^_};
+ghost use lib.IntN.{pos};
+ghost use lib.ListN.{length, set};
+ghost use Rattle.definitions.specs.Ints.{bits, wrappingAdd};
+ghost use Rattle.definitions.specs.Areas.{layAt};
+ghost use Rattle.definitions.specs.Tables.{keyAt, body, written, items};
+ghost use Rattle.definitions.specs.TableCalls.{storedTable};
+ghost use Rattle.definitions.specs.Deltas.{updateKey, updateAt, updates, deltaIn};
+ghost use Rattle.definitions.specs.DeltaMaking.{zipWith};
+ghost use Rattle.definitions.specs.Applying.{applyDelta};
+ghost use Rattle.laws.specs.DeltaShape.{Update, Updates};
+ghost use Rattle.laws.specs.ApplyFound.{item};
+ghost use Rattle.laws.specs.ApplyJudging.{good, judgeDelta, appliedTable};
+ghost use Rattle.laws.specs.ApplyMerge.{Ahead, merged};
+ghost use Rattle.laws.specs.ApplyHalves.{HighBefore, NextLow};
+ghost use Rattle.laws.specs.ApplyWriting.{Room, wrote};
+ghost use Rattle.table.specs.Held.{Held};
+ghost use Rattle.delta_form.specs.Held.{HeldDelta};
+ghost use Rattle.apply_judging.specs.Judging.{DeletedKeys};
+ghost use Rattle.applying.specs.Answers.{appliedInts};
+ghost use Rattle.applying.specs.Merging.{restOf, Going, Turned};
+use apply_judging::checked::Judged;
+use apply_judging::checked::deleted_near;
+use apply_judging::checked::is_deleted;
+use apply_judging::checked::judge;
+use delta_form::checked::next_update;
+use delta_form::checked::rank;
+use delta_form::checked::update_bits;
+use delta_form::checked::update_data;
+use delta_form::checked::update_key;
+use format::Error;
+use format::Stored;
+use table::checked::data_at;
+use table::checked::key_at;
+use table::checked::place;
+use table::checked::put;
+
+// What applying comes to: the answer, and whether the base lacks a deleted key.
+pub struct Applied {
+    pub answer: Stored,
+    pub unknown_delete: bool,
+}
+
+// How far a merge is: the next item of the base, the place of the next update and how many are left, a hint among the deleted keys, how many items were written, and the place of the next one.
+pub struct Merge {
+    pub item: usize,
+    pub update: usize,
+    pub left: usize,
+    pub hint: usize,
+    pub items: usize,
+    pub at: usize,
+}
+
+// A place among the updates, and how many are left there.
+pub struct Low {
+    pub update: usize,
+    pub left: usize,
+}
+
+// The differences of the update at a place.
+fn differences(delta: &[i32], p: usize) -> &[i32]
+    requires { ⌜ Update [] (now delta) p ⌝ }
+    ensures { λ r. ⌜ now r ≡ updateAt [] (now (delta .entry)) p .values ⌝ }
+{
+    update_data(delta, &delta[..0], p)
+}
+
+// The offset and the key of item m of n, whose key stands at a place.
+fn put_head(out: &mut [i32], n: usize, m: usize, at: usize, key: i32)
+    requires { ⌜ (2 + m < length (now out)) × (2 + n ≤ at) × (at < length (now out)) × (at ≤ 16384) ⌝ }
+    ensures { λ _. ⌜ now (out .exit) ≡ set (set (now (out .entry)) (2 + m) (pos (4 * (at - (2 + n))))) at key ⌝ }
+{
+    put(out, 2 + m, 4 * (at - (2 + n)));
+    out[at] = key;
+}
+
+// Item m of n: its offset, and from a place on its key and its data.
+fn put_item(out: &mut [i32], n: usize, m: usize, at: usize, key: i32, values: &[i32])
+    requires { ⌜ Room n (length (now out)) m at (item (bits key) (now values) ∷ []) ⌝ }
+    ensures { λ _. ⌜ now (out .exit) ≡ wrote n (now (out .entry)) m at (item (bits key) (now (values .entry)) ∷ []) ⌝ }
+{
+    put_head(out, n, m, at, key);
+    ints::copy_into(out, at + 1, values);
+}
+
+// The same of the base's data with differences added.
+fn put_sums(out: &mut [i32], n: usize, m: usize, at: usize, key: i32, old: &[i32], more: &[i32])
+    requires { ⌜ (length (now old) ≡ length (now more)) × Room n (length (now out)) m at (item (bits key) (zipWith wrappingAdd (now old) (now more)) ∷ []) ⌝ }
+    ensures { λ _. ⌜ now (out .exit) ≡ wrote n (now (out .entry)) m at (item (bits key) (zipWith wrappingAdd (now (old .entry)) (now (more .entry))) ∷ []) ⌝ }
+{
+    put_head(out, n, m, at, key);
+    let from = at + 1;
+    let to = from + old.len();
+    ints::checked::add_into(&mut out[from..to], 0, old, more);
+}
+
+// The next item of the base, which comes before all updates: it is copied, unless its key is deleted.
+fn pass_item(
+    base: &[i32],
+    nb: usize,
+    to: usize,
+    delta: &[i32],
+    deleted: usize,
+    n: usize,
+    out: &mut [i32],
+    s: Merge,
+) -> Merge
+    requires { ⌜ Held (now base) nb × DeletedKeys (now delta) deleted × Going (now base) nb to (now delta) deleted n (length (now out)) s
+        × (s .item < to) × Ahead (keyAt (now base) (s .item)) (updates [] (now delta) (s .update) (s .left)) ⌝ }
+    ensures { λ r. ⌜ Turned (now (base .entry)) nb to (now (delta .entry)) deleted n (now (out .entry)) s (now (out .exit)) r ⌝ }
+{
+    let key = key_at(base, nb, s.item);
+    let own = ints::to_bits(key) as usize;
+    let hint = deleted_near(delta, deleted, s.hint, rank(own));
+    if is_deleted(delta, deleted, hint, own) {
+        return Merge {
+            item: s.item + 1,
+            update: s.update,
+            left: s.left,
+            hint,
+            items: s.items,
+            at: s.at,
+        };
+    }
+    let values = data_at(base, nb, s.item);
+    put_item(out, n, s.items, s.at, key, values);
+    Merge {
+        item: s.item + 1,
+        update: s.update,
+        left: s.left,
+        hint,
+        items: s.items + 1,
+        at: s.at + 1 + values.len(),
+    }
+}
+
+// The next item of the base with the differences of its update.
+fn add_update(
+    base: &[i32],
+    nb: usize,
+    to: usize,
+    delta: &[i32],
+    deleted: usize,
+    n: usize,
+    out: &mut [i32],
+    s: Merge,
+) -> Merge
+    requires { ⌜ Held (now base) nb × Going (now base) nb to (now delta) deleted n (length (now out)) s
+        × (s .item < to) × (0 < s .left) × (keyAt (now base) (s .item) ≡ updateKey (now delta) (s .update)) ⌝ }
+    ensures { λ r. ⌜ Turned (now (base .entry)) nb to (now (delta .entry)) deleted n (now (out .entry)) s (now (out .exit)) r ⌝ }
+{
+    let key = update_key(delta, s.update);
+    let old = data_at(base, nb, s.item);
+    let more = differences(delta, s.update);
+    put_sums(out, n, s.items, s.at, key, old, more);
+    Merge {
+        item: s.item + 1,
+        update: next_update(delta, s.update),
+        left: s.left - 1,
+        hint: s.hint,
+        items: s.items + 1,
+        at: s.at + 1 + old.len(),
+    }
+}
+
+// The next update, of a key that the base lacks.
+fn put_update(
+    base: &[i32],
+    nb: usize,
+    to: usize,
+    delta: &[i32],
+    deleted: usize,
+    n: usize,
+    out: &mut [i32],
+    s: Merge,
+) -> Merge
+    requires { ⌜ Held (now base) nb × Going (now base) nb to (now delta) deleted n (length (now out)) s
+        × (0 < s .left) × (s .item < to → updateKey (now delta) (s .update) < keyAt (now base) (s .item)) ⌝ }
+    ensures { λ r. ⌜ Turned (now (base .entry)) nb to (now (delta .entry)) deleted n (now (out .entry)) s (now (out .exit)) r ⌝ }
+{
+    let key = update_key(delta, s.update);
+    let more = differences(delta, s.update);
+    put_item(out, n, s.items, s.at, key, more);
+    Merge {
+        item: s.item,
+        update: next_update(delta, s.update),
+        left: s.left - 1,
+        hint: s.hint,
+        items: s.items + 1,
+        at: s.at + 1 + more.len(),
+    }
+}
+
+// The next item of the base, or the next update, or both.
+fn merge_one(
+    base: &[i32],
+    nb: usize,
+    to: usize,
+    delta: &[i32],
+    deleted: usize,
+    n: usize,
+    out: &mut [i32],
+    s: Merge,
+) -> Merge
+    requires { ⌜ Held (now base) nb × DeletedKeys (now delta) deleted × Going (now base) nb to (now delta) deleted n (length (now out)) s
+        × (0 < (to - s .item) + s .left) ⌝ }
+    ensures { λ r. ⌜ Turned (now (base .entry)) nb to (now (delta .entry)) deleted n (now (out .entry)) s (now (out .exit)) r ⌝ }
+{
+    if s.left == 0 {
+        return pass_item(base, nb, to, delta, deleted, n, out, s);
+    }
+    if to <= s.item {
+        return put_update(base, nb, to, delta, deleted, n, out, s);
+    }
+    let own = ints::to_bits(key_at(base, nb, s.item)) as usize;
+    let key = update_bits(delta, s.update);
+    if own < key {
+        return pass_item(base, nb, to, delta, deleted, n, out, s);
+    }
+    if own == key {
+        return add_update(base, nb, to, delta, deleted, n, out, s);
+    }
+    put_update(base, nb, to, delta, deleted, n, out, s)
+}
+
+// The base's items from one to another and the updates from a place on, both in unsigned order, merged.
+fn merge_part(
+    base: &[i32],
+    nb: usize,
+    to: usize,
+    delta: &[i32],
+    deleted: usize,
+    n: usize,
+    out: &mut [i32],
+    start: Merge,
+) -> Merge
+    requires { ⌜ Held (now base) nb × DeletedKeys (now delta) deleted × Going (now base) nb to (now delta) deleted n (length (now out)) start ⌝ }
+    ensures { λ r. ⌜ (r .items ≡ start .items + length (restOf (now (base .entry)) to (now (delta .entry)) deleted start))
+        × (r .at ≡ start .at + length (body (restOf (now (base .entry)) to (now (delta .entry)) deleted start)))
+        × (now (out .exit) ≡ wrote n (now (out .entry)) (start .items) (start .at) (restOf (now (base .entry)) to (now (delta .entry)) deleted start)) ⌝ }
+{
+    let mut s = start;
+    while s.item < to || 0 < s.left {
+        s = merge_one(base, nb, to, delta, deleted, n, out, s);
+    }
+    s
+}
+
+// Where the updates begin whose keys are not negative as signed, and how many they are.
+fn low_updates(delta: &[i32], from: usize, updated: usize) -> Low
+    requires { ⌜ Updates [] (now delta) from updated ⌝ }
+    ensures { λ r. ⌜ HighBefore (now (delta .entry)) from updated (r .update) (r .left) × NextLow (updates [] (now (delta .entry)) (r .update) (r .left)) ⌝ }
+{
+    let mut p = from;
+    let mut left = updated;
+    while 0 < left {
+        if update_bits(delta, p) < 2147483648 {
+            return Low { update: p, left };
+        }
+        p = next_update(delta, p);
+        left -= 1;
+    }
+    Low { update: p, left }
+}
+
+// The table that the delta makes, of so many items and ints, into the front of out.
+fn write_table(
+    base: &[i32],
+    nb: usize,
+    delta: &[i32],
+    deleted: usize,
+    updated: usize,
+    n: usize,
+    ints: usize,
+    out: &mut [i32],
+)
+    requires { ⌜ Held (now base) nb × HeldDelta [] (now delta) deleted updated × (judgeDelta (items (now base)) (deltaIn [] (now delta)) ≡ good n ints)
+        × (n ≤ 1024) × (ints ≤ 16384) × (ints ≤ length (now out)) ⌝ }
+    ensures { λ _. ⌜ now (out .exit) ≡ layAt 0 (written (appliedTable (items (now (base .entry))) (deltaIn [] (now (delta .entry))))) (now (out .entry)) ⌝ }
+{
+    let half = place(base, nb, ints::from_bits(2147483648));
+    let low = low_updates(delta, 3 + deleted, updated);
+    put(out, 0, 4 * (ints - (2 + n)));
+    put(out, 1, n);
+    let start = Merge {
+        item: 0,
+        update: low.update,
+        left: low.left,
+        hint: 0,
+        items: 0,
+        at: 2 + n,
+    };
+    let mid = merge_part(base, nb, half, delta, deleted, n, out, start);
+    let rest = Merge {
+        item: half,
+        update: 3 + deleted,
+        left: updated - low.left,
+        hint: 0,
+        items: mid.items,
+        at: mid.at,
+    };
+    merge_part(base, nb, nb, delta, deleted, n, out, rest);
+}
+
+// A delta of so many deleted keys and updates applied to a base of nb items, into the front of out; a refused call leaves out as it was.
+pub fn apply(
+    base: &[i32],
+    nb: usize,
+    delta: &[i32],
+    deleted: usize,
+    updated: usize,
+    out: &mut [i32],
+) -> Applied
+    requires { ⌜ Held (now base) nb × HeldDelta [] (now delta) deleted updated ⌝ }
+    ensures { λ r. ⌜ storedTable (now (out .entry)) (applyDelta (items (now (base .entry))) (deltaIn [] (now (delta .entry)))) ≡ record { answer = appliedInts r; out = now (out .exit) } ⌝ }
+{
+    let all = judge(base, nb, delta, deleted, updated);
+    let unknown_delete = all.unknown_delete;
+    let judged = all.judged;
+    match judged {
+        Judged::Refused(e) => Applied {
+            answer: Stored::Refused(e),
+            unknown_delete,
+        },
+        Judged::Fine { items, ints } => {
+            if out.len() < ints {
+                return Applied {
+                    answer: Stored::Refused(Error::CapacityError),
+                    unknown_delete,
+                };
+            }
+            write_table(base, nb, delta, deleted, updated, items, ints, out);
+            Applied {
+                answer: Stored::Ints(ints),
+                unknown_delete,
+            }
+        }
+    }
+}

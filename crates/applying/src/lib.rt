@@ -1,0 +1,2 @@
+// Applying a delta to its base.
+pub mod checked;

@@ -1,0 +1,3 @@
+-- Facts that the proofs of `builder` share. Assumes nothing.
+pub mod Counting
+pub mod Adding

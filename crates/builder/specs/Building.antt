@@ -1,0 +1,36 @@
+-- A builder's table in an area, and what adding to it comes to. Assumes nothing.
+use mathlib.Core.Path.{_≡_}
+use mathlib.Core.Bool.{true, false}
+use mathlib.Core.List.{List}
+use Prim.Native.Nat.{ℕ, _+_, _/_, _≤_, _<_}
+use lib.IntN.{ℤ}
+use Rattle.definitions.specs.Refusals.{notInForm}
+use Rattle.definitions.specs.Outcome.{return, refuse, _>>_, Wrote}
+use Rattle.definitions.specs.Tables.{Table, items, count, size}
+use Rattle.definitions.specs.Types.{TypeId, judgeTypeId}
+use Rattle.definitions.specs.Builder.{kindsRun, numKinds, heldBuilder, addWhere}
+use Rattle.table.specs.Held.{Held}
+use Rattle.builder.specs.declared.checked.Building.{Building}
+use Rattle.builder.specs.declared.checked.Building.the-variants as building
+
+-- r kinds run from 4000 hex on; more than 1,024 where they do not
+pub record Runs (t : Table) (r : ℕ) : Type 0 where
+  pub run : r ≤ 1024 → (kindsRun 16384 t ≡ true) × (numKinds t ≡ r)
+  pub gap : 1024 < r → kindsRun 16384 t ≡ false
+
+-- an area holds a builder's table of n items, k ints and m kinds
+pub record Built-as (a : List ℤ) (n k m : ℕ) : Type 0 where
+  pub builder : heldBuilder a ≡ return (items a)
+  pub held : Held a n
+  pub takes : k ≡ 2 + count a + size a / 4
+  pub kinds : numKinds (items a) ≡ m
+  pub few : m ≤ 1024
+
+-- what an answer tells of an area
+abbrev pub Built : List ℤ → Building → Type 0
+Built a (building.Table n k m) = Built-as a n k m
+Built a building.Bad = heldBuilder a ≡ refuse notInForm
+
+-- what adding an item to the builder's table of an area comes to
+abbrev pub addedAs : List ℤ → TypeId → ℕ → List ℤ → Wrote ℕ ℤ
+addedAs a type id values = addWhere a type id values (judgeTypeId type >> return (items a))

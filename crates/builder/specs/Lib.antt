@@ -1,0 +1,2 @@
+-- What the functions of `builder` promise. Assumes nothing.
+pub mod Building

@@ -1,0 +1,2 @@
+-- What the answers of `snap` mean. Assumes nothing.
+pub mod Answers

@@ -1,0 +1,2 @@
+-- Facts that the proofs of `typed_applying` share. Assumes nothing.
+pub mod Applied

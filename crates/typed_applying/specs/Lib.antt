@@ -1,0 +1,3 @@
+-- What the answers of `typed_applying` mean. Assumes nothing.
+pub mod Answers
+pub mod Sound

@@ -1,0 +1,41 @@
+-- What the answers of `types` mean. Assumes nothing.
+use Prim.Native.Nat.{ℕ}
+use Rattle.definitions.specs.Warnings.{Counts}
+use Rattle.definitions.specs.Outcome.{Outcome, ok, err}
+use Rattle.definitions.specs.Tables.{Table}
+use Rattle.format.specs.Numbers.{number}
+use Rattle.types.specs.declared.checked.Types.{Types}
+use Rattle.types.specs.declared.checked.Types.the-variants as types
+use Rattle.types.specs.declared.checked.Judged.{Judged}
+
+-- so many kinds with more than four ints
+abbrev pub uuidExcess : ℕ → Counts
+uuidExcess n =
+    record {
+      overlongIntEncoding = 0;
+      nonZeroIntPadding = 0;
+      nonZeroPadding = 0;
+      duplicateDelete = 0;
+      duplicateUpdate = 0;
+      unknownDelete = 0;
+      deleteUpdate = 0;
+      numUpdatedItems = 0;
+      excessSnapData = 0;
+      excessUuidItemData = n;
+      duplicateSnap = 0;
+      differingAttributes = 0;
+      weirdNegativeDeltaTick = 0;
+    }
+
+-- an answer on types, with what was counted
+abbrev pub typesWith : {A : Type 0} → A → Types → Counts → Outcome A
+typesWith a types.Sound w = ok a w
+typesWith a (types.Refused e) w = err (number e) w
+
+-- what judging comes to
+abbrev pub judged : Judged → Outcome (Unit {0})
+judged r = typesWith tt (r .types) (uuidExcess (r .excess))
+
+-- the same of a table
+abbrev pub judgedTable : Table → Judged → Outcome Table
+judgedTable t r = typesWith t (r .types) (uuidExcess (r .excess))

@@ -1,0 +1,4 @@
+-- What the functions of `types` are given, and what they promise. Assumes nothing.
+pub mod Picks
+pub mod Kinds
+pub mod Answers

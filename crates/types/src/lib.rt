@@ -1,0 +1,2 @@
+// Whether the types of a table are sound.
+pub mod checked;
