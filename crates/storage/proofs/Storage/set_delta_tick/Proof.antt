@@ -1,0 +1,80 @@
+-- `Storage::set_delta_tick` meets its contract: by the form of the store and the sign of the tick. Assumes nothing.
+use Rattle.storage.proofs.Bases.{refused-47, no-base, set-held}
+use Rattle.storage.proofs.Forms.{not-held, told, Told}
+use Rattle.storage.specs.States.{storeOf, holdsIn}
+use denote.Ref.{now}
+use mathlib.Core.Path.{sym, _∙_}
+use mir.Facts.{toZ-ofZ}
+use borrow.Author.Needs.{needs}
+use Rattle.storage.proofs.Storage.set_delta_tick.Statement.{statement}
+use Rattle.storage.proofs.Storage.set_delta_tick.Tie as tie
+
+-- the store is in form
+in-form : (c : tie.After-ints) → let s = c .before .before .before .before .args in Told (storeOf (s .self)) (now (s .area)) (c .ints .given .0 .0)
+in-form c = told _ _ _ (sym (c .ints .given .1) ∙ c .before .before .form .ensures)
+
+form-requires : tie.Need-form-requires
+form-requires c κs = search needs
+
+enum-known-ints : tie.Need-enum-known-ints
+enum-known-ints c = search needs
+
+enum-told : tie.Need-enum-told
+enum-told c = search needs
+
+none-requires : tie.Need-none-requires
+none-requires c κs = search needs
+
+same-length : tie.Need-same-length
+same-length c = search needs
+
+returns : tie.Need-returns
+returns c =
+    let s = c .before .before .before .before .before .args in
+    refused-47 (s .self) (now (s .area)) (s .tick) (c .none .result) (c .none .ensures) (not-held _ _ (sym (c .before .enum-told .given .1) ∙ c .before .before .before .form .ensures))
+
+weird-requires : tie.Need-weird-requires
+weird-requires c κs = search needs
+
+without-delta-requires : tie.Need-without-delta-requires
+without-delta-requires c κs = search needs
+
+same-length-2 : tie.Need-same-length-2
+same-length-2 c = search needs
+
+returns-2 : tie.Need-returns-2
+returns-2 c =
+    let s = c .before .before .before .before .before .before .before .before in
+    let t = in-form (c .before .before .before .before) in
+    no-base (s .args .self) (now (s .args .area)) (s .args .tick) (c .before .weird .result) _ (t .holds) (c .without-delta .result) (rw (toZ-ofZ (s .fits .tick)) at (c .before .before .if1 .taken)) (rw (toZ-ofZ (s .fits .tick)) at (c .before .weird .ensures)) (c .without-delta .ensures)
+
+set-base-requires : tie.Need-set-base-requires
+set-base-requires c κs = (in-form (c .before .before .before) .holds, rw (toZ-ofZ (c .before .before .before .before .before .before .before .fits .tick)) (rw (toZ-ofZ (c .before .before .before .before .before .before .before .fits .tick)) at (c .before .if1 .left)))
+
+same-length-3 : tie.Need-same-length-3
+same-length-3 c = search needs
+
+returns-3 : tie.Need-returns-3
+returns-3 c =
+    let s = c .before .before .before .before .before .before .before .before .before in
+    let t = in-form (c .before .before .before .before .before) in
+    set-held (storeOf (s .args .self)) (now (s .args .area)) (s .args .tick) (holdsIn (storeOf (s .args .self)) (now (s .args .area))) (t .is)
+    ∙ rw (toZ-ofZ (s .fits .tick)) at (c .before .set-base .ensures)
+
+pub set-delta-tick-spec : {M : Type 1} → statement M
+set-delta-tick-spec =
+    tie.close
+    (tie.spec
+    form-requires
+    enum-known-ints
+    enum-told
+    none-requires
+    same-length
+    returns
+    weird-requires
+    without-delta-requires
+    same-length-2
+    returns-2
+    set-base-requires
+    same-length-3
+    returns-3)

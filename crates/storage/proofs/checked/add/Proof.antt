@@ -1,0 +1,103 @@
+-- `checked::add` meets its contract: by the delta that is made. Assumes nothing.
+use Prim.Native.Nat.{_+_, _≤_}
+use Rattle.definitions.specs.Storage as Store
+use Rattle.definitions.specs.Tables.{items}
+use Rattle.laws.specs.TableShape.{some-is}
+use Rattle.storage.proofs.Additions.{made-room}
+use Rattle.storage.proofs.Calls.{room-is, adding-ends, clashes}
+use Rattle.storage.proofs.Forms.{holds-is}
+use Rattle.storage.specs.Answers.{Clashing}
+use Rattle.storage.specs.States.{storeOf, holdsIn, deltaOf}
+use Rattle.storage.specs.Steps.{addedOf}
+use Rattle.store_area.specs.Held.{snapsIn}
+use Rattle.table.specs.Forms.{formed}
+use Rattle.table.specs.Writing.{form-front, form-length}
+use borrow.Author.Tests.{leb-true}
+use denote.Ref.{now}
+use lib.Dec.{leb}
+use lib.ListN.{length}
+use mathlib.Core.Bool.{true}
+use mathlib.Core.Path.{_≡_, sym, ap, _∙_}
+use mathlib.Core.Path.{subst}
+use mir.Facts.{toZ-ofZ}
+use mir.Syntax.{w32}
+use native.Mathlib.Omega.{arith}
+use borrow.Author.Needs.{needs}
+use Rattle.storage.proofs.checked.add.Statement.{statement}
+use Rattle.storage.proofs.checked.add.Tie as tie
+
+-- the table that is added
+abbrev new : tie.Start → Store.StoredSnap
+new s = record { tick = s .args .tick; snap = items (now (s .args .table)) }
+
+-- its length, and that of the tables held
+bounds : (s : tie.Start) → (s .args .size ≤ 16384) × (s .args .ints ≤ length (now (s .args .area)))
+bounds s =
+    let f = formed (now (s .args .table)) _ _ (s .pre .2) in
+    (omega (arith, f .1, f .0 .shape .short), omega (arith, s .pre .0 .ints-are, s .pre .0 .held .stands .room))
+
+-- the tick of the base
+based : (c : tie.After-base-tick) → let s = c .before .before .before .before .before .before in c .base-tick .result ≡ Store.chosenBase (deltaOf (s .args .s)) (new s) (snapsIn (s .args .s .count) (now (s .args .area))) .tick
+based c =
+    let s = c .before .before .before .before .before .before in
+    rw (toZ-ofZ (s .fits .tick)) at (c .base-tick .ensures (items (now (s .args .table))))
+
+-- the answer
+answered : (c : tie.After-area) → c .before .finish .result .answer ≡ addedOf (c .before .before .before .before .base-tick .result) (c .before .before .before .before .before .before .before .make-delta .result)
+answered c = rw (toZ-ofZ {w = w32} (record { sfits = c .before .before .before .before .base-tick .ok })) at (c .before .finish .ensures .0)
+
+add-room : tie.Need-add-room
+add-room c = let w = bounds c in omega (arith, w)
+
+add-room-2 : tie.Need-add-room-2
+add-room-2 c = let w = bounds c in omega (arith, w)
+
+make-delta-requires : tie.Need-make-delta-requires
+make-delta-requires c κs = let s = c .before .before in (s .pre .0 .held, formed (now (s .args .table)) _ _ (s .pre .2) .0)
+
+base-tick-requires : tie.Need-base-tick-requires
+base-tick-requires c κs = c .before .before .before .before .before .pre .0 .held
+
+slice-aggregate-finish : tie.Need-slice-aggregate-finish
+slice-aggregate-finish c = let s = c .before .before .before .before .before .before .before in form-length (now (s .args .table)) (s .pre .2)
+
+finish-requires : tie.Need-finish-requires
+finish-requires c κs =
+    let s = c .before .before .before .before .before .before .before .before in
+    let d = c .before .before .before .before .before in
+    let n = form-length (now (s .args .table)) (s .pre .2) in
+    let w = bounds s in
+    (s .pre .0, s .pre .1, omega (arith, n, w), λ k e. let q : leb (s .args .ints + (s .args .size + 2)) (length (now (s .args .area))) ≡ true = made-room _ _ _ _ _ _ k (d .make-delta .ensures .0 (s .args .tick)) e in omega (arith, n, leb-true (s .args .ints + (s .args .size + 2)) (length (now (s .args .area))) q))
+
+same-length : tie.Need-same-length
+same-length c = search needs
+
+same-length-2 : tie.Need-same-length-2
+same-length-2 c = search needs
+
+returns : tie.Need-returns
+returns c =
+    let s = c .before .before .before .before .before .before .before .before .before .before in
+    let d = c .before .before .before .before .before .before .before in
+    let r = c .before .finish in
+    let t = now (s .args .table) in
+    let a = now (s .args .area) in
+    let f = r .ensures in
+    let n = form-length t (s .pre .2) in (
+      adding-ends (storeOf (s .args .s)) a (now (s .args .delta)) (s .args .ints) (s .pre .0) (new s) _ (d .make-delta .result) _ (s .pre .1) (room-is (new s) (snapsIn (s .args .s .count) a) (length a) (s .args .ints) (s .args .size) (s .pre .0 .ints-are) (n ∙ ap length (sym (form-front t (s .pre .2))))) (d .make-delta .ensures .0 (s .args .tick)) (c .before .before .before .before .base-tick .result) (based (c .before .before .before .before)) (r .result) _ (answered c) (f .1) (rw (toZ-ofZ (s .fits .tick)) at (f .2 (items t) (sym (form-front t (s .pre .2))))),
+      subst (Clashing (storeOf (s .args .s)) a (s .args .tick) t) (sym (answered c)) (clashes (storeOf (s .args .s)) a (s .args .tick) t (items t) (holdsIn (storeOf (s .args .s)) a) (c .before .before .before .before .base-tick .result) (d .make-delta .result) (holds-is (storeOf (s .args .s)) a (s .args .ints) (s .pre .0)) (some-is t (formed t _ _ (s .pre .2) .0 .shape)) (d .make-delta .ensures .1 (s .args .tick))),
+    )
+
+pub add-spec : {M : Type 1} → statement M
+add-spec =
+    tie.close
+    (tie.spec
+    add-room
+    add-room-2
+    make-delta-requires
+    base-tick-requires
+    slice-aggregate-finish
+    finish-requires
+    same-length
+    same-length-2
+    returns)

@@ -1,0 +1,87 @@
+-- `checked::apply_on` meets its contract: by the sign of the tick. Assumes nothing.
+use Prim.Native.Nat.{_-_, _<_}
+use Rattle.definitions.specs.Storage as Store
+use Rattle.definitions.specs.Tables.{items, count}
+use Rattle.storage.proofs.Additions.{empty-table, empty-held, whole-table}
+use Rattle.storage.proofs.Deltas.{empty-base, old-base, oldest-held, applies-by}
+use Rattle.store_area.specs.Held.{snapsIn, snapAt}
+use Rattle.store_area.specs.Tables.{sound-at}
+use Rattle.table.specs.Held.{Held}
+use denote.Ref.{now}
+use mathlib.Core.List.{List}
+use mathlib.Core.Option.{some}
+use mathlib.Core.Path.{_≡_, sym, ap, _∙_, subst}
+use mir.Facts.{toZ-ofZ}
+use native.Mathlib.Omega.{arith}
+use borrow.Author.Needs.{needs}
+use Rattle.storage.proofs.checked.apply_on.Statement.{statement}
+use Rattle.storage.proofs.checked.apply_on.Tie as tie
+
+-- the tables
+abbrev L : tie.Start → List Store.StoredSnap
+L s = snapsIn (s .args .count) (now (s .args .area))
+
+-- whether the tick is negative
+negative : (c : tie.After-signed-less) → c .signed-less .result ≡ Store.isNegative (c .before .args .tick)
+negative c = rw (toZ-ofZ (c .before .fits .tick)) at (c .signed-less .ensures)
+
+-- the base is the oldest table
+oldest : (c : tie.Else1) → (0 < c .before .before .args .count) × (Store.oldestAt (c .before .before .args .tick) (L (c .before .before)) ≡ some (snapAt (L (c .before .before)) (c .before .before .args .count - 1) .snap))
+oldest c =
+    oldest-held (c .before .before .args .tick) (L (c .before .before)) (c .before .before .args .count) (c .before .before .pre .0 .many) (ap Store.isHeld (old-base (c .before .before .args .tick) (L (c .before .before)) (sym (negative (c .before)) ∙ c .if1 .left)) ∙ c .before .before .pre .1)
+
+-- it holds its items
+based : (c : tie.After-table-at) → let a = now (c .table-at .result) in Held a (count a) × (items a ≡ snapAt (L (c .before .before .before)) (c .before .before .before .args .count - 1) .snap)
+based c =
+    let h = c .before .before .before .pre .0 in
+    let o = oldest (c .before) in
+    whole-table (now (c .table-at .result)) (snapAt (L (c .before .before .before)) (c .before .before .before .args .count - 1) .snap) (sound-at (L (c .before .before .before)) (c .before .before .before .args .count - 1) (h .stands .sounds) (omega (arith, h .many, o .0))) (c .table-at .ensures)
+
+signed-less-requires : tie.Need-signed-less-requires
+signed-less-requires c κs = search needs
+
+slice-aggregate-apply-typed : tie.Need-slice-aggregate-apply-typed
+slice-aggregate-apply-typed c = search needs
+
+apply-typed-requires : tie.Need-apply-typed-requires
+apply-typed-requires c κs = (empty-held, c .before .before .before .before .pre .2, c .before .before .before .before .pre .3)
+
+same-length : tie.Need-same-length
+same-length c = search needs
+
+returns : tie.Need-returns
+returns c = applies-by _ _ _ _ _ _ (empty-base (c .before .before .before .before .before .before .args .tick) (L (c .before .before .before .before .before .before)) (sym (negative (c .before .before .before .before .before)) ∙ c .before .before .before .before .if1 .taken)) (empty-table .1) (c .before .apply-typed .ensures)
+
+sub-table-at : tie.Need-sub-table-at
+sub-table-at c = let o = oldest (c) in omega (arith, o .0)
+
+table-at-requires : tie.Need-table-at-requires
+table-at-requires c κs = let o = oldest (c) in (c .before .before .pre .0, omega (arith, o .0))
+
+nat-at-requires : tie.Need-nat-at-requires
+nat-at-requires c κs = let h = based (c) .0 in omega (arith, h .shape .room)
+
+apply-typed-requires-2 : tie.Need-apply-typed-requires-2
+apply-typed-requires-2 c κs = (subst (Held (now (c .before .before .table-at .result))) (sym (c .before .nat-at .ensures .0)) (based (c .before .before) .0), c .before .before .before .before .before .pre .2, c .before .before .before .before .before .pre .3)
+
+same-length-2 : tie.Need-same-length-2
+same-length-2 c = search needs
+
+returns-2 : tie.Need-returns-2
+returns-2 c = applies-by _ _ _ _ _ _ (sym (old-base (c .before .before .before .before .before .before .before .args .tick) (L (c .before .before .before .before .before .before .before)) (sym (negative (c .before .before .before .before .before .before)) ∙ c .before .before .before .before .before .if1 .left)) ∙ oldest (c .before .before .before .before .before) .1) (based (c .before .before .before .before) .1) (c .before .apply-typed2 .ensures)
+
+pub apply-on-spec : {M : Type 1} → statement M
+apply-on-spec =
+    tie.close
+    (tie.spec
+    signed-less-requires
+    slice-aggregate-apply-typed
+    apply-typed-requires
+    same-length
+    returns
+    sub-table-at
+    table-at-requires
+    nat-at-requires
+    apply-typed-requires-2
+    same-length-2
+    returns-2)

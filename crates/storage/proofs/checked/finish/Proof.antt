@@ -1,0 +1,65 @@
+-- `checked::finish` meets its contract: by whether the delta was made. Assumes nothing.
+use Rattle.storage.proofs.Calls.{made-leaves, clash-leaves, refused-leaves}
+use Rattle.storage.specs.States.{storeOf}
+use Rattle.storage.specs.Steps.{addedOf}
+use Rattle.store_area.specs.Held.{snapsIn}
+use denote.Ref.{now}
+use mathlib.Core.Path.{_≡_, _∙_}
+use mir.Facts.{toZ-ofZ}
+use borrow.Author.Needs.{needs}
+use Rattle.storage.proofs.checked.finish.Statement.{statement}
+use Rattle.storage.proofs.checked.finish.Tie as tie
+
+-- the answer
+answered : (c : tie.After-answer) → let s = c .before .args in c .answer .result ≡ addedOf (s .base) (s .result)
+answered c = rw (toZ-ofZ (c .before .fits .base)) at (c .answer .ensures)
+
+answer-requires : tie.Need-answer-requires
+answer-requires c κs = search needs
+
+enum-told : tie.Need-enum-told
+enum-told c = search needs
+
+store-requires : tie.Need-store-requires
+store-requires c κs =
+    let s = c .before .before .before .before in
+    (s .pre .0, s .pre .1, s .pre .2, s .pre .3 _ (c .before .enum-told .given .1))
+
+enum-told-2 : tie.Need-enum-told-2
+enum-told-2 c = search needs
+
+enum-told-3 : tie.Need-enum-told-3
+enum-told-3 c = search needs
+
+same-length : tie.Need-same-length
+same-length c = search needs
+
+returns : tie.Need-returns
+returns c =
+    let s = c .before .before .before .before .before .before in
+    let r = c .before .store in
+    made-leaves (storeOf (s .args .s)) (now (s .args .area)) (snapsIn (s .args .s .count) (now (s .args .area))) (s .args .tick) (s .args .base) _ (now (s .args .table)) _ (r .result) (s .args .result) (c .before .before .before .enum-told .given .1) (r .ensures .0 ∙ answered (c .before .before .before .before .before)) (r .ensures .1) (rw (toZ-ofZ (s .fits .tick)) at (r .ensures .2))
+
+returns-2 : tie.Need-returns-2
+returns-2 c =
+    let s = c .before .before .before in
+    clash-leaves (storeOf (s .args .s)) (now (s .args .area)) (snapsIn (s .args .s .count) (now (s .args .area))) (s .args .tick) (s .args .base) _ _ (now (s .args .table)) (s .args .result) (c .enum-told2 .given .1) (answered (c .before .before))
+
+returns-3 : tie.Need-returns-3
+returns-3 c =
+    let s = c .before .before .before in
+    refused-leaves (storeOf (s .args .s)) (now (s .args .area)) (snapsIn (s .args .s .count) (now (s .args .area))) (s .args .tick) (s .args .base) _ _ (now (s .args .table)) (s .args .result) (c .enum-told3 .given .1) (answered (c .before .before))
+
+pub finish-spec : {M : Type 1} → statement M
+finish-spec =
+    tie.close
+    (tie.spec
+    answer-requires
+    enum-told
+    store-requires
+    enum-told-2
+    enum-told-3
+    same-length
+    returns
+    returns-2
+    returns-3)

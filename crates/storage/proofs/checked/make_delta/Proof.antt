@@ -1,0 +1,106 @@
+-- `checked::make_delta` meets its contract: by which table is the base. Assumes nothing.
+use Prim.Native.Nat.{ℕ, _-_}
+use Rattle.definitions.specs.Storage as Store
+use Rattle.definitions.specs.Tables.{items, count}
+use Rattle.storage.proofs.Additions.{empty-table, whole-table, by-base}
+use Rattle.storage.proofs.Forms.{chosen-empty, chosen-itself, chosen-oldest}
+use Rattle.storage.specs.States.{deltaOf}
+use Rattle.store_area.specs.Held.{snapsIn, snapAt}
+use Rattle.store_area.specs.Tables.{sound-at}
+use Rattle.table.specs.Held.{Held}
+use borrow.Author.Tests.{not-true, not-false}
+use denote.Ref.{now}
+use lib.IntN.{ℤ, pos}
+use mathlib.Core.List.{List, [], _∷_}
+use mathlib.Core.Path.{_≡_, refl, sym, ap, _∙_}
+use native.Mathlib.Omega.{arith}
+use borrow.Author.Needs.{needs}
+use Rattle.storage.proofs.checked.make_delta.Statement.{statement}
+use Rattle.storage.proofs.checked.make_delta.Tie as tie
+
+-- a table that is held
+itself : {a : List ℤ} {n : ℕ} → Held a n → Held a (count a)
+itself h = record { count-is = refl; shape = h .shape }
+
+-- the tables
+abbrev L : tie.Start → List Store.StoredSnap
+L s = snapsIn (s .args .s .count) (now (s .args .area))
+
+-- the table that is added
+abbrev new : tie.Start → ℤ → Store.StoredSnap
+new s at = record { tick = at; snap = items (now (s .args .table)) }
+
+-- the oldest table holds its items
+based : (c : tie.After-table-at) → let s = c .before .before .before .before .before .before in let a = now (c .table-at .result) in Held a (count a) × (items a ≡ snapAt (L s) (s .args .s .count - 1) .snap)
+based c =
+    let s = c .before .before .before .before .before .before in
+    let h = s .pre .0 in
+    whole-table (now (c .table-at .result)) (snapAt (L s) (s .args .s .count - 1) .snap) (sound-at (L s) (s .args .s .count - 1) (h .stands .sounds) (omega (arith, h .many))) (c .table-at .ensures)
+
+slice-aggregate-make : tie.Need-slice-aggregate-make
+slice-aggregate-make c = search needs
+
+make-requires : tie.Need-make-requires
+make-requires c κs = (empty-table .0, c .before .before .before .before .pre .1)
+
+same-length : tie.Need-same-length
+same-length c = search needs
+
+returns : tie.Need-returns
+returns c =
+    let s = c .before .before .before .before .before .before in
+    let m = c .before .make in
+    let e : (at : ℤ) → items (pos 0 ∷ pos 0 ∷ []) ≡ Store.chosenBase (deltaOf (s .args .s)) (new s at) (L s) .snap =
+    λ at. empty-table .1 ∙ ap (λ (y : Store.StoredSnap). y .snap) (sym (chosen-empty (s .args .s) (new s at) (L s) (not-true _ (c .before .before .before .before .if1 .taken)))) in
+    (λ at. by-base _ _ _ _ _ (items (now (s .args .table))) (m .result) (e at) (m .ensures) .0, λ at. by-base _ _ _ _ _ (items (now (s .args .table))) (m .result) (e at) (m .ensures) .1)
+
+make-requires-2 : tie.Need-make-requires-2
+make-requires-2 c κs = (itself (c .before .before .before .before .before .pre .1), c .before .before .before .before .before .pre .1)
+
+same-length-2 : tie.Need-same-length-2
+same-length-2 c = search needs
+
+returns-2 : tie.Need-returns-2
+returns-2 c =
+    let s = c .before .before .before .before .before .before .before in
+    let m = c .before .make2 in
+    let e : (at : ℤ) → items (now (s .args .table)) ≡ Store.chosenBase (deltaOf (s .args .s)) (new s at) (L s) .snap =
+    λ at. ap (λ (y : Store.StoredSnap). y .snap) (sym (chosen-itself (s .args .s) (new s at) (L s) (s .args .s .count) (not-false _ (c .before .before .before .before .before .if1 .left)) (s .pre .0 .many) (c .before .before .before .if2 .taken))) in
+    (λ at. by-base _ _ _ _ _ (items (now (s .args .table))) (m .result) (e at) (m .ensures) .0, λ at. by-base _ _ _ _ _ (items (now (s .args .table))) (m .result) (e at) (m .ensures) .1)
+
+sub-table-at : tie.Need-sub-table-at
+sub-table-at c = search needs
+
+table-at-requires : tie.Need-table-at-requires
+table-at-requires c κs = (c .before .before .before .before .before .pre .0, omega arith)
+
+make-requires-3 : tie.Need-make-requires-3
+make-requires-3 c κs = (based (c .before) .0, c .before .before .before .before .before .before .before .pre .1)
+
+same-length-3 : tie.Need-same-length-3
+same-length-3 c = search needs
+
+returns-3 : tie.Need-returns-3
+returns-3 c =
+    let s = c .before .before .before .before .before .before .before .before .before in
+    let m = c .before .make3 in
+    let e : (at : ℤ) → items (now (c .before .before .before .table-at .result)) ≡ Store.chosenBase (deltaOf (s .args .s)) (new s at) (L s) .snap =
+    λ at. based (c .before .before .before) .1 ∙ ap (λ (y : Store.StoredSnap). y .snap) (sym (chosen-oldest (s .args .s) (new s at) (L s) (s .args .s .count) (not-false _ (c .before .before .before .before .before .before .before .if1 .left)) (s .pre .0 .many) (c .before .before .before .before .before .if2 .left))) in
+    (λ at. by-base _ _ _ _ _ (items (now (s .args .table))) (m .result) (e at) (m .ensures) .0, λ at. by-base _ _ _ _ _ (items (now (s .args .table))) (m .result) (e at) (m .ensures) .1)
+
+pub make-delta-spec : {M : Type 1} → statement M
+make-delta-spec =
+    tie.close
+    (tie.spec
+    slice-aggregate-make
+    make-requires
+    same-length
+    returns
+    make-requires-2
+    same-length-2
+    returns-2
+    sub-table-at
+    table-at-requires
+    make-requires-3
+    same-length-3
+    returns-3)

@@ -1,0 +1,77 @@
+-- What the answers of `storage` mean: document 01's number and values of each case. Assumes nothing.
+use mathlib.Core.Path.{_≡_}
+use mathlib.Core.List.{List}
+use mathlib.Core.Option.{Option, some, none}
+use Prim.Native.Nat.{ℕ}
+use lib.IntN.{ℤ}
+use Rattle.definitions.specs.Ints.{bits}
+use Rattle.definitions.specs.Refusals.{deltaDifferingSizes}
+use Rattle.definitions.specs.Warnings.{Counts}
+use Rattle.definitions.specs.Outcome.{Outcome, ok, err, return, refuse}
+use Rattle.definitions.specs.Tables.{Table, tableOf}
+use Rattle.definitions.specs.Storage as Store
+use Rattle.definitions.specs.StorageCalls as Calls
+use Rattle.format.specs.Numbers.{number}
+use Rattle.format.specs.Totals.{counts}
+use Rattle.delta_making.specs.Answers.{Differing}
+use Rattle.storage.specs.States.{storeOf}
+use Rattle.storage.specs.declared.Tick.{Tick}
+use Rattle.storage.specs.declared.Tick.the-variants as tick
+use Rattle.storage.specs.declared.HeldTick.{HeldTick}
+use Rattle.storage.specs.declared.HeldTick.the-variants as heldAt
+use Rattle.storage.specs.declared.Set.{Set}
+use Rattle.storage.specs.declared.Set.the-variants as set
+use Rattle.storage.specs.declared.Setting.{Setting}
+use Rattle.storage.specs.declared.Added.{Added}
+use Rattle.storage.specs.declared.Added.the-variants as added
+use Rattle.storage.specs.declared.Adding.{Adding}
+
+-- a tick, if there is one
+abbrev pub tickOf : Tick → Option ℤ
+tickOf (tick.At t) = some t
+tickOf tick.None = none
+
+-- the tick of a held table
+abbrev pub heldTick : HeldTick → Outcome (Option ℤ)
+heldTick (heldAt.At t) = return (some t)
+heldTick heldAt.End = return none
+heldTick (heldAt.Refused e) = refuse (number e)
+
+-- ---- a base tick
+
+-- an answer with the counts beside it
+abbrev pub setWith : Set → Counts → Outcome (Unit {0})
+setWith set.Done w = ok tt w
+setWith (set.Refused e) w = err (number e) w
+
+-- what the call comes to, with the area afterwards
+abbrev pub settings : Setting → List ℤ → Calls.StoreStep (Unit {0})
+settings r area =
+    record { answer = setWith (r .answer) (counts (r .warnings)); store = storeOf (r .storage); area = area }
+
+-- ---- a table that is added
+
+-- the answer
+abbrev pub addedIn : Added → Outcome Calls.Added
+addedIn (added.Delta base ints) = return (record { base = base; ints = ints })
+addedIn (added.DifferingSizes k) = refuse deltaDifferingSizes
+addedIn (added.Refused e) = refuse (number e)
+
+-- what the call comes to, with both areas afterwards
+abbrev pub addings : Adding → List ℤ → List ℤ → Calls.AddStep
+addings r area delta =
+    record { answer = addedIn (r .answer); store = storeOf (r .storage); area = area; delta = delta }
+
+-- the base and the table both have the key, with data of different lengths
+pub record Clash (s : Store.Store) (area : List ℤ) (at : ℤ) (table : List ℤ) (k : ℕ) : Type 0 where
+  pub storage : Store.Storage
+  pub new : Table
+  pub storage-is : Store.storageOf s area ≡ some storage
+  pub new-is : tableOf table ≡ some new
+  pub differing : Differing (Store.chosenBase (storage .deltaTick) (record { tick = at; snap = new }) (storage .snaps) .snap) new k
+
+-- the key that is named differs; 10 comes with a key
+abbrev pub Clashing : Store.Store → List ℤ → ℤ → List ℤ → Added → Type 0
+Clashing s area at table (added.Delta base ints) = Unit {0}
+Clashing s area at table (added.DifferingSizes k) = Clash s area at table (bits k)
+Clashing s area at table (added.Refused e) = number e ≡ deltaDifferingSizes → ⊥

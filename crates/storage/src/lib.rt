@@ -1,0 +1,222 @@
+// The store of tables by tick.
+ghost use mathlib.Core.Path.{_≡_};
+ghost use mathlib.Core.Bool.{cond};
+ghost use mathlib.Core.Option.{some, none};
+ghost use lib.ListN.{length};
+ghost use Rattle.definitions.specs.Areas.{cleared};
+ghost use Rattle.definitions.specs.Outcome.{return};
+ghost use Rattle.definitions.specs.Storage as Store;
+ghost use Rattle.definitions.specs.StorageCalls.{addDeltaCall, resetCall, setDeltaTickCall, addSnapCall, tickCall, tableCall};
+ghost use Rattle.storage.specs.States.{storeOf};
+ghost use Rattle.storage.specs.Taking.{takings};
+ghost use Rattle.storage.specs.Answers.{tickOf, heldTick, settings, addings, Clashing};
+use checked::Sent;
+use format::Error;
+use format::Warnings;
+use store_area::checked::StoreForm;
+use table::checked::TableForm;
+
+pub mod checked;
+
+// How many tables stand in a store's area, the tick acknowledged last and the tick of the base that is set, where there are any.
+pub struct Storage {
+    pub count: usize,
+    pub has_ack: bool,
+    pub ack_tick: i32,
+    pub has_delta: bool,
+    pub delta_tick: i32,
+}
+
+// A tick, where there is one.
+pub enum Tick {
+    At(i32),
+    None,
+}
+
+// The tick of a held table, or that there are fewer tables.
+pub enum HeldTick {
+    At(i32),
+    End,
+    Refused(Error),
+}
+
+// Whether a base tick was set.
+pub enum Set {
+    Done,
+    Refused(Error),
+}
+
+// What setting a base tick comes to, with the warnings counted and the store afterwards.
+pub struct Setting {
+    pub answer: Set,
+    pub warnings: Warnings,
+    pub storage: Storage,
+}
+
+// The base of an added table and how many ints its delta takes, a key whose two items differ in length, or why it is refused.
+pub enum Added {
+    Delta { base: i32, ints: usize },
+    DifferingSizes(i32),
+    Refused(Error),
+}
+
+// What adding a table comes to, and the store afterwards.
+pub struct Adding {
+    pub answer: Added,
+    pub storage: Storage,
+}
+
+// The tick of a table that was taken, or why it is refused.
+pub enum Taken {
+    Tick(i32),
+    Refused(Error),
+}
+
+// What taking a delta comes to, with the warnings counted and the store afterwards.
+pub struct Taking {
+    pub answer: Taken,
+    pub warnings: Warnings,
+    pub storage: Storage,
+}
+
+impl Storage {
+    // How many tables a store holds at most.
+    pub const MAX_STORED_SNAPSHOT: usize = 100;
+
+    // A store without tables.
+    pub fn new() -> Storage
+        ensures { λ r. ⌜ storeOf r ≡ Store.beside Store.freshStorage ⌝ }
+    {
+        Storage {
+            count: 0,
+            has_ack: false,
+            ack_tick: 0,
+            has_delta: false,
+            delta_tick: 0,
+        }
+    }
+
+    // Empties the store and its area, whatever it held; the base tick stays.
+    pub fn reset(self, area: &mut [i32]) -> Storage
+        ensures { λ r. ⌜ resetCall (storeOf self) (now (area .entry)) ≡ record { answer = return tt; store = storeOf r; area = now (area .exit) } ⌝ }
+    {
+        ints::clear(area);
+        Storage {
+            count: 0,
+            has_ack: false,
+            ack_tick: 0,
+            has_delta: self.has_delta,
+            delta_tick: self.delta_tick,
+        }
+    }
+
+    // The tick acknowledged last.
+    pub fn ack_tick(self) -> Tick
+        ensures { λ r. ⌜ tickOf r ≡ storeOf self .ackTick ⌝ }
+    {
+        if self.has_ack {
+            return Tick::At(self.ack_tick);
+        }
+        Tick::None
+    }
+
+    // The tick of the base that is set.
+    pub fn delta_tick(self) -> Tick
+        ensures { λ r. ⌜ tickOf r ≡ storeOf self .deltaTick ⌝ }
+    {
+        if self.has_delta {
+            return Tick::At(self.delta_tick);
+        }
+        Tick::None
+    }
+
+    // The tick of the i-th table, the newest first.
+    pub fn snap_tick(self, area: &[i32], i: usize) -> HeldTick
+        ensures { λ r. ⌜ tickCall (storeOf self) (now (area .entry)) i ≡ heldTick r ⌝ }
+    {
+        let StoreForm::Tables(_) = checked::form(self, area) else {
+            return HeldTick::Refused(Error::NotInForm);
+        };
+        if i < self.count {
+            return HeldTick::At(store_area::checked::tick_at(area, self.count, i));
+        }
+        HeldTick::End
+    }
+
+    // The i-th table, the newest first, as a part of the area; the empty part where there is none.
+    pub fn snap(self, area: &[i32], i: usize) -> &[i32]
+        ensures { λ r. ⌜ now r ≡ tableCall (storeOf self) (now (area .entry)) i ⌝ }
+    {
+        let StoreForm::Tables(_) = checked::form(self, area) else {
+            return &area[..0];
+        };
+        if i < self.count {
+            return store_area::checked::table_at(area, self.count, i);
+        }
+        &area[..0]
+    }
+
+    // Sets the base of the tables that are added: older tables are dropped, and it must then be the oldest. A negative tick sets none.
+    pub fn set_delta_tick(self, tick: i32, area: &mut [i32]) -> Setting
+        ensures { λ r. ⌜ setDeltaTickCall (storeOf self) (now (area .entry)) tick ≡ settings r (now (area .exit)) ⌝ }
+    {
+        let StoreForm::Tables(ints) = checked::form(self, area) else {
+            return Setting {
+                answer: Set::Refused(Error::NotInForm),
+                warnings: Warnings::none(),
+                storage: self,
+            };
+        };
+        if tick < 0 {
+            return Setting {
+                answer: Set::Done,
+                warnings: checked::weird(tick),
+                storage: checked::without_delta(self, self.count),
+            };
+        }
+        checked::set_base(self, tick, area, ints)
+    }
+
+    // Takes a delta for a tick and applies it to its base: older tables are dropped, and the base must then be the oldest.
+    // The table that it makes is held and acknowledged. Scratch has 16,384 entries or more, and is zeros afterwards.
+    pub fn add_delta(
+        self,
+        has_crc: bool,
+        crc: i32,
+        delta_tick: i32,
+        tick: i32,
+        delta: &[i32],
+        area: &mut [i32],
+        scratch: &mut [i32],
+    ) -> Taking
+        ensures { λ r. ⌜ (addDeltaCall (storeOf self) (now (area .entry)) (cond «has_crc» (some crc) none) «delta_tick» tick (now (delta .entry)) (length (now (scratch .entry))) ≡ takings r (now (area .exit))) × (now (scratch .exit) ≡ cleared (now (scratch .entry))) ⌝ }
+    {
+        let m = Sent {
+            has_crc,
+            crc,
+            delta_tick,
+            tick,
+        };
+        let taking = checked::take(self, m, delta, area, scratch);
+        ints::clear(scratch);
+        taking
+    }
+
+    // Adds a table, and makes its delta against the oldest table then held where a base tick is set, else against the empty table.
+    // Where two items of one key differ in length, such a key; a refused call leaves both areas as they were.
+    pub fn add_snap(self, tick: i32, table: &[i32], delta: &mut [i32], area: &mut [i32]) -> Adding
+        ensures { λ r. ⌜ addSnapCall (storeOf self) (now (area .entry)) tick (now (table .entry)) (now (delta .entry)) ≡ addings r (now (area .exit)) (now (delta .exit)) ⌝ }
+        ensures { λ r. ⌜ Clashing (storeOf self) (now (area .entry)) tick (now (table .entry)) (r .answer) ⌝ }
+    {
+        let StoreForm::Tables(ints) = checked::form(self, area) else {
+            return checked::not_added(self, Error::NotInForm);
+        };
+        let TableForm::Table { items, ints: size } = table::checked::form(table) else {
+            return checked::not_added(self, Error::NotInForm);
+        };
+        if self.count == Storage::MAX_STORED_SNAPSHOT {
+            return checked::not_added(self, Error::StoreFull);
+        }
+        checked::add(self, tick, table, items, size, delta, area, ints)
+    }
+}

@@ -1,0 +1,4 @@
+-- Facts that the proofs of `store_area` share. Assumes nothing.
+pub mod Forms
+pub mod Steps
+pub mod Laying

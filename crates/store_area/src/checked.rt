@@ -1,0 +1,171 @@
+// Store areas: the test of their form, the tables in them, and how tables go and come.
+ghost use mathlib.Core.Path.{_≡_};
+ghost use mathlib.Core.List.{_∷_};
+ghost use Prim.Native.Nat.{_+_, _<_, _≤_, _^_};
+ghost use lib.ListN.{length, take, drop};
+ghost use Rattle.definitions.specs.Tables.{Table, written};
+ghost use Rattle.definitions.specs.Storage.{snapsOf, storeInts, storeArea, dropOlder, allZero};
+ghost use Rattle.store_area.specs.Held.{formOf, sizeOf, firstTable, snapsIn, snapAt, HeldStore, laidFirst};
+use table::checked::TableForm;
+
+// Whether an area holds tables and then zeros: how many ints the tables take.
+pub enum StoreForm {
+    Tables(usize),
+    Bad,
+}
+
+// The tables that are left: how many, and how many ints they take.
+pub struct Left {
+    pub count: usize,
+    pub ints: usize,
+}
+
+// How many ints the table at a place takes, where its tick, their count and the table itself stand there; else 0.
+pub fn table_size(area: &[i32], p: usize) -> usize
+    requires { ⌜ p ≤ length (now area) ⌝ }
+    ensures { λ r. ⌜ r ≡ sizeOf (firstTable (drop p (now (area .entry)))) ⌝ }
+{
+    if area.len() - p < 2 {
+        return 0;
+    }
+    let from = p + 2;
+    let size = table::checked::nat_at(area, p + 1);
+    if area.len() - from < size {
+        return 0;
+    }
+    let TableForm::Table { items: _, ints } = table::checked::form(&area[from..from + size]) else {
+        return 0;
+    };
+    if ints == size {
+        return size;
+    }
+    0
+}
+
+// Whether the ints from a place on are all 0.
+pub fn zeros(area: &[i32], from: usize) -> bool
+    ensures { λ r. ⌜ r ≡ allZero (drop from (now (area .entry))) ⌝ }
+{
+    let mut i = from;
+    while i < area.len() {
+        if table::checked::nat_at(area, i) != 0 {
+            return false;
+        }
+        i += 1;
+    }
+    true
+}
+
+// The form of an area with so many tables.
+pub fn form(area: &[i32], count: usize) -> StoreForm
+    ensures { λ r. ⌜ r ≡ formOf (snapsOf count (now (area .entry))) ⌝ }
+{
+    let mut i = 0;
+    let mut p = 0;
+    while i < count {
+        let size = table_size(area, p);
+        if size == 0 {
+            return StoreForm::Bad;
+        }
+        p += 2 + size;
+        i += 1;
+    }
+    if zeros(area, p) {
+        return StoreForm::Tables(p);
+    }
+    StoreForm::Bad
+}
+
+// The place of the i-th of so many tables, the newest first, or that behind the last.
+pub fn place(area: &[i32], count: usize, i: usize) -> usize
+    requires { ⌜ HeldStore (now area) count × (i ≤ count) ⌝ }
+    ensures { λ r. ⌜ r ≡ length (storeInts (take i (snapsIn count (now (area .entry))))) ⌝ }
+{
+    let mut k = 0;
+    let mut p = 0;
+    while k < i {
+        p += 2 + table::checked::nat_at(area, p + 1);
+        k += 1;
+    }
+    p
+}
+
+// The tick of the i-th table.
+pub fn tick_at(area: &[i32], count: usize, i: usize) -> i32
+    requires { ⌜ HeldStore (now area) count × (i < count) ⌝ }
+    ensures { λ r. ⌜ r ≡ snapAt (snapsIn count (now (area .entry))) i .tick ⌝ }
+{
+    let p = place(area, count, i);
+    area[p]
+}
+
+// The i-th table, as a part of the area.
+pub fn table_at(area: &[i32], count: usize, i: usize) -> &[i32]
+    requires { ⌜ HeldStore (now area) count × (i < count) ⌝ }
+    ensures { λ r. ⌜ now r ≡ written (snapAt (snapsIn count (now (area .entry))) i .snap) ⌝ }
+{
+    let p = place(area, count, i);
+    let from = p + 2;
+    let size = table::checked::nat_at(area, p + 1);
+    &area[from..from + size]
+}
+
+// How many tables stand before the first one that is older than a tick.
+pub fn count_newer(area: &[i32], count: usize, tick: i32) -> usize
+    requires { ⌜ HeldStore (now area) count ⌝ }
+    ensures { λ r. ⌜ (r ≤ count) × (dropOlder tick (snapsIn count (now (area .entry))) ≡ take r (snapsIn count (now (area .entry)))) ⌝ }
+{
+    let mut i = 0;
+    let mut p = 0;
+    while i < count {
+        if ints::signed_less(area[p], tick) {
+            return i;
+        }
+        p += 2 + table::checked::nat_at(area, p + 1);
+        i += 1;
+    }
+    i
+}
+
+// Leaves the first tables, zeros behind them: how many ints they take. All tables take so many.
+pub fn cut(area: &mut [i32], count: usize, ints: usize, left: usize) -> usize
+    requires { ⌜ HeldStore (now area) count × (ints ≡ length (storeInts (snapsIn count (now area)))) × (left ≤ count) ⌝ }
+    ensures { λ r. ⌜ (r ≡ length (storeInts (take left (snapsIn count (now (area .entry)))))) × (now (area .exit) ≡ storeArea (length (now (area .entry))) (take left (snapsIn count (now (area .entry))))) ⌝ }
+{
+    let from = place(area, count, left);
+    ints::clear(&mut area[from..ints]);
+    from
+}
+
+// Drops the first table that is older than a tick, and all behind it.
+pub fn drop_older(area: &mut [i32], count: usize, ints: usize, tick: i32) -> Left
+    requires { ⌜ HeldStore (now area) count × (ints ≡ length (storeInts (snapsIn count (now area)))) ⌝ }
+    ensures { λ r. ⌜ (r .count ≡ length (dropOlder tick (snapsIn count (now (area .entry))))) × (r .ints ≡ length (storeInts (dropOlder tick (snapsIn count (now (area .entry)))))) × (now (area .exit) ≡ storeArea (length (now (area .entry))) (dropOlder tick (snapsIn count (now (area .entry))))) ⌝ }
+{
+    let left = count_newer(area, count, tick);
+    let kept = cut(area, count, ints, left);
+    Left {
+        count: left,
+        ints: kept,
+    }
+}
+
+// Moves the first ints of an area up as one block, and lays a tick, a table's int count and its ints before them.
+pub fn lay_first(area: &mut [i32], ints: usize, tick: i32, table: &[i32])
+    requires { ⌜ (ints + (length (now table) + 2) ≤ length (now area)) × (length (now table) < 2 ^ 31) ⌝ }
+    ensures { λ _. ⌜ now (area .exit) ≡ laidFirst tick (now (table .entry)) (take ints (now (area .entry))) (drop (ints + (length (now (table .entry)) + 2)) (now (area .entry))) ⌝ }
+{
+    table_adding::checked::shift(area, 0, ints, table.len() + 2);
+    area[0] = tick;
+    table::checked::put(area, 1, table.len());
+    ints::copy_into(area, 2, table);
+}
+
+// A table more, the newest, which is the whole of its part. The tables held take so many ints.
+pub fn push(area: &mut [i32], count: usize, ints: usize, tick: i32, table: &[i32])
+    requires { ⌜ HeldStore (now area) count × (ints ≡ length (storeInts (snapsIn count (now area))))
+        × (ints + (length (now table) + 2) ≤ length (now area)) × (length (now table) ≤ 16384) ⌝ }
+    ensures { λ _. ⌜ ((t : Table) → now (table .entry) ≡ written t → now (area .exit) ≡ storeArea (length (now (area .entry))) (record { tick = tick; snap = t } ∷ snapsIn count (now (area .entry)))) ⌝ }
+{
+    lay_first(area, ints, tick, table);
+}
