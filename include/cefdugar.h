@@ -1,7 +1,7 @@
 /*
  * cefdugar: the way of a rule table from the controller to the printer.
  *
- * Link with the static library libcapi.a (x86-64), which `rt staticlib capi`
+ * Link with the static library libcefdugar.a (x86-64), which `include/archive`
  * proves and writes to target/staticlib.
  *
  * A function answers CEF_OK or the number of its refusal. What it sets and
@@ -290,11 +290,12 @@ uint32_t cef_table_add_item(int32_t *area, size_t area_len,
  *
  * `sizes` is a list by type of how long the data of its items is known to be.
  * A type that is absent, or whose entry is negative, has no known size. Where
- * a delta is written, a known size is not written with it.
+ * a delta is written, a known size is not written with it, and where one is
+ * read, it is not read.
  *
  * CEF_NOT_IN_FORM means that an area holds no table, or no delta where one is
  * asked for. A refused call leaves everything that was lent, but for the key
- * of CEF_DELTA_DIFFERING_SIZES.
+ * of CEF_DELTA_DIFFERING_SIZES, scratch and the counts of warnings.
  */
 
 /*
@@ -343,6 +344,43 @@ uint32_t cef_delta_write(const int32_t *area, size_t area_len,
                          const int32_t *sizes, size_t sizes_len, uint8_t *out,
                          size_t out_len, size_t *count);
 
+/*
+ * Reads a delta of ints, its keys in any order, into the front of the
+ * `out_len` ints at `out`. Of several updates of one key the last counts.
+ *
+ * CEF_OK: the delta takes *count ints there.
+ * CEF_SCRATCH_TOO_SHORT: scratch_len < CEF_SCRATCH_INTS.
+ * CEF_INPUT_TOO_LONG: src_len > CEF_INPUT_MOST.
+ * CEF_UNEXPECTED_END, CEF_INT_OUT_OF_RANGE, CEF_DELETED_ITEMS_UNPACKING,
+ * CEF_ITEM_DIFFS_UNPACKING, CEF_TYPE_ID_RANGE, CEF_ID_RANGE,
+ * CEF_NEGATIVE_SIZE: no delta.
+ * CEF_CAPACITY_ERROR: the delta does not fit. Deleted keys and updates that
+ * are repeated are counted each time, as if each had its place.
+ * A refused call leaves `out` and *count.
+ *
+ * `scratch` is zeros afterwards, refused or not. `warnings`: all counts up to
+ * the refusal are set.
+ *
+ * Where keys do not rise and scratch_len is less than twice the number of
+ * deleted keys or updates, the ints are looked through several times.
+ */
+uint32_t cef_delta_read_from_ints(const int32_t *src, size_t src_len,
+                                  const int32_t *sizes, size_t sizes_len,
+                                  int32_t *out, size_t out_len,
+                                  int32_t *scratch, size_t scratch_len,
+                                  size_t *count,
+                                  size_t warnings[CEF_WARNINGS]);
+
+/*
+ * Reads the packed delta that the `src_len` bytes at `src` hold. Answers as
+ * cef_delta_read_from_ints does, and CEF_SCRATCH_TOO_SHORT also where
+ * scratch_len < src_len.
+ */
+uint32_t cef_delta_read(const uint8_t *src, size_t src_len,
+                        const int32_t *sizes, size_t sizes_len, int32_t *out,
+                        size_t out_len, int32_t *scratch, size_t scratch_len,
+                        size_t *count, size_t warnings[CEF_WARNINGS]);
+
 /* ---- Differences of single items ---- */
 
 /*
@@ -371,6 +409,144 @@ uint32_t cef_apply_item_delta(uint32_t has_from, const int32_t *from,
                               size_t from_len, const int32_t *delta,
                               size_t delta_len, int32_t *out, size_t out_len,
                               size_t *count);
+
+/* ---- Messages ---- */
+
+/* The most bytes of a message, and the most parts of a delta. */
+#define CEF_PART_BYTES 900
+#define CEF_PARTS 32
+
+/* What a message is. */
+#define CEF_MESSAGE_NONE 0u
+#define CEF_MESSAGE_SNAP 1u
+#define CEF_MESSAGE_EMPTY 2u
+#define CEF_MESSAGE_SINGLE 3u
+
+/* The place of each number of a message in an array. */
+#define CEF_MESSAGE_TICK 0
+#define CEF_MESSAGE_DISTANCE 1
+#define CEF_MESSAGE_NUM_PARTS 2
+#define CEF_MESSAGE_PART 3
+#define CEF_MESSAGE_CRC 4
+#define CEF_MESSAGE_NUMBERS 5
+
+/*
+ * How many messages carry the `data_len` bytes of a delta: an empty one, a
+ * single one of up to CEF_PART_BYTES, or parts of CEF_PART_BYTES.
+ *
+ * CEF_OK: *count is set.
+ * CEF_INPUT_TOO_LONG: data_len > CEF_INPUT_MOST. *count is left.
+ */
+uint32_t cef_num_chunks(const uint8_t *data, size_t data_len, size_t *count);
+
+/*
+ * Message `i` of those that carry the `data_len` bytes of a delta from the
+ * table of tick `delta_tick` to that of tick `tick`, whose sum is `crc`. The
+ * distance of the two ticks wraps.
+ *
+ * CEF_OK: *kind is set. Where it is not CEF_MESSAGE_NONE, `numbers` are those
+ * of the message, 0 where it has no such number, and *len is how many bytes
+ * it carries: those at data + CEF_PART_BYTES * i. Else `numbers` are left, and
+ * *len is 0.
+ * CEF_INPUT_TOO_LONG: *kind, `numbers` and *len are left.
+ */
+uint32_t cef_chunk(int32_t tick, int32_t delta_tick, const uint8_t *data,
+                   size_t data_len, int32_t crc, size_t i, uint32_t *kind,
+                   int32_t numbers[CEF_MESSAGE_NUMBERS], size_t *len);
+
+/* ---- Receiver ---- */
+
+/* How many bytes each of the two part areas has at least. */
+#define CEF_PART_AREA_BYTES 28800
+
+/* What a message brings. */
+#define CEF_RECEIVED_NOTHING 0u
+#define CEF_RECEIVED_DELTA 1u
+#define CEF_RECEIVED_EMPTY 2u
+
+/* The place of each number of a delta that was received in an array. */
+#define CEF_RECEIVED_TICK 0
+#define CEF_RECEIVED_DELTA_TICK 1
+#define CEF_RECEIVED_CRC 2
+#define CEF_RECEIVED_NUMBERS 3
+
+/*
+ * A receiver of the parts of deltas. cef_receiver_new sets it; between calls
+ * a program keeps it beside the first part area and changes neither.
+ *
+ * ticks: the last finished tick, the unfinished one, its base, its sum.
+ * counts: whether there is a finished tick, whether there is an unfinished
+ * one, how many parts that has.
+ * lengths: of each part that is in, how long it is; above CEF_PART_BYTES for
+ * one that is missing.
+ *
+ * The calls take the three arrays one by one.
+ */
+typedef struct {
+    int32_t ticks[4];
+    uint32_t counts[3];
+    uint16_t lengths[CEF_PARTS];
+} cef_receiver;
+
+/* A receiver without any tick. */
+void cef_receiver_new(int32_t ticks[4], uint32_t counts[3],
+                      uint16_t lengths[CEF_PARTS]);
+
+/* Forgets both ticks. */
+void cef_receiver_reset(int32_t ticks[4], uint32_t counts[3],
+                        uint16_t lengths[CEF_PARTS]);
+
+/*
+ * Takes a part of a delta, with the message's five numbers and its bytes.
+ * Part p goes to byte CEF_PART_BYTES * p of the `parts_len` bytes at `parts`;
+ * the last part missing joins all of them in the front of the `joined_len`
+ * bytes at `joined`.
+ *
+ * CEF_OK: *kind is set. Where it is CEF_RECEIVED_DELTA, `received` are the
+ * numbers of the delta, and *len bytes stand in `joined`. Else `received`,
+ * *len and `joined` are left.
+ * CEF_NOT_IN_FORM: the receiver is none that a call leaves.
+ * CEF_SCRATCH_TOO_SHORT: parts_len or joined_len < CEF_PART_AREA_BYTES.
+ * CEF_PART_TOO_LONG: data_len > CEF_PART_BYTES.
+ * CEF_RECEIVER_OLD_DELTA, CEF_INVALID_NUM_PARTS, CEF_INVALID_PART,
+ * CEF_DUPLICATE_PART, judged in this order.
+ * A refused call leaves the receiver, both areas and all outputs but
+ * `warnings`.
+ *
+ * `warnings`: all counts of this call are set, refused or not.
+ */
+uint32_t cef_receiver_snap(int32_t ticks[4], uint32_t counts[3],
+                           uint16_t lengths[CEF_PARTS], int32_t tick,
+                           int32_t delta_tick, int32_t num_parts, int32_t part,
+                           int32_t crc, const uint8_t *data, size_t data_len,
+                           uint8_t *parts, size_t parts_len, uint8_t *joined,
+                           size_t joined_len, uint32_t *kind,
+                           int32_t received[CEF_RECEIVED_NUMBERS], size_t *len,
+                           size_t warnings[CEF_WARNINGS]);
+
+/*
+ * Takes a whole delta, whose bytes go to the front of `joined`. Answers as
+ * cef_receiver_snap does: CEF_NOT_IN_FORM, CEF_SCRATCH_TOO_SHORT,
+ * CEF_PART_TOO_LONG, CEF_RECEIVER_OLD_DELTA.
+ */
+uint32_t cef_receiver_snap_single(int32_t ticks[4], uint32_t counts[3],
+                                  uint16_t lengths[CEF_PARTS], int32_t tick,
+                                  int32_t delta_tick, int32_t crc,
+                                  const uint8_t *data, size_t data_len,
+                                  uint8_t *joined, size_t joined_len,
+                                  uint32_t *kind,
+                                  int32_t received[CEF_RECEIVED_NUMBERS],
+                                  size_t *len, size_t warnings[CEF_WARNINGS]);
+
+/*
+ * Takes an empty delta: *kind is CEF_RECEIVED_EMPTY, the sum and *len are 0.
+ * Refused: CEF_NOT_IN_FORM, CEF_RECEIVER_OLD_DELTA, as cef_receiver_snap.
+ */
+uint32_t cef_receiver_snap_empty(int32_t ticks[4], uint32_t counts[3],
+                                 uint16_t lengths[CEF_PARTS], int32_t tick,
+                                 int32_t delta_tick, uint32_t *kind,
+                                 int32_t received[CEF_RECEIVED_NUMBERS],
+                                 size_t *len, size_t warnings[CEF_WARNINGS]);
 
 #ifdef __cplusplus
 }

@@ -1,5 +1,5 @@
 /*
- * A C program over include/cefdugar.h and libcapi.a: document 01's marked
+ * A C program over include/cefdugar.h and libcefdugar.a: document 01's marked
  * cases and each refusal, by every function.
  */
 
@@ -469,6 +469,109 @@ static void check_delta_write(void)
     CHECK(count == LEFT && ints_left(out, 0, 20) && bytes[0] == 0xaa);
 }
 
+/* Whether all counts are 0, but for one of this kind. */
+static int only(const size_t warnings[CEF_WARNINGS], int kind)
+{
+    int right = 1;
+    for (int i = 0; i < CEF_WARNINGS; i++)
+        right = right && warnings[i] == (i == kind ? 1 : 0);
+    return right;
+}
+
+/* Both calls on the same ints: their answer, the delta or nothing, the kind of warning or none. */
+static void check_delta_reads(const int32_t *src, size_t src_len, const int32_t *sizes,
+                              size_t sizes_len, uint32_t answer, const int32_t *delta,
+                              size_t room, size_t len, int kind)
+{
+    const size_t scratch_len = CEF_SCRATCH_INTS;
+    int32_t out[20];
+    uint8_t bytes[100];
+    size_t size = 0;
+    size_t warnings[CEF_WARNINGS];
+
+    for (size_t i = 0; i < src_len; i++)
+        CHECK(cef_write_int(bytes, sizeof bytes, size, src[i], &size) == CEF_OK);
+    for (int packed = 0; packed < 2; packed++) {
+        size_t count = LEFT;
+        fill_ints(out, 20);
+        fill_ints(scratch, scratch_len);
+        fill_warnings(warnings);
+        if (packed)
+            CHECK(cef_delta_read(bytes, size, sizes, sizes_len, out, room, scratch, scratch_len,
+                                 &count, warnings) == answer);
+        else
+            CHECK(cef_delta_read_from_ints(src, src_len, sizes, sizes_len, out, room, scratch,
+                                           scratch_len, &count, warnings) == answer);
+        CHECK(count == (answer == CEF_OK ? len : LEFT));
+        CHECK(memcmp(out, delta, len * sizeof out[0]) == 0 && ints_left(out, len, 20));
+        CHECK(only(warnings, kind));
+        CHECK(scratch[0] == 0 && scratch[scratch_len - 1] == 0);
+    }
+}
+
+static void check_delta_read(void)
+{
+    /* Key -1 goes; type 1 gets two ints, type 2 none, type 9 one. */
+    const int32_t delta[] = {1, 3, 0, -1, 1, 4, 2, 70, -70, 2, 4, 0, 9, 9, 1, 5};
+    const int32_t turned[] = {1, 3, 0, -1, 9, 9, 1, 5, 2, 4, 0, 1, 4, 2, 70, -70};
+    const int32_t known[] = {1, 3, 0, -1, 9, 9, 1, 5, 2, 4, 1, 4, 70, -70};
+    const int32_t sizes[] = {7, 2, 0, 7};
+    const struct {
+        size_t len;
+        int32_t ints[10];
+        uint32_t answer;
+    } refused[] = {
+        {0, {0}, CEF_UNEXPECTED_END},
+        {2, {0, 0}, CEF_UNEXPECTED_END},
+        {3, {-1, 0, 0}, CEF_INT_OUT_OF_RANGE},
+        {4, {2, 0, 0, 5}, CEF_DELETED_ITEMS_UNPACKING},
+        {4, {0, 0, 0, 5}, CEF_ITEM_DIFFS_UNPACKING},
+        {6, {0, 1, 0, 65536, 0, 0}, CEF_TYPE_ID_RANGE},
+        {6, {0, 1, 0, 0, -1, 0}, CEF_ID_RANGE},
+        {6, {0, 1, 0, 0, 0, -1}, CEF_NEGATIVE_SIZE},
+        {6, {0, 1, 0, 0, 0, 1}, CEF_ITEM_DIFFS_UNPACKING},
+    };
+    const struct {
+        size_t len;
+        int32_t ints[10];
+        size_t delta_len;
+        int32_t delta[10];
+        int kind;
+    } warned[] = {
+        {3, {0, 0, 1}, 3, {0, 0, 0}, CEF_WARN_NON_ZERO_PADDING},
+        {5, {2, 0, 0, 5, 5}, 4, {1, 0, 0, 5}, CEF_WARN_DUPLICATE_DELETE},
+        {10, {0, 2, 0, 0, 5, 1, 8, 0, 5, 0}, 6, {0, 1, 0, 0, 5, 0}, CEF_WARN_DUPLICATE_UPDATE},
+        {7, {1, 1, 0, 5, 0, 5, 0}, 7, {1, 1, 0, 5, 0, 5, 0}, CEF_WARN_DELETE_UPDATE},
+        {3, {0, 4, 0}, 3, {0, 0, 0}, CEF_WARN_NUM_UPDATED_ITEMS},
+    };
+    size_t warnings[CEF_WARNINGS];
+    size_t count = LEFT;
+
+    check_delta_reads(delta, 16, sizes, 0, CEF_OK, delta, 16, 16, -1);
+    check_delta_reads(turned, 16, sizes, 0, CEF_OK, delta, 20, 16, -1);
+    check_delta_reads(known, 14, sizes, 4, CEF_OK, delta, 16, 16, -1);
+    check_delta_reads(delta, 16, sizes, 0, CEF_CAPACITY_ERROR, delta, 15, 0, -1);
+    check_delta_reads(known, 14, sizes, 4, CEF_CAPACITY_ERROR, delta, 15, 0, -1);
+    for (size_t i = 0; i < sizeof refused / sizeof refused[0]; i++)
+        check_delta_reads(refused[i].ints, refused[i].len, sizes, 0, refused[i].answer, delta, 20,
+                          0, -1);
+    /* What is repeated takes room, but no place. */
+    for (size_t i = 0; i < sizeof warned / sizeof warned[0]; i++) {
+        check_delta_reads(warned[i].ints, warned[i].len, sizes, 0, CEF_OK, warned[i].delta,
+                          warned[i].len, warned[i].delta_len, warned[i].kind);
+        check_delta_reads(warned[i].ints, warned[i].len, sizes, 0, CEF_CAPACITY_ERROR, delta,
+                          warned[i].len - 1, 0, warned[i].kind);
+    }
+    fill_warnings(warnings);
+    CHECK(cef_delta_read_from_ints(delta, 16, sizes, 0, area, 20, scratch, CEF_SCRATCH_INTS - 1,
+                                   &count, warnings) == CEF_SCRATCH_TOO_SHORT);
+    CHECK(count == LEFT && only(warnings, -1));
+    fill_warnings(warnings);
+    CHECK(cef_delta_read(TABLE_BYTES, 7, sizes, 0, area, 20, scratch, CEF_SCRATCH_INTS - 1, &count,
+                         warnings) == CEF_SCRATCH_TOO_SHORT);
+    CHECK(count == LEFT && only(warnings, -1));
+}
+
 /* The examples of the original's format.rs. */
 static void check_item_deltas(void)
 {
@@ -496,6 +599,84 @@ static void check_item_deltas(void)
     CHECK(memcmp(out, delta, sizeof delta) == 0);
 }
 
+/* Document 01's marked cases: 0, 900 and 901 bytes. */
+static void check_chunks(void)
+{
+    static uint8_t data[CEF_INPUT_MOST + 1];
+    int32_t numbers[CEF_MESSAGE_NUMBERS];
+    uint32_t kind = LEFT;
+    size_t count = LEFT;
+    size_t len = LEFT;
+
+    fill_ints(numbers, CEF_MESSAGE_NUMBERS);
+    CHECK(cef_num_chunks(data, sizeof data, &count) == CEF_INPUT_TOO_LONG && count == LEFT);
+    CHECK(cef_chunk(1, 0, data, sizeof data, 3, 0, &kind, numbers, &len) == CEF_INPUT_TOO_LONG);
+    CHECK(kind == LEFT && ints_left(numbers, 0, CEF_MESSAGE_NUMBERS) && len == LEFT);
+    CHECK(cef_num_chunks(data, 0, &count) == CEF_OK && count == 1);
+    CHECK(cef_num_chunks(data, 900, &count) == CEF_OK && count == 1);
+    CHECK(cef_num_chunks(data, 901, &count) == CEF_OK && count == 2);
+    CHECK(cef_num_chunks(data, CEF_INPUT_MOST, &count) == CEF_OK && count == 1166);
+    CHECK(cef_chunk(1, 0, data, 900, 3, 1, &kind, numbers, &len) == CEF_OK);
+    CHECK(kind == CEF_MESSAGE_NONE && ints_left(numbers, 0, CEF_MESSAGE_NUMBERS) && len == 0);
+    CHECK(cef_chunk(INT32_MIN, 1, data, 0, 3, 0, &kind, numbers, &len) == CEF_OK);
+    CHECK(kind == CEF_MESSAGE_EMPTY && len == 0 && numbers[CEF_MESSAGE_TICK] == INT32_MIN);
+    CHECK(numbers[CEF_MESSAGE_DISTANCE] == INT32_MAX && numbers[CEF_MESSAGE_CRC] == 0);
+    CHECK(cef_chunk(9, 2, data, 900, 3, 0, &kind, numbers, &len) == CEF_OK);
+    CHECK(kind == CEF_MESSAGE_SINGLE && len == 900 && numbers[CEF_MESSAGE_CRC] == 3);
+    CHECK(cef_chunk(9, 2, data, 901, 3, 1, &kind, numbers, &len) == CEF_OK);
+    CHECK(kind == CEF_MESSAGE_SNAP && len == 1 && numbers[CEF_MESSAGE_TICK] == 9);
+    CHECK(numbers[CEF_MESSAGE_DISTANCE] == 7 && numbers[CEF_MESSAGE_NUM_PARTS] == 2);
+    CHECK(numbers[CEF_MESSAGE_PART] == 1 && numbers[CEF_MESSAGE_CRC] == 3);
+}
+
+static void check_receiver(void)
+{
+    static uint8_t parts[CEF_PART_AREA_BYTES];
+    static uint8_t joined[CEF_PART_AREA_BYTES];
+    const uint8_t data[CEF_PART_BYTES + 1] = {1, 2, 3, 4, 5};
+    size_t warnings[CEF_WARNINGS];
+    int32_t got[CEF_RECEIVED_NUMBERS];
+    uint32_t kind = LEFT;
+    size_t len = LEFT;
+    cef_receiver r;
+    cef_receiver before;
+
+    cef_receiver_new(r.ticks, r.counts, r.lengths);
+    before = r;
+    fill_ints(got, CEF_RECEIVED_NUMBERS);
+#define SNAP(tick, count, part, size, area)                                              \
+    cef_receiver_snap(r.ticks, r.counts, r.lengths, tick, 4, count, part, 6, data, size, \
+                      parts, area, joined, sizeof joined, &kind, got, &len, warnings)
+    CHECK(SNAP(9, 2, 1, 2, sizeof parts - 1) == CEF_SCRATCH_TOO_SHORT);
+    CHECK(SNAP(9, 2, 1, CEF_PART_BYTES + 1, sizeof parts) == CEF_PART_TOO_LONG);
+    CHECK(SNAP(9, 33, 1, 2, sizeof parts) == CEF_INVALID_NUM_PARTS);
+    CHECK(SNAP(9, 0, 0, 2, sizeof parts) == CEF_INVALID_PART);
+    CHECK(memcmp(&r, &before, sizeof r) == 0 && kind == LEFT && len == LEFT);
+    CHECK(ints_left(got, 0, CEF_RECEIVED_NUMBERS));
+    CHECK(SNAP(9, 2, 1, 2, sizeof parts) == CEF_OK && kind == CEF_RECEIVED_NOTHING);
+    CHECK(warnings[CEF_WARN_DIFFERING_ATTRIBUTES] == 1 && parts[900] == 1 && len == LEFT);
+    CHECK(SNAP(9, 2, 1, 2, sizeof parts) == CEF_DUPLICATE_PART);
+    CHECK(SNAP(8, 2, 1, 2, sizeof parts) == CEF_RECEIVER_OLD_DELTA);
+    CHECK(SNAP(9, 2, 0, 3, sizeof parts) == CEF_OK && kind == CEF_RECEIVED_DELTA && len == 5);
+    CHECK(got[CEF_RECEIVED_TICK] == 9 && got[CEF_RECEIVED_DELTA_TICK] == 5);
+    CHECK(got[CEF_RECEIVED_CRC] == 6 && memcmp(joined, "\1\2\3\1\2", 5) == 0);
+    CHECK(SNAP(9, 2, 0, 3, sizeof parts) == CEF_RECEIVER_OLD_DELTA);
+#undef SNAP
+    CHECK(cef_receiver_snap_single(r.ticks, r.counts, r.lengths, 10, 1, 8, data, 5, joined,
+                                   sizeof joined, &kind, got, &len, warnings) == CEF_OK);
+    CHECK(kind == CEF_RECEIVED_DELTA && len == 5 && memcmp(joined, data, 5) == 0);
+    CHECK(cef_receiver_snap_empty(r.ticks, r.counts, r.lengths, 11, 1, &kind, got, &len,
+                                  warnings) == CEF_OK);
+    CHECK(kind == CEF_RECEIVED_EMPTY && len == 0 && got[CEF_RECEIVED_TICK] == 11);
+    CHECK(cef_receiver_snap_empty(r.ticks, r.counts, r.lengths, 11, 1, &kind, got, &len,
+                                  warnings) == CEF_RECEIVER_OLD_DELTA);
+    cef_receiver_reset(r.ticks, r.counts, r.lengths);
+    CHECK(memcmp(&r, &before, sizeof r) == 0);
+    r.lengths[0] = 0;
+    CHECK(cef_receiver_snap_empty(r.ticks, r.counts, r.lengths, 12, 1, &kind, got, &len,
+                                  warnings) == CEF_NOT_IN_FORM);
+}
+
 int main(void)
 {
     check_read();
@@ -506,7 +687,10 @@ int main(void)
     check_table_add();
     check_delta_create();
     check_delta_write();
+    check_delta_read();
     check_item_deltas();
+    check_chunks();
+    check_receiver();
     printf("C program: %d checks, %d not so\n", checks, failures);
     return failures == 0 ? 0 : 1;
 }

@@ -1,5 +1,5 @@
-//! Says where the archive libcapi.a stands: the folder CEFDUGAR_LIB_DIR, or
-//! target/staticlib of this repository, where `rt staticlib capi` writes it.
+//! Says where the archive libcefdugar.a stands: the folder CEFDUGAR_LIB_DIR, or
+//! target/staticlib of this repository, where `include/archive` writes it.
 
 use std::env;
 use std::path::PathBuf;
@@ -15,8 +15,8 @@ fn main() {
     println!("cargo:rerun-if-env-changed=CEFDUGAR_LIB_DIR");
     println!(
         "cargo:rerun-if-changed={}",
-        folder.join("libcapi.a").display()
+        folder.join("libcefdugar.a").display()
     );
     println!("cargo:rustc-link-search=native={}", folder.display());
-    println!("cargo:rustc-link-lib=static=capi");
+    println!("cargo:rustc-link-lib=static=cefdugar");
 }

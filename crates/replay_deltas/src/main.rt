@@ -3,11 +3,14 @@
 //     c ROOM LEN INT.. INT..      the delta from a base of LEN ints to a target: COUNT INT.., or refused 10 KEY, or refused NUMBER
 //     i ROOM LEN INT.. INT..      a delta is written to ints under LEN known sizes: COUNT INT.., or refused NUMBER
 //     b ROOM LEN INT.. INT..      the same, packed: LEN HEX, or refused NUMBER
+//     r ROOM LEN INT.. INT..      a delta of ints is read under LEN known sizes: COUNT, seven counts of warnings, INT.., or refused NUMBER and the counts
+//     p ROOM LEN INT.. HEX        the same of a packed delta
 //     m ROOM HAS LEN INT.. INT..  the differences of an item's data from the LEN ints of its base, where it has one: COUNT INT.., or refused NUMBER
 //     a ROOM HAS LEN INT.. INT..  the same with the differences given, which are applied: COUNT INT.., or refused NUMBER
 use delta_making::Made;
 use format::Error;
 use format::Stored;
+use format::Warnings;
 use libc::STDIN_FILENO;
 use libc::STDOUT_FILENO;
 use packer::IntWrite;
@@ -15,6 +18,7 @@ use replay_text::put_byte;
 use replay_text::put_bytes;
 use replay_text::put_int;
 use replay_text::put_ints;
+use replay_text::put_next;
 use replay_text::put_number;
 use replay_text::put_odd;
 use replay_text::put_refused;
@@ -92,6 +96,53 @@ fn write(sizes: &[i32], delta: &[i32], area: &mut [u8], out: &mut [u8]) -> usize
     put_written(out, area, answer)
 }
 
+// How many ints a delta takes, or the refusal.
+fn put_count(out: &mut [u8], answer: Stored) -> usize {
+    match answer {
+        Stored::Ints(count) => put_number(out, 0, count),
+        Stored::Refused(e) => put_refused(out, e),
+    }
+}
+
+// How many ints a delta takes; none where it is refused.
+fn count_or_none(answer: Stored) -> usize {
+    match answer {
+        Stored::Ints(count) => count,
+        Stored::Refused(_) => 0,
+    }
+}
+
+// The counts of the warnings that come with reading a delta.
+fn put_warnings(out: &mut [u8], at: usize, w: Warnings) -> usize {
+    let end = put_next(out, at, w.overlong_int_encoding);
+    let end = put_next(out, end, w.non_zero_int_padding);
+    let end = put_next(out, end, w.non_zero_padding);
+    let end = put_next(out, end, w.duplicate_delete);
+    let end = put_next(out, end, w.duplicate_update);
+    let end = put_next(out, end, w.delete_update);
+    put_next(out, end, w.num_updated_items)
+}
+
+// A delta of ints read under known sizes, in an area.
+fn read_ints(sizes: &[i32], src: &[i32], area: &mut [i32], out: &mut [u8]) -> usize {
+    let mut scratch = [77i32; 16384];
+    let read = delta::read_from_ints(src, sizes, area, &mut scratch);
+    let answer = read.answer;
+    let end = put_count(out, answer);
+    let end = put_warnings(out, end, read.warnings);
+    put_ints(out, end, area, count_or_none(answer))
+}
+
+// A packed delta read under known sizes, in an area.
+fn read_packed(sizes: &[i32], src: &[u8], area: &mut [i32], out: &mut [u8]) -> usize {
+    let mut scratch = [77i32; 16384];
+    let read = delta::read(src, sizes, area, &mut scratch);
+    let answer = read.answer;
+    let end = put_count(out, answer);
+    let end = put_warnings(out, end, read.warnings);
+    put_ints(out, end, area, count_or_none(answer))
+}
+
 // The differences of an item's data from the base's, where it has any, in an area.
 fn create_item(has: bool, base: &[i32], data: &[i32], area: &mut [i32], out: &mut [u8]) -> usize {
     let answer = format::create_item_delta(has, base, data, area);
@@ -117,6 +168,7 @@ fn fill(case: Case, first: &[i32], second: &[i32], area: &mut [i32], out: &mut [
         b'e' => clear(area, out),
         b'c' => create(first, second, area, out),
         b'i' => write_to_ints(first, second, area, out),
+        b'r' => read_ints(first, second, area, out),
         b'm' => create_item(case.has_base, first, second, area, out),
         b'a' => apply_item(case.has_base, first, second, area, out),
         _ => put_odd(out),
@@ -142,10 +194,24 @@ fn bytes_case(room: usize, sizes: &[i32], delta: &[i32], out: &mut [u8]) -> usiz
     write(sizes, delta, &mut area[..room], out)
 }
 
-// The answer of a case, with its two lists of ints.
-fn answer_lists(case: Case, first: &[i32], second: &[i32], out: &mut [u8]) -> usize {
+// The answer of p, whose packed delta is the word behind the known sizes.
+fn packed_case(line: &[u8], room: usize, sizes: &[i32], out: &mut [u8]) -> usize {
+    let mut src = [0u8; 128];
+    let mut area = [77i32; 128];
+    let len = replay_text::bytes(word(line, 3 + sizes.len()), &mut src);
+    if 128 < room {
+        return put_odd(out);
+    }
+    read_packed(sizes, &src[..len], &mut area[..room], out)
+}
+
+// The answer of a case, with its line and its two lists of ints.
+fn answer_lists(line: &[u8], case: Case, first: &[i32], second: &[i32], out: &mut [u8]) -> usize {
     if case.kind == b'b' {
         return bytes_case(case.room, first, second, out);
+    }
+    if case.kind == b'p' {
+        return packed_case(line, case.room, first, out);
     }
     ints_case(case, first, second, out)
 }
@@ -166,7 +232,7 @@ fn lists_case(line: &[u8], case: Case, head: usize, out: &mut [u8]) -> usize {
         return put_odd(out);
     }
     let rest = given;
-    answer_lists(case, &given[head..from], &rest[from..count], out)
+    answer_lists(line, case, &given[head..from], &rest[from..count], out)
 }
 
 // The answer of e ROOM, which has no lists.
@@ -191,7 +257,7 @@ fn answer(line: &[u8], out: &mut [u8]) -> usize {
     };
     match kind {
         b'e' => clear_case(case, out),
-        b'c' | b'i' | b'b' => lists_case(line, case, 2, out),
+        b'c' | b'i' | b'b' | b'r' | b'p' => lists_case(line, case, 2, out),
         b'm' | b'a' => lists_case(line, case, 3, out),
         _ => put_odd(out),
     }

@@ -7,6 +7,7 @@
 use crate::answer;
 use crate::plain;
 use crate::Refusal;
+use crate::Warnings;
 use std::fmt;
 
 /// The most ints that a delta between two tables takes.
@@ -78,6 +79,39 @@ pub fn write(area: &[i32], sizes: &[i32], out: &mut [u8]) -> Result<usize, Refus
     let mut count = 0;
     let number = plain::delta_write(area, sizes, out, &mut count);
     answer(number, count)
+}
+
+/// Reads a delta of ints, its keys in any order, into the front of `out` and
+/// gives how many ints it takes there. A refused call leaves `out`. `scratch`,
+/// of [`table::SCRATCH`](crate::table::SCRATCH) ints or more, is zeros
+/// afterwards. More of it saves time where there are many keys that do not
+/// rise: two ints a deleted key or an update are as many as help.
+pub fn read_from_ints(
+    src: &[i32],
+    sizes: &[i32],
+    out: &mut [i32],
+    scratch: &mut [i32],
+) -> (Result<usize, Refusal>, Warnings) {
+    let mut count = 0;
+    let mut warnings = Warnings::default();
+    let number = plain::delta_read_from_ints(src, sizes, out, scratch, &mut count, &mut warnings);
+    (answer(number, count), warnings)
+}
+
+/// Reads a packed delta, its keys in any order, into the front of `out` and
+/// gives how many ints it takes there. A refused call leaves `out`. `scratch`,
+/// of [`table::SCRATCH`](crate::table::SCRATCH) ints and one a byte or more,
+/// is zeros afterwards.
+pub fn read(
+    src: &[u8],
+    sizes: &[i32],
+    out: &mut [i32],
+    scratch: &mut [i32],
+) -> (Result<usize, Refusal>, Warnings) {
+    let mut count = 0;
+    let mut warnings = Warnings::default();
+    let number = plain::delta_read(src, sizes, out, scratch, &mut count, &mut warnings);
+    (answer(number, count), warnings)
 }
 
 /// The differences of an item's data from the base's, where it has any, into

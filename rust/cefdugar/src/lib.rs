@@ -5,7 +5,9 @@
 //! is answered, so that a caller sees what was set and what was left.
 
 pub mod delta;
+pub mod messages;
 pub mod plain;
+pub mod receiver;
 mod sys;
 pub mod table;
 

@@ -266,6 +266,60 @@ pub fn delta_write(area: &[i32], sizes: &[i32], out: &mut [u8], count: &mut usiz
     }
 }
 
+/// Reads a delta of ints under known sizes into the front of `out`. Refused:
+/// `out` and `count` are left. `scratch` is then zeros, and `warnings` set, in
+/// any case.
+pub fn delta_read_from_ints(
+    src: &[i32],
+    sizes: &[i32],
+    out: &mut [i32],
+    scratch: &mut [i32],
+    count: &mut usize,
+    warnings: &mut Warnings,
+) -> u32 {
+    unsafe {
+        sys::cef_delta_read_from_ints(
+            src.as_ptr(),
+            src.len(),
+            sizes.as_ptr(),
+            sizes.len(),
+            out.as_mut_ptr(),
+            out.len(),
+            scratch.as_mut_ptr(),
+            scratch.len(),
+            count,
+            &mut warnings.0,
+        )
+    }
+}
+
+/// Reads a packed delta under known sizes into the front of `out`. Refused:
+/// `out` and `count` are left. `scratch` is then zeros, and `warnings` set, in
+/// any case.
+pub fn delta_read(
+    src: &[u8],
+    sizes: &[i32],
+    out: &mut [i32],
+    scratch: &mut [i32],
+    count: &mut usize,
+    warnings: &mut Warnings,
+) -> u32 {
+    unsafe {
+        sys::cef_delta_read(
+            src.as_ptr(),
+            src.len(),
+            sizes.as_ptr(),
+            sizes.len(),
+            out.as_mut_ptr(),
+            out.len(),
+            scratch.as_mut_ptr(),
+            scratch.len(),
+            count,
+            &mut warnings.0,
+        )
+    }
+}
+
 /// The differences of `to` from `from` into the front of `out`; where
 /// `has_from` is 0, `to` itself. Refused (10, 40): `out` and `count` are left.
 pub fn create_item_delta(

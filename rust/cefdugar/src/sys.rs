@@ -131,6 +131,30 @@ extern "C" {
         out_len: usize,
         count: *mut usize,
     ) -> u32;
+    pub fn cef_delta_read_from_ints(
+        src: *const i32,
+        src_len: usize,
+        sizes: *const i32,
+        sizes_len: usize,
+        out: *mut i32,
+        out_len: usize,
+        scratch: *mut i32,
+        scratch_len: usize,
+        count: *mut usize,
+        warnings: *mut [usize; WARNINGS],
+    ) -> u32;
+    pub fn cef_delta_read(
+        src: *const u8,
+        src_len: usize,
+        sizes: *const i32,
+        sizes_len: usize,
+        out: *mut i32,
+        out_len: usize,
+        scratch: *mut i32,
+        scratch_len: usize,
+        count: *mut usize,
+        warnings: *mut [usize; WARNINGS],
+    ) -> u32;
     pub fn cef_create_item_delta(
         has_from: u32,
         from: *const i32,
@@ -150,5 +174,66 @@ extern "C" {
         out: *mut i32,
         out_len: usize,
         count: *mut usize,
+    ) -> u32;
+    pub fn cef_num_chunks(data: *const u8, data_len: usize, count: *mut usize) -> u32;
+    pub fn cef_chunk(
+        tick: i32,
+        delta_tick: i32,
+        data: *const u8,
+        data_len: usize,
+        crc: i32,
+        i: usize,
+        kind: *mut u32,
+        numbers: *mut [i32; 5],
+        len: *mut usize,
+    ) -> u32;
+    pub fn cef_receiver_new(ticks: *mut [i32; 4], counts: *mut [u32; 3], lengths: *mut [u16; 32]);
+    pub fn cef_receiver_reset(ticks: *mut [i32; 4], counts: *mut [u32; 3], lengths: *mut [u16; 32]);
+    pub fn cef_receiver_snap(
+        ticks: *mut [i32; 4],
+        counts: *mut [u32; 3],
+        lengths: *mut [u16; 32],
+        tick: i32,
+        delta_tick: i32,
+        num_parts: i32,
+        part: i32,
+        crc: i32,
+        data: *const u8,
+        data_len: usize,
+        parts: *mut u8,
+        parts_len: usize,
+        joined: *mut u8,
+        joined_len: usize,
+        kind: *mut u32,
+        received: *mut [i32; 3],
+        len: *mut usize,
+        warnings: *mut [usize; WARNINGS],
+    ) -> u32;
+    pub fn cef_receiver_snap_single(
+        ticks: *mut [i32; 4],
+        counts: *mut [u32; 3],
+        lengths: *mut [u16; 32],
+        tick: i32,
+        delta_tick: i32,
+        crc: i32,
+        data: *const u8,
+        data_len: usize,
+        joined: *mut u8,
+        joined_len: usize,
+        kind: *mut u32,
+        received: *mut [i32; 3],
+        len: *mut usize,
+        warnings: *mut [usize; WARNINGS],
+    ) -> u32;
+    pub fn cef_receiver_snap_empty(
+        ticks: *mut [i32; 4],
+        counts: *mut [u32; 3],
+        lengths: *mut [u16; 32],
+        tick: i32,
+        delta_tick: i32,
+        kind: *mut u32,
+        received: *mut [i32; 3],
+        len: *mut usize,
+        warnings: *mut [usize; WARNINGS],
     ) -> u32;
 }

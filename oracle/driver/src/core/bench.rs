@@ -45,14 +45,36 @@ impl Table {
         rust: &mut dyn FnMut(),
         port: &mut dyn FnMut(),
     ) {
-        let slower = time(1, rust)
-            .max(time(1, port))
-            .max(Duration::from_nanos(1));
+        self.race_least(LEAST, operation, size, rust, port);
+    }
+    /// The same where a call takes long: once, and again while there is
+    /// patience.
+    pub fn race_slow(
+        &mut self,
+        operation: &str,
+        size: usize,
+        rust: &mut dyn FnMut(),
+        port: &mut dyn FnMut(),
+    ) {
+        self.race_least(1, operation, size, rust, port);
+    }
+    fn race_least(
+        &mut self,
+        least: usize,
+        operation: &str,
+        size: usize,
+        rust: &mut dyn FnMut(),
+        port: &mut dyn FnMut(),
+    ) {
+        let first = [time(1, rust), time(1, port)];
+        let slower = first[0].max(first[1]).max(Duration::from_nanos(1));
         let repeats = (SPAN.as_nanos() / slower.as_nanos()) as u32 + 1;
-        let mut best = [Duration::MAX; 2];
+        let (mut best, mut passes) = match repeats {
+            1 => (first, 1),
+            _ => ([Duration::MAX; 2], 0),
+        };
         let start = Instant::now();
-        let mut passes = 0;
-        while passes < LEAST || start.elapsed() < PATIENCE {
+        while passes < least || start.elapsed() + slower < PATIENCE {
             best[0] = best[0].min(time(repeats, rust));
             best[1] = best[1].min(time(repeats, port));
             passes += 1;

@@ -7,6 +7,7 @@
 mod deltas;
 mod examples;
 mod packer;
+mod receiver;
 mod tables;
 
 use crate::core::bench::Table;
@@ -43,5 +44,6 @@ pub fn all() -> Vec<Part> {
         packer::part(),
         tables::part(),
         deltas::part(),
+        receiver::part(),
     ]
 }

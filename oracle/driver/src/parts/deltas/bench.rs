@@ -1,7 +1,11 @@
 //! Times of deltas between tables of which one item in twenty changes.
 
+use super::hostile;
+use super::inputs;
 use super::oracle;
 use crate::core::bench::Table;
+use crate::core::oracle::Tally;
+use crate::core::random::Random;
 use crate::core::told::Told;
 use crate::parts::tables;
 use crate::parts::tables::oracle::Item;
@@ -9,6 +13,8 @@ use crate::parts::tables::sorted;
 use cefdugar::delta;
 use cefdugar::table;
 use libtw2_packer::with_packer;
+use libtw2_packer::IntUnpacker;
+use libtw2_packer::Unpacker;
 use libtw2_snapshot::snap::RawSnap;
 use libtw2_snapshot::Delta;
 use std::hint::black_box;
@@ -60,7 +66,17 @@ impl Shape {
 }
 
 pub fn bench(table: &mut Table) {
-    const OPERATIONS: [fn(&mut Table, &Shape); 4] = [create, write, write_known, write_to_ints];
+    const OPERATIONS: [fn(&mut Table, &Shape); 9] = [
+        create,
+        write,
+        write_known,
+        write_to_ints,
+        read,
+        read_known,
+        read_ints,
+        read_falling,
+        read_shuffled,
+    ];
     let mut shapes: Vec<Shape> = [64, 128, 512, 1_024]
         .map(|size| Shape::new("4 ints an item", size, 4 * size))
         .into();
@@ -71,6 +87,7 @@ pub fn bench(table: &mut Table) {
             operation(table, shape);
         }
     }
+    hostile::bench(table);
 }
 
 fn create(rows: &mut Table, shape: &Shape) {
@@ -143,4 +160,85 @@ fn write_to_ints(rows: &mut Table, shape: &Shape) {
         },
     );
     assert!(rust_out == ints && port_out == ints);
+}
+
+/// A packed delta read under known sizes.
+fn race_read(rows: &mut Table, shape: &Shape, operation: &str, sizes: &[i32]) {
+    let (ints, rust) = shape.delta();
+    let Told::Value(bytes) = oracle::packed(&rust, sizes, ints.len()) else {
+        return;
+    };
+    let mut delta = Delta::new();
+    let mut out = vec![0; ints.len()];
+    let mut scratch = vec![0; table::SCRATCH.max(bytes.len())];
+    rows.race(
+        &shape.row(operation),
+        shape.size,
+        &mut || {
+            let mut tally = Tally::default();
+            let size = |type_id| oracle::known_size(black_box(sizes), type_id);
+            let said = delta.read(&mut tally, size, &mut Unpacker::new(black_box(&bytes)));
+            let _ = black_box((said, tally.0, &delta));
+        },
+        &mut || {
+            let said = delta::read(black_box(&bytes), black_box(sizes), &mut out, &mut scratch);
+            let _ = black_box((said, &out));
+        },
+    );
+    assert!(oracle::written(&delta, &[], ints.len()) == Told::Value(out));
+}
+
+fn read(rows: &mut Table, shape: &Shape) {
+    race_read(rows, shape, "delta read", &[]);
+}
+
+/// Where the items are all of four ints.
+fn read_known(rows: &mut Table, shape: &Shape) {
+    race_read(rows, shape, "delta read, sizes known", &[4; 65_536]);
+}
+
+/// The updates of a delta between tables, in some order.
+fn race_read_ints(
+    rows: &mut Table,
+    shape: &Shape,
+    operation: &str,
+    order: impl FnOnce(&mut Vec<Item>),
+) {
+    let (written, _) = shape.delta();
+    let mut updated = inputs::updates_of(&written);
+    order(&mut updated);
+    let ints = inputs::listed(&[], &updated);
+    let mut delta = Delta::new();
+    let (mut out, mut scratch) = (vec![0; ints.len()], vec![0; table::SCRATCH]);
+    rows.race(
+        &shape.row(operation),
+        shape.size,
+        &mut || {
+            let mut tally = Tally::default();
+            let mut unpacker = IntUnpacker::new(black_box(&ints));
+            let said = delta.read_from_ints(&mut tally, |_| None, &mut unpacker);
+            let _ = black_box((said, tally.0, &delta));
+        },
+        &mut || {
+            let said = delta::read_from_ints(black_box(&ints), &[], &mut out, &mut scratch);
+            let _ = black_box((said, &out));
+        },
+    );
+    assert!(out == written);
+}
+
+fn read_ints(rows: &mut Table, shape: &Shape) {
+    race_read_ints(rows, shape, "delta read_from_ints", |_| ());
+}
+
+fn read_falling(rows: &mut Table, shape: &Shape) {
+    let operation = "delta read_from_ints, keys falling";
+    race_read_ints(rows, shape, operation, |updated| updated.reverse());
+}
+
+fn read_shuffled(rows: &mut Table, shape: &Shape) {
+    let operation = "delta read_from_ints, keys in any order";
+    race_read_ints(rows, shape, operation, |updated| {
+        inputs::shuffle(updated, &mut Random::new(1, "shuffled", 0));
+    });
 }

@@ -5,6 +5,7 @@ use super::oracle;
 use crate::core::area::Area;
 use crate::core::area::Pattern;
 use crate::core::area::LEFT_INT;
+use crate::core::area::LEFT_SIZE;
 use crate::core::counted::left;
 use crate::core::counted::room;
 use crate::core::counted::Counted;
@@ -12,6 +13,7 @@ use crate::core::report::Compared;
 use crate::core::report::Difference;
 use crate::core::report::Run;
 use crate::core::report::Shown;
+use crate::core::text::hex_short;
 use crate::core::text::ints_short;
 use crate::core::told::Told;
 use crate::parts::tables::inputs::List;
@@ -19,7 +21,10 @@ use cefdugar::delta;
 use cefdugar::delta::NoDelta;
 use cefdugar::plain;
 use cefdugar::Refusal;
+use cefdugar::Warnings;
 use libtw2_snapshot::Delta;
+
+const LEFT_WARNINGS: Warnings = Warnings([LEFT_SIZE; cefdugar::WARNINGS]);
 
 /// Room to spare: none, one too little, some, no room at all.
 const SPARES: [isize; 4] = [0, -1, 3, isize::MIN];
@@ -75,11 +80,59 @@ fn compare_stored<T: Pattern>(
     Ok(())
 }
 
+/// Scratch, with a guard on both sides.
+struct Scratch(Vec<i32>);
+
+impl Scratch {
+    fn lend(&mut self, len: usize) -> &mut [i32] {
+        self.0.clear();
+        self.0.resize(len + 2, LEFT_INT);
+        &mut self.0[1..=len]
+    }
+    /// Whether all of it is zeros, and the guards are as they were.
+    fn check(&self) -> Compared {
+        let [first, lent @ .., last] = &self.0[..] else {
+            unreachable!("there are two guards")
+        };
+        if [*first, *last] != [LEFT_INT; 2] || lent.iter().any(|&int| int != 0) {
+            return Err(Shown::touched("scratch", "not zeros".to_string()));
+        }
+        Ok(())
+    }
+}
+
+/// A delta to be read, with known sizes and the length of scratch.
+#[derive(Clone, Copy)]
+struct Given<'a, T> {
+    src: &'a [T],
+    sizes: &'a [i32],
+    scratch: usize,
+}
+
+/// A call that reads: the input, known sizes, `out`, scratch, the count, the
+/// warnings.
+type Reads<T> = fn(&[T], &[i32], &mut [i32], &mut [i32], &mut usize, &mut Warnings) -> u32;
+/// The same, as a Rust program likes it.
+type SafeReads<T> = fn(&[T], &[i32], &mut [i32], &mut [i32]) -> (Result<usize, Refusal>, Warnings);
+
+/// What the caller is to hold after a delta was to be read into `room` ints,
+/// and what is to stand there.
+fn read_into(said: &Told<oracle::Read>, room: usize) -> (Counted, &[i32]) {
+    match said {
+        Told::Value(read) if read.room <= room => {
+            (Counted::fits(read.ints.len(), room), &read.ints)
+        }
+        Told::Value(_) => (Counted::refused(40), &[]),
+        said => (Counted::refused(said.number()), &[]),
+    }
+}
+
 /// The port's areas, lent again and again.
 pub struct Calls {
     ints: [Area<i32>; 2],
     out: Area<i32>,
     bytes: Area<u8>,
+    scratch: Scratch,
 }
 
 impl Calls {
@@ -88,6 +141,7 @@ impl Calls {
             ints: [Area::new(), Area::new()],
             out: Area::new(),
             bytes: Area::new(),
+            scratch: Scratch(vec![]),
         }
     }
 
@@ -123,6 +177,46 @@ impl Calls {
             |(area, sizes)| {
                 let (area, sizes) = (ints_short(&area.0), ints_short(sizes));
                 format!("write of {area}, sizes {sizes}")
+            },
+        )
+    }
+
+    /// Reads ints under known sizes, with a scratch of `scratch` entries.
+    pub fn read_ints(
+        &mut self,
+        run: &mut Run,
+        src: &[i32],
+        sizes: &[i32],
+        scratch: usize,
+    ) -> Result<(), Difference> {
+        let compared = self.compare_read_ints(src, sizes, scratch);
+        run.case(
+            compared,
+            || (Ints(src.to_vec()), sizes.to_vec(), scratch),
+            |(src, sizes, scratch)| self.compare_read_ints(&src.0, sizes, *scratch),
+            |(src, sizes, scratch)| {
+                let (src, sizes) = (ints_short(&src.0), ints_short(sizes));
+                format!("read_from_ints of {src}, sizes {sizes}, scratch {scratch}")
+            },
+        )
+    }
+
+    /// Reads bytes under known sizes, with a scratch of `scratch` entries.
+    pub fn read(
+        &mut self,
+        run: &mut Run,
+        src: &[u8],
+        sizes: &[i32],
+        scratch: usize,
+    ) -> Result<(), Difference> {
+        let compared = self.compare_read(src, sizes, scratch);
+        run.case(
+            compared,
+            || (src.to_vec(), sizes.to_vec(), scratch),
+            |(src, sizes, scratch)| self.compare_read(src, sizes, *scratch),
+            |(src, sizes, scratch)| {
+                let (src, sizes) = (hex_short(src), ints_short(sizes));
+                format!("read of {src}, sizes {sizes}, scratch {scratch}")
             },
         )
     }
@@ -220,6 +314,68 @@ impl Calls {
             |out, count| plain::delta_write(area, sizes, out, count),
             |out| delta::write(area, sizes, out),
         )
+    }
+
+    fn compare_read_ints(&mut self, src: &[i32], sizes: &[i32], scratch: usize) -> Compared {
+        let given = Given {
+            src,
+            sizes,
+            scratch,
+        };
+        let said = oracle::read_from_ints(src, sizes, scratch);
+        self.compare_reads(
+            given,
+            &said,
+            plain::delta_read_from_ints,
+            delta::read_from_ints,
+        )
+    }
+
+    fn compare_read(&mut self, src: &[u8], sizes: &[i32], scratch: usize) -> Compared {
+        let given = Given {
+            src,
+            sizes,
+            scratch,
+        };
+        let said = oracle::read(src, sizes, scratch);
+        self.compare_reads(given, &said, plain::delta_read, delta::read)
+    }
+
+    /// A delta is read into all sorts of room; where it is refused, into two.
+    fn compare_reads<T>(
+        &mut self,
+        given: Given<T>,
+        (said, warnings): &(Told<oracle::Read>, Warnings),
+        call: Reads<T>,
+        safe: SafeReads<T>,
+    ) -> Compared {
+        let (needed, spares) = match said {
+            Told::Value(read) => (read.room, &SPARES[..]),
+            _ => (8, &[0, isize::MIN][..]),
+        };
+        let Given {
+            src,
+            sizes,
+            scratch,
+        } = given;
+        for &spare in spares {
+            let room = room(needed, spare);
+            let (oracle, ints) = read_into(said, room);
+            let mut port = Counted::LEFT;
+            let mut port_warnings = LEFT_WARNINGS;
+            let (out, lent) = (self.out.lend(room), self.scratch.lend(scratch));
+            port.number = call(src, sizes, out, lent, &mut port.count, &mut port_warnings);
+            Shown::compare(&(oracle, *warnings), &(port, port_warnings))?;
+            left("out", self.out.check(0, ints))?;
+            self.scratch.check()?;
+        }
+        let room = room(needed, 0);
+        let (oracle, ints) = read_into(said, room);
+        let (out, lent) = (self.out.lend(room), self.scratch.lend(scratch));
+        let answer = safe(src, sizes, out, lent);
+        Shown::compare(&(oracle.answer(), *warnings), &answer)?;
+        left("out", self.out.check(0, ints))?;
+        self.scratch.check()
     }
 
     fn compare_item(&mut self, has: u32, from: &[i32], other: &[i32]) -> Compared {

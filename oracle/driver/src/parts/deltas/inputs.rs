@@ -1,7 +1,9 @@
 //! Pairs of tables, deltas and known sizes of all sorts, good and bad.
 
+use super::oracle::known_size;
 use crate::core::random::Random;
 use crate::core::shrink::Shrink;
+use crate::parts::packer::packed;
 use crate::parts::tables;
 use crate::parts::tables::oracle::parts;
 use crate::parts::tables::oracle::Item;
@@ -77,6 +79,75 @@ pub fn delta(random: &mut Random) -> (Vec<i32>, Vec<Item>) {
     (deleted, updated)
 }
 
+/// A delta with keys in any order and some of them repeated, and with keys
+/// that are both deleted and updated.
+pub fn jumbled(random: &mut Random) -> (Vec<i32>, Vec<Item>) {
+    let (mut deleted, mut updated) = delta(random);
+    for (key, _) in &updated {
+        if random.chance(1, 3) {
+            deleted.push(*key);
+        }
+    }
+    for _ in 0..random.pick(&[0, 0, 1, 3]) {
+        if !deleted.is_empty() {
+            deleted.push(random.pick(&deleted));
+        }
+        if !updated.is_empty() {
+            let (key, mut data) = updated[random.below(updated.len())].clone();
+            data.iter_mut().for_each(|int| *int = random.int());
+            updated.push((key, data));
+        }
+    }
+    shuffle(&mut deleted, random);
+    shuffle(&mut updated, random);
+    (deleted, updated)
+}
+
+/// Puts a list into any order.
+pub fn shuffle<T>(list: &mut [T], random: &mut Random) {
+    for last in (1..list.len()).rev() {
+        list.swap(last, random.between(0, last));
+    }
+}
+
+/// The ints of a delta as they are sent under known sizes: a size that is
+/// known, right or not, is left out.
+pub fn sent(deleted: &[i32], updated: &[Item], sizes: &[i32]) -> Vec<i32> {
+    let mut ints = listed(deleted, &[]);
+    ints[1] = updated.len() as i32;
+    for (key, data) in updated {
+        let (raw_type_id, id) = parts(*key);
+        ints.extend([i32::from(raw_type_id), i32::from(id)]);
+        if known_size(sizes, raw_type_id).is_none() {
+            ints.push(data.len() as i32);
+        }
+        ints.extend(data);
+    }
+    ints
+}
+
+/// Ints packed, now and then with bytes too many or bits that are padding.
+pub fn loose(ints: &[i32], random: &mut Random) -> Vec<u8> {
+    let mut bytes = vec![];
+    for &int in ints {
+        let mut int = packed(&[int]);
+        if random.chance(1, 3) {
+            let len = random.between(int.len(), 5);
+            let last = int.len() - 1;
+            if last + 1 < len {
+                int[last] |= 0x80;
+                int.resize(len - 1, 0x80);
+                int.push(0);
+            }
+            if len == 5 && random.chance(1, 2) {
+                int[4] |= random.byte() & 0xf0;
+            }
+        }
+        bytes.extend(int);
+    }
+    bytes
+}
+
 /// The lengths of updates by their types, in a list of `len` types; all else
 /// is unknown. The last update of a type counts.
 pub fn right_sizes(updated: &[Item], len: usize) -> Vec<i32> {
@@ -147,6 +218,11 @@ fn taken_apart(ints: &[i32]) -> Option<(Vec<i32>, Vec<Item>, Vec<i32>)> {
         rest = behind;
     }
     Some((deleted.to_vec(), updates, rest.to_vec()))
+}
+
+/// The updates of a delta's ints.
+pub fn updates_of(ints: &[i32]) -> Vec<Item> {
+    taken_apart(ints).expect("a delta's ints").1
 }
 
 impl Shrink for Ints {

@@ -1,10 +1,12 @@
-//! Deltas between tables: making and writing; the differences of single
-//! items.
+//! Deltas between tables: making, writing and reading; the differences of
+//! single items.
 
 mod bench;
 mod calls;
+mod hostile;
 mod inputs;
 mod oracle;
+mod reads;
 mod record;
 
 use super::packer::numbered;
@@ -52,11 +54,13 @@ fn compare(run: &mut Run) -> Result {
     short_lists(run, &mut calls)?;
     few_updates(run, &mut calls)?;
     limits(run, &mut calls)?;
+    reads::fixed(run, &mut calls)?;
     for round in 0..run.rounds {
         let mut random = run.random(round);
         random_pairs(run, &mut calls, &mut random)?;
         random_writes(run, &mut calls, &mut random)?;
         random_items(run, &mut calls, &mut random)?;
+        reads::random(run, &mut calls, &mut random)?;
     }
     Ok(())
 }

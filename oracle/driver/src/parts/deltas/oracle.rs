@@ -2,15 +2,20 @@
 //! call: an area in form is one that begins with ints which the Rust reads as
 //! a delta and would write as they stand.
 
+use crate::core::oracle::Number;
 use crate::core::oracle::Tally;
 use crate::core::told::told;
 use crate::core::told::Told;
 use crate::parts::tables;
 use cefdugar::delta;
+use cefdugar::table;
+use cefdugar::Warnings;
 use libtw2_packer::with_packer;
 use libtw2_packer::IntUnpacker;
+use libtw2_packer::Unpacker;
 use libtw2_snapshot::format;
 use libtw2_snapshot::format::DeltaDifferingSizes;
+use libtw2_snapshot::snap;
 use libtw2_snapshot::snap::RawSnap;
 use libtw2_snapshot::Delta;
 
@@ -100,6 +105,81 @@ pub fn held(area: &[i32]) -> Option<Delta> {
         .ok()?;
     let same = written(&delta, &[], ints.len()) == Told::Value(ints.to_vec());
     same.then_some(delta)
+}
+
+/// A delta that was read, as an area holds it, and how many ints it would take
+/// there with what was repeated.
+#[derive(Clone, Debug, Eq, PartialEq)]
+pub struct Read {
+    pub ints: Vec<i32>,
+    pub room: usize,
+}
+
+/// The size that is known of a type, asked for at each update.
+type Sizes<'a> = &'a mut dyn FnMut(u16) -> Option<u32>;
+
+/// What the Rust reads. All of the input is read, so that a delta takes as
+/// many ints as that holds, and one for each size that is not in it.
+fn read_any(
+    sizes: &[i32],
+    count: impl FnOnce() -> usize,
+    call: impl FnOnce(&mut Delta, &mut Tally, Sizes) -> Result<(), snap::Error>,
+) -> (Told<Read>, Warnings) {
+    let mut tally = Tally::default();
+    let said = told(|| {
+        let mut delta = Delta::new();
+        let mut known = 0;
+        let mut size = |raw_type_id| {
+            let size = known_size(sizes, raw_type_id);
+            known += usize::from(size.is_some());
+            size
+        };
+        call(&mut delta, &mut tally, &mut size).map_err(|error| error.number())?;
+        let room = count() + known;
+        match written(&delta, &[], room) {
+            Told::Value(ints) => Ok(Read { ints, room }),
+            _ => unreachable!("no size is known"),
+        }
+    });
+    (said, tally.0)
+}
+
+pub fn read_from_ints(src: &[i32], sizes: &[i32], scratch: usize) -> (Told<Read>, Warnings) {
+    if scratch < table::SCRATCH {
+        return (Told::Refused(41), Warnings::default());
+    }
+    if src.len() > table::INPUT {
+        return (Told::Refused(42), Warnings::default());
+    }
+    read_any(
+        sizes,
+        || src.len(),
+        |delta, tally, size| delta.read_from_ints(tally, size, &mut IntUnpacker::new(src)),
+    )
+}
+
+pub fn read(src: &[u8], sizes: &[i32], scratch: usize) -> (Told<Read>, Warnings) {
+    if scratch < table::SCRATCH || scratch < src.len() {
+        return (Told::Refused(41), Warnings::default());
+    }
+    if src.len() > table::INPUT {
+        return (Told::Refused(42), Warnings::default());
+    }
+    read_any(
+        sizes,
+        || ints_in(src),
+        |delta, tally, size| delta.read(tally, size, &mut Unpacker::new(src)),
+    )
+}
+
+/// How many packed ints there are.
+fn ints_in(src: &[u8]) -> usize {
+    let mut unpacker = Unpacker::new(src);
+    let mut count = 0;
+    while unpacker.read_int(&mut Tally::default()).is_ok() {
+        count += 1;
+    }
+    count
 }
 
 /// The Rust's calls on the differences of an item.

@@ -6,6 +6,11 @@
 //!     i ROOM LEN INT.. INT..   COUNT INT.., or refused NUMBER (LEN known
 //!                              sizes, an area; written to ints)
 //!     b ROOM LEN INT.. INT..   COUNT HEX, or refused NUMBER (the same, packed)
+//!     r ROOM LEN INT.. INT..   COUNT WARNINGS INT.., or refused NUMBER
+//!                              WARNINGS (LEN known sizes, ints that are
+//!                              read; of the warnings the seven counts that
+//!                              reading can tell, in their order)
+//!     p ROOM LEN INT.. HEX     the same of packed ints
 //!     m ROOM HAS LEN INT.. INT..  COUNT INT.., or refused NUMBER (whether
 //!                              there is a base, its LEN ints, the target's;
 //!                              the differences are made)
@@ -19,11 +24,15 @@ use crate::core::random::Random;
 use crate::core::record::Record;
 use crate::core::text::hex;
 use crate::core::told::Told;
+use crate::parts::packer::packed;
 use crate::parts::tables;
 use crate::parts::tables::inputs::KEYS;
 use crate::parts::tables::oracle::Item;
 use crate::parts::tables::sorted;
+use cefdugar::table;
+use cefdugar::Warnings;
 use libtw2_snapshot::Delta;
+use oracle::Read;
 
 const MOST_INTS: usize = 64;
 
@@ -92,6 +101,49 @@ fn write(record: &mut Record, area: &[i32], sizes: &[i32], spare: isize) {
     record.case(&format!("b {room}{rest}"), &answer);
 }
 
+/// The kinds of warning that reading can tell.
+const READ_WARNINGS: [usize; 7] = [
+    Warnings::OVERLONG_INT_ENCODING,
+    Warnings::NON_ZERO_INT_PADDING,
+    Warnings::NON_ZERO_PADDING,
+    Warnings::DUPLICATE_DELETE,
+    Warnings::DUPLICATE_UPDATE,
+    Warnings::DELETE_UPDATE,
+    Warnings::NUM_UPDATED_ITEMS,
+];
+
+/// The room, and what reading a delta comes to in it.
+fn was_read((said, warnings): (Told<Read>, Warnings), spare: isize) -> (usize, String) {
+    let counts: String = READ_WARNINGS
+        .map(|kind| format!(" {}", warnings.0[kind]))
+        .concat();
+    let read = match said {
+        Told::Value(read) => read,
+        said => return (MOST_INTS, format!("refused {}{counts}", said.number())),
+    };
+    let room = (read.room as isize + spare).max(0) as usize;
+    let answer = if read.room <= room {
+        format!("{}{counts}{}", read.ints.len(), ints(&read.ints))
+    } else {
+        format!("refused 40{counts}")
+    };
+    (room, answer)
+}
+
+fn read_ints(record: &mut Record, src: &[i32], sizes: &[i32], spare: isize) {
+    let said = oracle::read_from_ints(src, sizes, table::SCRATCH);
+    let (room, answer) = was_read(said, spare);
+    let question = format!("r {room} {}{}{}", sizes.len(), ints(sizes), ints(src));
+    record.case(&question, &answer);
+}
+
+fn read(record: &mut Record, src: &[u8], sizes: &[i32], spare: isize) {
+    let said = oracle::read(src, sizes, table::SCRATCH);
+    let (room, answer) = was_read(said, spare);
+    let question = format!("p {room} {}{}{}", sizes.len(), ints(sizes), bytes(src));
+    record.case(&question, &answer);
+}
+
 fn item(record: &mut Record, from: Option<&[i32]>, other: &[i32], spare: isize) {
     let (has, base) = match from {
         Some(base) => (1, base),
@@ -111,6 +163,10 @@ pub fn fill(record: &mut Record, random: &mut Random) {
     forms(record);
     known_sizes(record);
     random_cases(record, random);
+    reads(record);
+    cut_reads(record);
+    known_reads(record);
+    random_reads(record, random);
 }
 
 fn examples(record: &mut Record) {
@@ -240,6 +296,111 @@ fn random_cases(record: &mut Record, random: &mut Random) {
         if area.len() <= MOST_INTS {
             let sizes = inputs::right_sizes(&updated, random.pick(&[0, 1, 3, 8]));
             write(record, &area, &sizes, random.pick(&[0, 0, 2, -1]));
+        }
+    }
+}
+
+/// Keys in every order, repeated, deleted and updated; headers that are wrong.
+fn reads(record: &mut Record) {
+    let orders: [[i32; 3]; 6] = [
+        [-7, 5, 65_536],
+        [65_536, 5, -7],
+        [5, -7, 5],
+        [5, 5, 5],
+        [i32::MAX, i32::MIN, -1],
+        [-7, -7, 5],
+    ];
+    for (i, keys) in orders.iter().enumerate() {
+        let updated: Vec<Item> = keys
+            .iter()
+            .zip([1, 0, 2])
+            .map(|(&key, len)| (key, vec![key ^ 3; len]))
+            .collect();
+        let spare = [0, 3, -1][i % 3];
+        read_ints(record, &inputs::listed(keys, &[]), &[], 0);
+        read_ints(record, &inputs::listed(&[], &updated), &[], spare);
+        let both = inputs::listed(&[keys[1], 5], &updated);
+        read_ints(record, &both, &[], -spare);
+        read(record, &packed(&both), &[], spare);
+        let mut header = both.clone();
+        header[i % 3] += [1, -1, i32::MIN][i % 3];
+        read_ints(record, &header, &[], 0);
+        read(record, &packed(&header), &[], 0);
+    }
+}
+
+/// Deltas cut short, and those with too much; integers in their longest form.
+fn cut_reads(record: &mut Record) {
+    let whole = inputs::listed(&[-5, 7], &[(-1, vec![]), (65_538, vec![70, -70])]);
+    for len in 0..whole.len() {
+        read_ints(record, &whole[..len], &[], 0);
+    }
+    let src = packed(&whole);
+    for len in (0..=src.len()).rev().step_by(2) {
+        read(record, &src[..len], &[], 0);
+    }
+    for more in [&[0][..], &[0, 0], &[3, 0, 0], &[3, 0, -1], &[3, 0, 1]] {
+        read_ints(record, &[&whole[..], more].concat(), &[], 0);
+    }
+    for (type_id, id) in [(65_536, 0), (-1, 0), (0, 65_536), (0, -1), (65_535, 65_535)] {
+        read_ints(record, &[0, 1, 0, type_id, id, 0], &[], 0);
+    }
+    for src in [
+        &[0x80, 0x00, 0x80, 0x80, 0x80, 0x80, 0x00, 0x00][..],
+        &[0x80, 0x80, 0x80, 0x80, 0x70, 0x00, 0x01],
+        &[0x81, 0x00, 0x00, 0x05, 0x40, 0x00],
+        &[0x01, 0x00, 0x00, 0x85],
+        &[0x80; 5],
+    ] {
+        read(record, src, &[], 0);
+    }
+}
+
+/// Known sizes of all shapes.
+fn known_reads(record: &mut Record) {
+    let updated = [
+        (131_072, vec![5]),
+        (65_539, vec![1, 2]),
+        (3, vec![]),
+        (65_538, vec![70, -70]),
+    ];
+    for sizes in [
+        &[0, 2, 1][..],
+        &[0, 2],
+        &[-1, 2],
+        &[i32::MIN, -7, 1, 9],
+        &[0, 2, 0],
+        &[1],
+        &[0, i32::MAX],
+    ] {
+        let src = inputs::sent(&[65_540], &updated, sizes);
+        read_ints(record, &src, sizes, 0);
+        read(record, &packed(&src), sizes, -1);
+    }
+}
+
+fn random_reads(record: &mut Record, random: &mut Random) {
+    for i in 0..60 {
+        let (mut deleted, mut updated) = inputs::jumbled(random);
+        deleted.truncate(5);
+        updated.truncate(5);
+        let sizes = inputs::right_sizes(&updated, random.pick(&[0, 1, 3, 8]));
+        let mut src = inputs::sent(&deleted, &updated, &sizes);
+        if i % 3 == 0 {
+            damage(&mut src, random);
+        }
+        if src.len() > MOST_INTS {
+            continue;
+        }
+        let spare = random.pick(&[0, 0, 2, -1]);
+        match i % 2 {
+            0 => read_ints(record, &src, &sizes, spare),
+            _ => {
+                let src = inputs::loose(&src, random);
+                if src.len() <= 2 * MOST_INTS {
+                    read(record, &src, &sizes, spare);
+                }
+            }
         }
     }
 }

@@ -1,0 +1,3 @@
+-- What the C functions answer and leave. Assumes nothing.
+pub mod Boundary
+pub mod Outcomes

@@ -1,0 +1,91 @@
+-- What the outputs hold, from an outcome that is known. Assumes nothing.
+use mathlib.Core.Path.{_≡_, refl, ap, _∙_}
+use mathlib.Core.Bool.{Bool, true, false, cond}
+use mathlib.Core.List.{List}
+use mathlib.Core.Option.{some, none}
+use Prim.Native.Nat.{ℕ, zero, suc}
+use native.Mathlib.Nat.{zero-add}
+use native.Mathlib.Omega.{arith}
+use lib.Dec.{leb}
+use lib.IntN.{ℤ}
+use lib.ListN.{length}
+use Rattle.definitions.specs.Areas.{lay}
+use Rattle.definitions.specs.Refusals.{capacityError, deltaDifferingSizes}
+use Rattle.definitions.specs.Warnings.{Counts}
+use Rattle.definitions.specs.Outcome.{Outcome, ok, err, return, refuse, Wrote}
+use Rattle.definitions.specs.Stored.{stored}
+use Rattle.definitions.specs.Tables.{Table}
+use Rattle.ints.specs.Copies.{Copied, copyAt}
+use Rattle.format.specs.Numbers.{number}
+use Rattle.format.specs.declared.Error.{Error}
+use Rattle.format.specs.declared.Stored.{Stored}
+use Rattle.format.specs.declared.Stored.the-variants as write
+use Rattle.format.specs.Answers.{storedInts, storedWith}
+use Rattle.delta_making.specs.Answers.{madeInts, Clash}
+use Rattle.delta_making.specs.declared.Made.{Made}
+use Rattle.delta_making.specs.declared.Made.the-variants as made
+use Rattle.boundary.specs.Boundary.{row, status, warningsOf, output, partInto, given, Named}
+
+module _ {A B : Type 0} (o : Outcome A) (f : A → B) where
+  pub answered : {a : A} {w : Counts} → o ≡ ok a w → (before value : B) → value ≡ f a → (0 ≡ status o) × (value ≡ output f before o)
+  answered e before value p = rw (e, p) (refl, refl)
+
+  pub refused : {n : ℕ} {w : Counts} → o ≡ err n w → (r : ℕ) (before : B) → r ≡ n → (r ≡ status o) × (before ≡ output f before o)
+  refused e r before p = rw (e, p) (refl, refl)
+
+-- a count beside an area
+module _ {E : Type 0} (o : Wrote ℕ E) where
+  pub wrote : {a : Outcome ℕ} {out : List E} → o ≡ record { answer = a; out = out } → (r count₀ count : ℕ) → r ≡ status a → count ≡ output (λ (n : ℕ). n) count₀ a → (r ≡ status (o .answer)) × ((out ≡ o .out) × (count ≡ output (λ (n : ℕ). n) count₀ (o .answer)))
+  wrote e r count₀ count p q = rw (e, p, q) (refl, (refl, refl))
+
+-- a count and the warnings beside an area
+module _ (o : Wrote ℕ ℤ) where
+  pub told-read : (a : Stored) {v : Counts} {out : List ℤ} → o ≡ record { answer = storedWith a v; out = out } → (r count₀ count : ℕ) (counts : List ℕ) → r ≡ status (storedInts a) → count ≡ output (λ (n : ℕ). n) count₀ (storedInts a) → counts ≡ row v → (r ≡ status (o .answer)) × ((out ≡ o .out) × ((count ≡ output (λ (n : ℕ). n) count₀ (o .answer)) × (counts ≡ row (warningsOf (o .answer)))))
+  told-read (write.Ints n) e r count₀ count counts p q t = rw (e, p, q, t) (refl, (refl, (refl, refl)))
+  told-read (write.Refused n) e r count₀ count counts p q t = rw (e, p, q, t) (refl, (refl, (refl, refl)))
+
+-- what a copy comes to
+abbrev storedBy : ℕ → Copied → Wrote ℕ ℤ
+storedBy n c = record { answer = cond (c .fits) (return n) (refuse capacityError); out = c .out }
+
+part-stored : (out xs : List ℤ) → partInto xs out ≡ storedBy (length xs) (copyAt out 0 xs)
+unfolding copyAt stored partInto
+part-stored out xs = rw (zero-add (length xs)) (by-room (leb (length xs) (length out)))
+  where
+    by-room : (t : Bool) → cond t (record { answer = return (length xs); out = lay xs out }) (record { answer = refuse capacityError; out = out }) ≡ storedBy (length xs) (cond t (record { fits = true; out = lay xs out }) (record { fits = false; out = out }))
+    by-room true = refl
+    by-room false = refl
+
+-- a part that was copied
+pub copied : (out xs : List ℤ) {b : Bool} {now : List ℤ} → copyAt out 0 xs ≡ record { fits = b; out = now } → partInto xs out ≡ record { answer = cond b (return (length xs)) (refuse capacityError); out = now }
+copied out xs e = part-stored out xs ∙ ap (storedBy (length xs)) e
+
+-- a part that is another
+pub moved : (x y out : List ℤ) → x ≡ y → (r count₀ count : ℕ) (now : List ℤ) → (r ≡ status (partInto x out .answer)) × ((now ≡ partInto x out .out) × (count ≡ output (λ (n : ℕ). n) count₀ (partInto x out .answer))) → (r ≡ status (partInto y out .answer)) × ((now ≡ partInto y out .out) × (count ≡ output (λ (n : ℕ). n) count₀ (partInto y out .answer)))
+moved x y out e r count₀ count now p = rw e at p
+
+-- ---- ints that are there or not
+
+pub not-given : (has : ℕ) (l : List ℤ) → has ≡ 0 → given has l ≡ none
+not-given has l e = rw e refl
+
+pub is-given : (has : ℕ) (l : List ℤ) → (has ≡ 0 → ⊥) → given has l ≡ some l
+is-given zero l f = absurd (f refl)
+is-given (suc n) l f = refl
+
+-- ---- a count beside an area and a clashing key
+
+module _ (b t : Table) (o : Wrote ℕ ℤ) (m : Made) {out : List ℤ} (e : o ≡ record { answer = madeInts m; out = out }) (c : Clash b t m) where
+  pub created : {n : ℕ} → m ≡ made.Ints n → (count₀ : ℕ) (key₀ : ℤ) → (0 ≡ status (o .answer)) × ((out ≡ o .out) × ((n ≡ output (λ (n : ℕ). n) count₀ (o .answer)) × Named b t key₀ key₀ 0))
+  created q count₀ key₀ =
+      rw (e, q) (refl, (refl, (refl, record { differs = λ x. absurd (omega (arith, x)); left = λ _. refl })))
+
+  pub clashed : {k : ℤ} → m ≡ made.DifferingSizes k → (r count₀ : ℕ) (key₀ key : ℤ) → r ≡ deltaDifferingSizes → key ≡ k → (r ≡ status (o .answer)) × ((out ≡ o .out) × ((count₀ ≡ output (λ (n : ℕ). n) count₀ (o .answer)) × Named b t key₀ key r))
+  clashed q r count₀ key₀ key p k =
+      let d = rw q at c in
+      rw (e, q, p, k) (refl, (refl, (refl, record { differs = λ _. d; left = λ f. absurd (f refl) })))
+
+  pub not-created : {x : Error} → m ≡ made.Refused x → (r count₀ : ℕ) (key₀ : ℤ) → r ≡ number x → (r ≡ status (o .answer)) × ((out ≡ o .out) × ((count₀ ≡ output (λ (n : ℕ). n) count₀ (o .answer)) × Named b t key₀ key₀ r))
+  not-created q r count₀ key₀ p =
+      let d = rw q at c in
+      rw (e, q, p) (refl, (refl, (refl, record { differs = λ x. absurd (d x); left = λ _. refl })))

@@ -1,0 +1,43 @@
+// The counts in a row, and a count behind a pointer.
+ghost use mathlib.Core.Path.{_≡_};
+ghost use Rattle.format.specs.Totals.{counts};
+ghost use Rattle.format.specs.Answers.{storedInts};
+ghost use Rattle.boundary.specs.Boundary as Boundary;
+ghost use Rattle.boundary.specs.Boundary.{status, output};
+use format::Stored;
+use format::Warnings;
+
+// The 13 counts in their order.
+pub fn row(w: Warnings) -> [usize; 13]
+    ensures { λ r. ⌜ r ≡ Boundary.row (counts w) ⌝ }
+{
+    [
+        w.overlong_int_encoding,
+        w.non_zero_int_padding,
+        w.non_zero_padding,
+        w.duplicate_delete,
+        w.duplicate_update,
+        w.unknown_delete,
+        w.delete_update,
+        w.num_updated_items,
+        w.excess_snap_data,
+        w.excess_uuid_item_data,
+        w.duplicate_snap,
+        w.differing_attributes,
+        w.weird_negative_delta_tick,
+    ]
+}
+
+// A count where there is one, and the number of the answer.
+pub fn told(w: Stored, count: &mut usize) -> u32
+    ensures { λ r. ⌜ r ≡ status (storedInts w) ⌝ }
+    ensures { λ _. ⌜ now (count .exit) ≡ output (λ n. n) (now (count .entry)) (storedInts w) ⌝ }
+{
+    match w {
+        Stored::Ints(n) => {
+            *count = n;
+            0
+        }
+        Stored::Refused(e) => format::error_number(e),
+    }
+}

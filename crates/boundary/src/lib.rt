@@ -1,0 +1,2 @@
+// How an outcome looks from C.
+pub mod checked;

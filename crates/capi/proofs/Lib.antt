@@ -1,2 +1,0 @@
--- Facts that the proofs of `capi` share. Assumes nothing.
-pub mod Outcomes

@@ -1,2 +1,0 @@
--- What the C functions answer and leave. Assumes nothing.
-pub mod Boundary

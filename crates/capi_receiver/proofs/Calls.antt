@@ -1,0 +1,142 @@
+-- What the outputs hold, from a call that is known. Assumes nothing.
+use mathlib.Core.Path.{_≡_, refl, ap, sym, _∙_}
+use mathlib.Core.Bool.{Bool, true, false, not, cond}
+use mathlib.Core.List.{List, [], _∷_}
+use mathlib.Core.Option.{Option, some, none}
+use Prim.Native.Nat.{ℕ}
+use lib.Dec.{eqb}
+use lib.IntN.{ℤ, pos}
+use lib.ListN.{length}
+use Rattle.definitions.specs.Warnings.{Counts}
+use Rattle.definitions.specs.Outcome.{Outcome, ok, err, return, refuse}
+use Rattle.definitions.specs.Messages as Messages
+use Rattle.definitions.specs.Messages.{Message, chunkCall}
+use Rattle.delta_chunks.specs.Answers.{chunkOf, bytesOf}
+use Rattle.delta_chunks.specs.declared.Chunk.{Chunk}
+use Rattle.definitions.specs.Receiver.{Receiver, Receives, Taken, leaves, snapCall, snapSingleCall, snapEmptyCall}
+use Rattle.format.specs.Numbers.{number}
+use Rattle.format.specs.declared.Error.{Error}
+use Rattle.gamenet_snap.specs.Numbers.{numbers}
+use Rattle.gamenet_snap.specs.declared.SnapMsg.{SnapMsg}
+use Rattle.gamenet_snap.specs.declared.SnapMsg.the-variants as msg
+use Rattle.receiver.specs.States.{receiverOf}
+use Rattle.receiver.specs.Answers.{receivedWith}
+use Rattle.receiver.specs.declared.DeltaReceiver.{DeltaReceiver}
+use Rattle.receiver.specs.declared.Received.{Received}
+use Rattle.receiver.specs.declared.Received.the-variants as received
+use Rattle.boundary.specs.Boundary.{flag, row, status, warningsOf, output}
+use Rattle.capi_receiver.specs.Held.{heldReceiver, kindOf, ticksOr, lengthOr, kindOfNumbers, rowOf, kindOfMessage, numbersOr, bytesIn}
+
+-- ---- a receiver in its rows
+
+flag-tells : (b : Bool) → not (eqb (cond b 1 0) 0) ≡ b
+flag-tells true = refl
+flag-tells false = refl
+
+pub stored : (r : DeltaReceiver) {p t d k : ℤ} {a b : ℕ} → p ≡ r .«previous_tick» → t ≡ r .tick → d ≡ r .«delta_tick» → k ≡ r .crc → a ≡ flag (r .«has_previous») → b ≡ flag (r .«has_current») → heldReceiver (p ∷ t ∷ d ∷ k ∷ []) (a ∷ b ∷ r .«num_parts» ∷ []) (r .parts) ≡ receiverOf r
+stored r p t d k a b =
+    rw (p, t, d, k, a, b, flag-tells (r .«has_previous»), flag-tells (r .«has_current»)) refl
+
+-- ---- the numbers of a message
+
+module _ (m : SnapMsg) where
+  pub part-row : {t d n p k t′ d′ n′ p′ k′ : ℤ} → m ≡ msg.Snap t d n p k → t′ ≡ t → d′ ≡ d → n′ ≡ n → p′ ≡ p → k′ ≡ k → (1 ≡ kindOfNumbers (numbers m)) × ((t′ ∷ d′ ∷ n′ ∷ p′ ∷ k′ ∷ []) ≡ rowOf (numbers m))
+  part-row e t d n p k = rw (e, t, d, n, p, k) (refl, refl)
+
+  pub empty-row : {t d t′ d′ : ℤ} → m ≡ msg.SnapEmpty t d → t′ ≡ t → d′ ≡ d → (2 ≡ kindOfNumbers (numbers m)) × ((t′ ∷ d′ ∷ pos 0 ∷ pos 0 ∷ pos 0 ∷ []) ≡ rowOf (numbers m))
+  empty-row e t d = rw (e, t, d) (refl, refl)
+
+  pub single-row : {t d k t′ d′ k′ : ℤ} → m ≡ msg.SnapSingle t d k → t′ ≡ t → d′ ≡ d → k′ ≡ k → (3 ≡ kindOfNumbers (numbers m)) × ((t′ ∷ d′ ∷ pos 0 ∷ pos 0 ∷ k′ ∷ []) ≡ rowOf (numbers m))
+  single-row e t d k = rw (e, t, d, k) (refl, refl)
+
+-- ---- a message
+
+-- a message by other names of its numbers
+pub chunk-moved : {t′ d′ k′ t d k : ℤ} (x : List ℕ) (i : ℕ) (c : Chunk) → t′ ≡ t → d′ ≡ d → k′ ≡ k → chunkCall t′ d′ x k′ i ≡ chunkOf c (bytesOf (chunkCall t′ d′ x k′ i)) → chunkCall t d x k i ≡ chunkOf c (bytesOf (chunkCall t d x k i))
+chunk-moved x i c p q s e = rw (p, q, s) at e
+
+module _ (o : Outcome (Option Message)) where
+  -- what stands behind the pointers
+  abbrev pub Chunked : (r kind₀ kind : ℕ) (row₀ row : List ℤ) (len₀ len : ℕ) → Type 0
+  Chunked r kind₀ kind row₀ row len₀ len =
+      (r ≡ status o)
+      × ((kind ≡ output kindOfMessage kind₀ o)
+      × ((row ≡ output (numbersOr row₀) row₀ o) × (len ≡ output bytesIn len₀ o)))
+
+  pub chunk-found : {ms : Messages.SnapMsg} {b : List ℕ} → o ≡ return (some (record { numbers = ms; bytes = b })) → (kind₀ kind : ℕ) (row₀ row : List ℤ) (len₀ : ℕ) (part : List ℕ) → kind ≡ kindOfNumbers ms → row ≡ rowOf ms → part ≡ b → Chunked 0 kind₀ kind row₀ row len₀ (length part)
+  chunk-found e kind₀ kind row₀ row len₀ part p q t = rw (e, p, q, t) (refl, (refl, (refl, refl)))
+
+  pub chunk-none : o ≡ return none → (kind₀ : ℕ) (row₀ : List ℤ) (len₀ : ℕ) → Chunked 0 kind₀ 0 row₀ row₀ len₀ 0
+  chunk-none e kind₀ row₀ len₀ = rw e (refl, (refl, (refl, refl)))
+
+  pub chunk-refused : {n : ℕ} → o ≡ refuse n → (r kind₀ : ℕ) (row₀ : List ℤ) (len₀ : ℕ) → r ≡ n → Chunked r kind₀ kind₀ row₀ row₀ len₀ len₀
+  chunk-refused e r kind₀ row₀ len₀ p = rw (e, p) (refl, (refl, (refl, refl)))
+
+-- ---- what a message brought
+
+module _ (a : Received) where
+  -- what stands behind the pointers
+  abbrev pub Tells : (r kind₀ kind : ℕ) (row₀ row : List ℤ) (len₀ len : ℕ) → Type 0
+  Tells r kind₀ kind row₀ row len₀ len =
+      ((w : Counts) → r ≡ status (receivedWith a w))
+      × (((w : Counts) → kind ≡ output kindOf kind₀ (receivedWith a w))
+      × (((w : Counts) → row ≡ output (ticksOr row₀) row₀ (receivedWith a w))
+      × ((w : Counts) → len ≡ output (lengthOr len₀) len₀ (receivedWith a w))))
+
+  pub tells-nothing : a ≡ received.NotYet → (kind₀ : ℕ) (row₀ : List ℤ) (len₀ : ℕ) → Tells 0 kind₀ 0 row₀ row₀ len₀ len₀
+  tells-nothing e kind₀ row₀ len₀ = rw e (λ w. refl, (λ w. refl, (λ w. refl, λ w. refl)))
+
+  pub tells-delta : {t d k t′ d′ k′ : ℤ} {n : ℕ} → a ≡ received.Delta t d n k → t′ ≡ t → d′ ≡ d → k′ ≡ k → (kind₀ : ℕ) (row₀ : List ℤ) (len₀ : ℕ) → Tells 0 kind₀ 1 row₀ (t′ ∷ d′ ∷ k′ ∷ []) len₀ n
+  tells-delta e t d k kind₀ row₀ len₀ = rw (e, t, d, k) (λ w. refl, (λ w. refl, (λ w. refl, λ w. refl)))
+
+  pub tells-empty : {t d t′ d′ : ℤ} → a ≡ received.Empty t d → t′ ≡ t → d′ ≡ d → (kind₀ : ℕ) (row₀ : List ℤ) (len₀ : ℕ) → Tells 0 kind₀ 2 row₀ (t′ ∷ d′ ∷ pos 0 ∷ []) len₀ 0
+  tells-empty e t d kind₀ row₀ len₀ = rw (e, t, d) (λ w. refl, (λ w. refl, (λ w. refl, λ w. refl)))
+
+  pub tells-refused : {x : Error} → a ≡ received.Refused x → (r kind₀ : ℕ) (row₀ : List ℤ) (len₀ : ℕ) → r ≡ number x → Tells r kind₀ kind₀ row₀ row₀ len₀ len₀
+  tells-refused e r kind₀ row₀ len₀ p = rw (e, p) (λ w. refl, (λ w. refl, (λ w. refl, λ w. refl)))
+
+-- an answer whose number is 0
+pub zero-tells : (a : Received) (r kind₀ kind : ℕ) (row₀ row′ : List ℤ) (len₀ len : ℕ) → r ≡ 0 → Tells a r kind₀ kind row₀ row′ len₀ len → Tells a 0 kind₀ kind row₀ row′ len₀ len
+zero-tells a r kind₀ kind row₀ row′ len₀ len e t = rw e at t
+
+-- ---- a call on a receiver
+
+-- a call that is refused leaves the receiver
+pub kept : (r rc : Receiver) (area second ps js : List ℕ) (t : Outcome Taken) (a : Received) (w : Counts) → leaves r area second t ≡ record { answer = receivedWith a w; receiver = rc; parts = ps; joined = js } → (n : ℕ) → ((v : Counts) → n ≡ status (receivedWith a v)) → (n ≡ 0 → ⊥) → r ≡ rc
+unfolding leaves
+kept r rc area second ps js (ok t v) a w e n p f = absurd (f (p w ∙ sym (ap (λ (o : Receives). status (o .answer)) e)))
+kept r rc area second ps js (err k v) a w e n p f = ap (λ (o : Receives). o .receiver) e
+
+-- a part by other names of the receiver and the numbers
+pub snap-moved : {r h : Receiver} {t′ d′ n′ p′ k′ t d n p k : ℤ} (x a b : List ℕ) {o : Receives} → r ≡ h → t′ ≡ t → d′ ≡ d → n′ ≡ n → p′ ≡ p → k′ ≡ k → snapCall r (record { tick = t′; deltaTick = d′; numParts = n′; part = p′; crc = k′ }) x a b ≡ o → snapCall h (record { tick = t; deltaTick = d; numParts = n; part = p; crc = k }) x a b ≡ o
+snap-moved x a b r t d n p k e = rw (r, t, d, n, p, k) at e
+
+pub single-moved : {r h : Receiver} {t′ d′ k′ t d k : ℤ} (x a b : List ℕ) {o : Receives} → r ≡ h → t′ ≡ t → d′ ≡ d → k′ ≡ k → snapSingleCall r t′ d′ k′ x a b ≡ o → snapSingleCall h t d k x a b ≡ o
+single-moved x a b r t d k e = rw (r, t, d, k) at e
+
+pub empty-moved : {r h : Receiver} {t′ d′ t d : ℤ} (a b : List ℕ) {o : Receives} → r ≡ h → t′ ≡ t → d′ ≡ d → snapEmptyCall r t′ d′ a b ≡ o → snapEmptyCall h t d a b ≡ o
+empty-moved a b r t d e = rw (r, t, d) at e
+
+-- the warnings beside an answer
+warned : (a : Received) (w : Counts) → warningsOf (receivedWith a w) ≡ w
+warned received.NotYet w = refl
+warned (received.Delta t d n k) w = refl
+warned (received.Empty t d) w = refl
+warned (received.Refused x) w = refl
+
+-- what a call leaves, with what its rows hold
+pub taken : (o : Receives) (a : Received) (w : Counts) {rc : Receiver} {ps js : List ℕ} → o ≡ record { answer = receivedWith a w; receiver = rc; parts = ps; joined = js } → (r kind₀ kind : ℕ) (row₀ row′ : List ℤ) (len₀ len : ℕ) (held : Receiver) (ws : List ℕ) (Left : Type 0) → Tells a r kind₀ kind row₀ row′ len₀ len → held ≡ rc → ws ≡ row w → Left → (r ≡ status (o .answer)) × ((held ≡ o .receiver) × (Left × ((ps ≡ o .parts) × ((js ≡ o .joined) × ((kind ≡ output kindOf kind₀ (o .answer)) × ((row′ ≡ output (ticksOr row₀) row₀ (o .answer)) × ((len ≡ output (lengthOr len₀) len₀ (o .answer)) × (ws ≡ row (warningsOf (o .answer))))))))))
+taken o a w e r kind₀ kind row₀ row′ len₀ len held ws Left t h p f =
+    rw (e, warned a w) (t .0 w, (h, (f, (refl, (refl, (t .1 .0 w, (t .1 .1 .0 w, (t .1 .1 .1 w, p))))))))
+
+-- the same without the first part area
+pub taken-single : (o : Receives) (a : Received) (w : Counts) {rc : Receiver} {ps js : List ℕ} → o ≡ record { answer = receivedWith a w; receiver = rc; parts = ps; joined = js } → (r kind₀ kind : ℕ) (row₀ row′ : List ℤ) (len₀ len : ℕ) (held : Receiver) (ws : List ℕ) (Left : Type 0) → Tells a r kind₀ kind row₀ row′ len₀ len → held ≡ rc → ws ≡ row w → Left → (r ≡ status (o .answer)) × ((held ≡ o .receiver) × (Left × ((js ≡ o .joined) × ((kind ≡ output kindOf kind₀ (o .answer)) × ((row′ ≡ output (ticksOr row₀) row₀ (o .answer)) × ((len ≡ output (lengthOr len₀) len₀ (o .answer)) × (ws ≡ row (warningsOf (o .answer)))))))))
+taken-single o a w e r kind₀ kind row₀ row′ len₀ len held ws Left t h p f =
+    let l = taken o a w e r kind₀ kind row₀ row′ len₀ len held ws Left t h p f in
+    (l .0, (l .1 .0, (l .1 .1 .0, l .1 .1 .1 .1)))
+
+-- the same without any part area
+pub taken-empty : (o : Receives) (a : Received) (w : Counts) {rc : Receiver} {ps js : List ℕ} → o ≡ record { answer = receivedWith a w; receiver = rc; parts = ps; joined = js } → (r kind₀ kind : ℕ) (row₀ row′ : List ℤ) (len₀ len : ℕ) (held : Receiver) (ws : List ℕ) (Left : Type 0) → Tells a r kind₀ kind row₀ row′ len₀ len → held ≡ rc → ws ≡ row w → Left → (r ≡ status (o .answer)) × ((held ≡ o .receiver) × (Left × ((kind ≡ output kindOf kind₀ (o .answer)) × ((row′ ≡ output (ticksOr row₀) row₀ (o .answer)) × ((len ≡ output (lengthOr len₀) len₀ (o .answer)) × (ws ≡ row (warningsOf (o .answer))))))))
+taken-empty o a w e r kind₀ kind row₀ row′ len₀ len held ws Left t h p f =
+    let l = taken o a w e r kind₀ kind row₀ row′ len₀ len held ws Left t h p f in
+    (l .0, (l .1 .0, (l .1 .1 .0, l .1 .1 .1 .1 .1)))

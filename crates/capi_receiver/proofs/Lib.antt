@@ -1,0 +1,2 @@
+-- What the outputs hold, from a call that is known. Assumes nothing.
+pub mod Calls

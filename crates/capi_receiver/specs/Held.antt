@@ -1,0 +1,84 @@
+-- A receiver in three rows, and what the outputs of a call hold. Assumes nothing.
+use mathlib.Core.Bool.{not, cond}
+use mathlib.Core.List.{List, [], _∷_}
+use mathlib.Core.Option.{Option, some, none}
+use Prim.Native.Nat.{ℕ}
+use lib.Dec.{eqb}
+use lib.IntN.{ℤ, pos}
+use lib.ListN.{length, getD}
+use Rattle.definitions.specs.Messages as Messages
+use Rattle.definitions.specs.Messages.{Message}
+use Rattle.definitions.specs.Receiver as Receiver
+
+-- the receiver in its rows: last finished tick, unfinished tick, its base and its sum; whether there are such ticks, and the part count; the parts' lengths
+abbrev pub heldReceiver : List ℤ → List ℕ → List ℕ → Receiver.Receiver
+heldReceiver ticks counts lengths =
+    record {
+      previousTick = cond (not (eqb (getD counts 0 0) 0)) (some (getD ticks 0 (pos 0))) none;
+      current =
+          cond (not (eqb (getD counts 1 0) 0))
+          (some (record {
+            tick = getD ticks 1 (pos 0);
+            deltaTick = getD ticks 2 (pos 0);
+            numParts = getD counts 2 0;
+            crc = getD ticks 3 (pos 0);
+          }))
+          none;
+      parts = lengths;
+    }
+
+-- ---- a delta that was received
+
+-- 0 without one, 1 with bytes, 2 where the message was empty
+abbrev pub kindOfBytes : Option Receiver.DataAndCrc → ℕ
+kindOfBytes (some b) = 1
+kindOfBytes none = 2
+
+abbrev pub kindOf : Option Receiver.ReceivedDelta → ℕ
+kindOf none = 0
+kindOf (some d) = kindOfBytes (d .dataAndCrc)
+
+-- its tick, its base and its sum, 0 where the message was empty; what stood there without one
+abbrev pub sumOf : Option Receiver.DataAndCrc → ℤ
+sumOf (some b) = b .crc
+sumOf none = pos 0
+
+abbrev pub ticksOr : List ℤ → Option Receiver.ReceivedDelta → List ℤ
+ticksOr before none = before
+ticksOr before (some d) = d .tick ∷ d .deltaTick ∷ sumOf (d .dataAndCrc) ∷ []
+
+-- how many bytes were joined, 0 where the message was empty; what stood there without one
+abbrev pub lengthOf : Option Receiver.DataAndCrc → ℕ
+lengthOf (some b) = b .length
+lengthOf none = 0
+
+abbrev pub lengthOr : ℕ → Option Receiver.ReceivedDelta → ℕ
+lengthOr before none = before
+lengthOr before (some d) = lengthOf (d .dataAndCrc)
+
+-- ---- a message
+
+-- 0 without one, 1 for a part, 2 for an empty one, 3 for a single one
+abbrev pub kindOfNumbers : Messages.SnapMsg → ℕ
+kindOfNumbers (Messages.Snap tick distance n part crc) = 1
+kindOfNumbers (Messages.SnapEmpty tick distance) = 2
+kindOfNumbers (Messages.SnapSingle tick distance crc) = 3
+
+abbrev pub kindOfMessage : Option Message → ℕ
+kindOfMessage none = 0
+kindOfMessage (some m) = kindOfNumbers (m .numbers)
+
+-- its tick, distance, part count, part number and sum, 0 where it has no such number; what stood there without one
+abbrev pub rowOf : Messages.SnapMsg → List ℤ
+rowOf (Messages.Snap tick distance n part crc) = tick ∷ distance ∷ n ∷ part ∷ crc ∷ []
+rowOf (Messages.SnapEmpty tick distance) = tick ∷ distance ∷ pos 0 ∷ pos 0 ∷ pos 0 ∷ []
+rowOf (Messages.SnapSingle tick distance crc) = tick ∷ distance ∷ pos 0 ∷ pos 0 ∷ crc ∷ []
+
+abbrev pub numbersOr : List ℤ → Option Message → List ℤ
+numbersOr before none = before
+numbersOr before (some m) = rowOf (m .numbers)
+
+-- how many bytes it has, 0 without one
+abbrev pub bytesIn : Option Message → ℕ
+bytesIn none = 0
+bytesIn (some m) = length (m .bytes)

@@ -1,0 +1,315 @@
+// Messages and the receiver as C sees them.
+ghost use mathlib.Core.Path.{_≡_};
+ghost use mathlib.Core.List.{[]};
+ghost use lib.IntN.{pos};
+ghost use Rattle.definitions.specs.Messages.{numChunksCall, chunkCall};
+ghost use Rattle.definitions.specs.Receiver.{freshReceiver, snapCall, snapSingleCall, snapEmptyCall};
+ghost use Rattle.receiver.specs.States.{receiverOf};
+ghost use Rattle.receiver.specs.Answers.{receivedWith};
+ghost use Rattle.boundary.specs.Boundary as Boundary;
+ghost use Rattle.boundary.specs.Boundary.{status, warningsOf, output};
+ghost use Rattle.gamenet_snap.specs.Numbers as gamenet;
+ghost use Rattle.capi_receiver.specs.Held.{heldReceiver, kindOf, ticksOr, lengthOr, kindOfNumbers, rowOf, kindOfMessage, numbersOr, bytesIn};
+ghost use Rattle.definitions.specs.Warnings.{Counts};
+use boundary::checked::row;
+use delta_chunks::Chunk;
+use delta_chunks::NumChunks;
+use gamenet_snap::SnapMsg;
+use receiver::DeltaReceiver;
+use receiver::Received;
+
+// The receiver in three rows.
+fn load(ticks: &[i32; 4], counts: &[u32; 3], lengths: &[u16; 32]) -> DeltaReceiver
+    ensures { λ r. ⌜ receiverOf r ≡ heldReceiver (now (ticks .entry)) (now (counts .entry)) (now (lengths .entry)) ⌝ }
+{
+    let has_previous = counts[0] != 0;
+    let has_current = counts[1] != 0;
+    let previous_tick = ticks[0];
+    let tick = ticks[1];
+    let delta_tick = ticks[2];
+    let num_parts = counts[2];
+    let crc = ticks[3];
+    let parts = *lengths;
+    DeltaReceiver {
+        has_previous,
+        previous_tick,
+        has_current,
+        tick,
+        delta_tick,
+        num_parts,
+        crc,
+        parts,
+    }
+}
+
+// 1 for true, 0 for false.
+fn flag(b: bool) -> u32
+    ensures { λ r. ⌜ r ≡ Boundary.flag b ⌝ }
+{
+    if b {
+        return 1;
+    }
+    0
+}
+
+// A receiver into its rows.
+fn store(r: DeltaReceiver, ticks: &mut [i32; 4], counts: &mut [u32; 3], lengths: &mut [u16; 32])
+    ensures { λ _. ⌜ heldReceiver (now (ticks .exit)) (now (counts .exit)) (now (lengths .exit)) ≡ receiverOf r ⌝ }
+{
+    let has_previous = flag(r.has_previous);
+    let has_current = flag(r.has_current);
+    *ticks = [r.previous_tick, r.tick, r.delta_tick, r.crc];
+    *counts = [has_previous, has_current, r.num_parts];
+    let parts = r.parts;
+    *lengths = parts;
+}
+
+// What a message brought, where it was taken, and the number of the answer.
+fn tell(a: Received, kind: &mut u32, numbers: &mut [i32; 3], len: &mut usize) -> u32
+    ensures { λ r. ⌜ ((w : Counts) → r ≡ status (receivedWith a w)) ⌝ }
+    ensures { λ _. ⌜ ((w : Counts) → now (kind .exit) ≡ output kindOf (now (kind .entry)) (receivedWith a w)) ⌝ }
+    ensures { λ _. ⌜ ((w : Counts) → now (numbers .exit) ≡ output (ticksOr (now (numbers .entry))) (now (numbers .entry)) (receivedWith a w)) ⌝ }
+    ensures { λ _. ⌜ ((w : Counts) → now (len .exit) ≡ output (lengthOr (now (len .entry))) (now (len .entry)) (receivedWith a w)) ⌝ }
+{
+    match a {
+        Received::NotYet => {
+            *kind = 0;
+            0
+        }
+        Received::Delta {
+            tick,
+            delta_tick,
+            len: n,
+            crc,
+        } => {
+            *kind = 1;
+            *numbers = [tick, delta_tick, crc];
+            *len = n;
+            0
+        }
+        Received::Empty { tick, delta_tick } => {
+            *kind = 2;
+            *numbers = [tick, delta_tick, 0];
+            *len = 0;
+            0
+        }
+        Received::Refused(e) => format::error_number(e),
+    }
+}
+
+// How many messages the bytes of a delta make.
+#[no_mangle]
+pub extern "C" fn cef_num_chunks(data: &[u8], count: &mut usize) -> u32
+    ensures { λ r. ⌜ r ≡ status (numChunksCall (pos 0) (pos 0) (now («data» .entry)) (pos 0)) ⌝ }
+    ensures { λ _. ⌜ now (count .exit) ≡ output (λ n. n) (now (count .entry)) (numChunksCall (pos 0) (pos 0) (now («data» .entry)) (pos 0)) ⌝ }
+{
+    let n = delta_chunks::num_chunks(data);
+    match n {
+        NumChunks::Messages(k) => {
+            *count = k;
+            0
+        }
+        NumChunks::Refused(e) => format::error_number(e),
+    }
+}
+
+// The numbers of a message in a row, and its kind.
+fn row_of(m: SnapMsg, numbers: &mut [i32; 5]) -> u32
+    ensures { λ r. ⌜ r ≡ kindOfNumbers (gamenet.numbers m) ⌝ }
+    ensures { λ _. ⌜ now (numbers .exit) ≡ rowOf (gamenet.numbers m) ⌝ }
+{
+    match m {
+        SnapMsg::Snap {
+            tick,
+            delta_tick,
+            num_parts,
+            part,
+            crc,
+        } => {
+            *numbers = [tick, delta_tick, num_parts, part, crc];
+            1
+        }
+        SnapMsg::SnapEmpty { tick, delta_tick } => {
+            *numbers = [tick, delta_tick, 0, 0, 0];
+            2
+        }
+        SnapMsg::SnapSingle {
+            tick,
+            delta_tick,
+            crc,
+        } => {
+            *numbers = [tick, delta_tick, 0, 0, crc];
+            3
+        }
+    }
+}
+
+// The i-th of these messages: its numbers, and how many bytes it has.
+#[no_mangle]
+pub extern "C" fn cef_chunk(
+    tick: i32,
+    delta_tick: i32,
+    data: &[u8],
+    crc: i32,
+    i: usize,
+    kind: &mut u32,
+    numbers: &mut [i32; 5],
+    len: &mut usize,
+) -> u32
+    ensures { λ r. ⌜ r ≡ status (chunkCall tick «delta_tick» (now («data» .entry)) crc i) ⌝ }
+    ensures { λ _. ⌜ now (kind .exit) ≡ output kindOfMessage (now (kind .entry)) (chunkCall tick «delta_tick» (now («data» .entry)) crc i) ⌝ }
+    ensures { λ _. ⌜ now (numbers .exit) ≡ output (numbersOr (now (numbers .entry))) (now (numbers .entry)) (chunkCall tick «delta_tick» (now («data» .entry)) crc i) ⌝ }
+    ensures { λ _. ⌜ now (len .exit) ≡ output bytesIn (now (len .entry)) (chunkCall tick «delta_tick» (now («data» .entry)) crc i) ⌝ }
+{
+    let part = delta_chunks::chunk_data(data, i);
+    let c = delta_chunks::chunk_numbers(tick, delta_tick, data, crc, i);
+    match c {
+        Chunk::Message(m) => {
+            *kind = row_of(m, numbers);
+            *len = part.len();
+            0
+        }
+        Chunk::End => {
+            *kind = 0;
+            *len = 0;
+            0
+        }
+        Chunk::Refused(e) => format::error_number(e),
+    }
+}
+
+// A receiver without any tick.
+#[no_mangle]
+pub extern "C" fn cef_receiver_new(
+    ticks: &mut [i32; 4],
+    counts: &mut [u32; 3],
+    lengths: &mut [u16; 32],
+)
+    ensures { λ _. ⌜ heldReceiver (now (ticks .exit)) (now (counts .exit)) (now (lengths .exit)) ≡ freshReceiver ⌝ }
+{
+    store(DeltaReceiver::new(), ticks, counts, lengths);
+}
+
+// Forgets both ticks.
+#[no_mangle]
+pub extern "C" fn cef_receiver_reset(
+    ticks: &mut [i32; 4],
+    counts: &mut [u32; 3],
+    lengths: &mut [u16; 32],
+)
+    ensures { λ _. ⌜ heldReceiver (now (ticks .exit)) (now (counts .exit)) (now (lengths .exit)) ≡ freshReceiver ⌝ }
+{
+    let r = load(ticks, counts, lengths);
+    store(r.reset(), ticks, counts, lengths);
+}
+
+// Takes a part of a delta; the last one missing joins them all in joined.
+#[no_mangle]
+pub extern "C" fn cef_receiver_snap(
+    ticks: &mut [i32; 4],
+    counts: &mut [u32; 3],
+    lengths: &mut [u16; 32],
+    tick: i32,
+    delta_tick: i32,
+    num_parts: i32,
+    part: i32,
+    crc: i32,
+    data: &[u8],
+    parts: &mut [u8],
+    joined: &mut [u8],
+    kind: &mut u32,
+    received: &mut [i32; 3],
+    len: &mut usize,
+    warnings: &mut [usize; 13],
+) -> u32
+    ensures { λ r. ⌜ r ≡ status (snapCall (heldReceiver (now (ticks .entry)) (now (counts .entry)) (now (lengths .entry))) (record { tick = tick; deltaTick = «delta_tick»; numParts = «num_parts»; part = part; crc = crc }) (now («data» .entry)) (now (parts .entry)) (now (joined .entry)) .answer) ⌝ }
+    ensures { λ _. ⌜ heldReceiver (now (ticks .exit)) (now (counts .exit)) (now (lengths .exit)) ≡ snapCall (heldReceiver (now (ticks .entry)) (now (counts .entry)) (now (lengths .entry))) (record { tick = tick; deltaTick = «delta_tick»; numParts = «num_parts»; part = part; crc = crc }) (now («data» .entry)) (now (parts .entry)) (now (joined .entry)) .receiver ⌝ }
+    ensures { λ r. ⌜ ((r ≡ 0 → ⊥) → (now (ticks .exit) ≡ now (ticks .entry)) × ((now (counts .exit) ≡ now (counts .entry)) × (now (lengths .exit) ≡ now (lengths .entry)))) ⌝ }
+    ensures { λ _. ⌜ now (parts .exit) ≡ snapCall (heldReceiver (now (ticks .entry)) (now (counts .entry)) (now (lengths .entry))) (record { tick = tick; deltaTick = «delta_tick»; numParts = «num_parts»; part = part; crc = crc }) (now («data» .entry)) (now (parts .entry)) (now (joined .entry)) .parts ⌝ }
+    ensures { λ _. ⌜ now (joined .exit) ≡ snapCall (heldReceiver (now (ticks .entry)) (now (counts .entry)) (now (lengths .entry))) (record { tick = tick; deltaTick = «delta_tick»; numParts = «num_parts»; part = part; crc = crc }) (now («data» .entry)) (now (parts .entry)) (now (joined .entry)) .joined ⌝ }
+    ensures { λ _. ⌜ now (kind .exit) ≡ output kindOf (now (kind .entry)) (snapCall (heldReceiver (now (ticks .entry)) (now (counts .entry)) (now (lengths .entry))) (record { tick = tick; deltaTick = «delta_tick»; numParts = «num_parts»; part = part; crc = crc }) (now («data» .entry)) (now (parts .entry)) (now (joined .entry)) .answer) ⌝ }
+    ensures { λ _. ⌜ now (received .exit) ≡ output (ticksOr (now (received .entry))) (now (received .entry)) (snapCall (heldReceiver (now (ticks .entry)) (now (counts .entry)) (now (lengths .entry))) (record { tick = tick; deltaTick = «delta_tick»; numParts = «num_parts»; part = part; crc = crc }) (now («data» .entry)) (now (parts .entry)) (now (joined .entry)) .answer) ⌝ }
+    ensures { λ _. ⌜ now (len .exit) ≡ output (lengthOr (now (len .entry))) (now (len .entry)) (snapCall (heldReceiver (now (ticks .entry)) (now (counts .entry)) (now (lengths .entry))) (record { tick = tick; deltaTick = «delta_tick»; numParts = «num_parts»; part = part; crc = crc }) (now («data» .entry)) (now (parts .entry)) (now (joined .entry)) .answer) ⌝ }
+    ensures { λ _. ⌜ now (warnings .exit) ≡ Boundary.row (warningsOf (snapCall (heldReceiver (now (ticks .entry)) (now (counts .entry)) (now (lengths .entry))) (record { tick = tick; deltaTick = «delta_tick»; numParts = «num_parts»; part = part; crc = crc }) (now («data» .entry)) (now (parts .entry)) (now (joined .entry)) .answer)) ⌝ }
+{
+    let r = load(ticks, counts, lengths);
+    let s = r.snap(tick, delta_tick, num_parts, part, crc, data, parts, joined);
+    *warnings = row(s.warnings);
+    let answer = s.answer;
+    let number = tell(answer, kind, received, len);
+    if number != 0 {
+        return number;
+    }
+    store(s.receiver, ticks, counts, lengths);
+    0
+}
+
+// Takes a whole delta, into joined.
+#[no_mangle]
+pub extern "C" fn cef_receiver_snap_single(
+    ticks: &mut [i32; 4],
+    counts: &mut [u32; 3],
+    lengths: &mut [u16; 32],
+    tick: i32,
+    delta_tick: i32,
+    crc: i32,
+    data: &[u8],
+    joined: &mut [u8],
+    kind: &mut u32,
+    received: &mut [i32; 3],
+    len: &mut usize,
+    warnings: &mut [usize; 13],
+) -> u32
+    ensures { λ r. ⌜ r ≡ status (snapSingleCall (heldReceiver (now (ticks .entry)) (now (counts .entry)) (now (lengths .entry))) tick «delta_tick» crc (now («data» .entry)) [] (now (joined .entry)) .answer) ⌝ }
+    ensures { λ _. ⌜ heldReceiver (now (ticks .exit)) (now (counts .exit)) (now (lengths .exit)) ≡ snapSingleCall (heldReceiver (now (ticks .entry)) (now (counts .entry)) (now (lengths .entry))) tick «delta_tick» crc (now («data» .entry)) [] (now (joined .entry)) .receiver ⌝ }
+    ensures { λ r. ⌜ ((r ≡ 0 → ⊥) → (now (ticks .exit) ≡ now (ticks .entry)) × ((now (counts .exit) ≡ now (counts .entry)) × (now (lengths .exit) ≡ now (lengths .entry)))) ⌝ }
+    ensures { λ _. ⌜ now (joined .exit) ≡ snapSingleCall (heldReceiver (now (ticks .entry)) (now (counts .entry)) (now (lengths .entry))) tick «delta_tick» crc (now («data» .entry)) [] (now (joined .entry)) .joined ⌝ }
+    ensures { λ _. ⌜ now (kind .exit) ≡ output kindOf (now (kind .entry)) (snapSingleCall (heldReceiver (now (ticks .entry)) (now (counts .entry)) (now (lengths .entry))) tick «delta_tick» crc (now («data» .entry)) [] (now (joined .entry)) .answer) ⌝ }
+    ensures { λ _. ⌜ now (received .exit) ≡ output (ticksOr (now (received .entry))) (now (received .entry)) (snapSingleCall (heldReceiver (now (ticks .entry)) (now (counts .entry)) (now (lengths .entry))) tick «delta_tick» crc (now («data» .entry)) [] (now (joined .entry)) .answer) ⌝ }
+    ensures { λ _. ⌜ now (len .exit) ≡ output (lengthOr (now (len .entry))) (now (len .entry)) (snapSingleCall (heldReceiver (now (ticks .entry)) (now (counts .entry)) (now (lengths .entry))) tick «delta_tick» crc (now («data» .entry)) [] (now (joined .entry)) .answer) ⌝ }
+    ensures { λ _. ⌜ now (warnings .exit) ≡ Boundary.row (warningsOf (snapSingleCall (heldReceiver (now (ticks .entry)) (now (counts .entry)) (now (lengths .entry))) tick «delta_tick» crc (now («data» .entry)) [] (now (joined .entry)) .answer)) ⌝ }
+{
+    let r = load(ticks, counts, lengths);
+    let s = r.snap_single(tick, delta_tick, crc, data, joined);
+    *warnings = row(s.warnings);
+    let answer = s.answer;
+    let number = tell(answer, kind, received, len);
+    if number != 0 {
+        return number;
+    }
+    store(s.receiver, ticks, counts, lengths);
+    0
+}
+
+// Takes an empty delta.
+#[no_mangle]
+pub extern "C" fn cef_receiver_snap_empty(
+    ticks: &mut [i32; 4],
+    counts: &mut [u32; 3],
+    lengths: &mut [u16; 32],
+    tick: i32,
+    delta_tick: i32,
+    kind: &mut u32,
+    received: &mut [i32; 3],
+    len: &mut usize,
+    warnings: &mut [usize; 13],
+) -> u32
+    ensures { λ r. ⌜ r ≡ status (snapEmptyCall (heldReceiver (now (ticks .entry)) (now (counts .entry)) (now (lengths .entry))) tick «delta_tick» [] [] .answer) ⌝ }
+    ensures { λ _. ⌜ heldReceiver (now (ticks .exit)) (now (counts .exit)) (now (lengths .exit)) ≡ snapEmptyCall (heldReceiver (now (ticks .entry)) (now (counts .entry)) (now (lengths .entry))) tick «delta_tick» [] [] .receiver ⌝ }
+    ensures { λ r. ⌜ ((r ≡ 0 → ⊥) → (now (ticks .exit) ≡ now (ticks .entry)) × ((now (counts .exit) ≡ now (counts .entry)) × (now (lengths .exit) ≡ now (lengths .entry)))) ⌝ }
+    ensures { λ _. ⌜ now (kind .exit) ≡ output kindOf (now (kind .entry)) (snapEmptyCall (heldReceiver (now (ticks .entry)) (now (counts .entry)) (now (lengths .entry))) tick «delta_tick» [] [] .answer) ⌝ }
+    ensures { λ _. ⌜ now (received .exit) ≡ output (ticksOr (now (received .entry))) (now (received .entry)) (snapEmptyCall (heldReceiver (now (ticks .entry)) (now (counts .entry)) (now (lengths .entry))) tick «delta_tick» [] [] .answer) ⌝ }
+    ensures { λ _. ⌜ now (len .exit) ≡ output (lengthOr (now (len .entry))) (now (len .entry)) (snapEmptyCall (heldReceiver (now (ticks .entry)) (now (counts .entry)) (now (lengths .entry))) tick «delta_tick» [] [] .answer) ⌝ }
+    ensures { λ _. ⌜ now (warnings .exit) ≡ Boundary.row (warningsOf (snapEmptyCall (heldReceiver (now (ticks .entry)) (now (counts .entry)) (now (lengths .entry))) tick «delta_tick» [] [] .answer)) ⌝ }
+{
+    let r = load(ticks, counts, lengths);
+    let s = r.snap_empty(tick, delta_tick);
+    *warnings = row(s.warnings);
+    let answer = s.answer;
+    let number = tell(answer, kind, received, len);
+    if number != 0 {
+        return number;
+    }
+    store(s.receiver, ticks, counts, lengths);
+    0
+}

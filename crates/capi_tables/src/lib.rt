@@ -1,0 +1,229 @@
+// The calls on tables as C sees them.
+ghost use mathlib.Core.Path.{_≡_};
+ghost use lib.ListN.{length};
+ghost use Rattle.definitions.specs.Areas.{cleared};
+ghost use Rattle.definitions.specs.Tables.{keyOf};
+ghost use Rattle.definitions.specs.TableCalls.{emptyCall, readCall, readFromIntsCall, writeToIntsCall, writeCall, numItemsCall, hasItemCall, itemCall, crcCall, walkKeyCall, walkItemCall, addItemCall};
+ghost use Rattle.boundary.specs.Boundary as Boundary;
+ghost use Rattle.boundary.specs.Boundary.{status, warningsOf, output, flag, partInto, keyOr, ended};
+use boundary::checked::row;
+use boundary::checked::told;
+use packer::IntWrite;
+use raw_snap::Checksum;
+use raw_snap::Count;
+use raw_snap::Has;
+use raw_snap::Walked;
+
+// Ints into the front of out.
+fn part_into(part: &[i32], out: &mut [i32], count: &mut usize) -> u32
+    ensures { λ r. ⌜ r ≡ status (partInto (now (part .entry)) (now (out .entry)) .answer) ⌝ }
+    ensures { λ _. ⌜ now (out .exit) ≡ partInto (now (part .entry)) (now (out .entry)) .out ⌝ }
+    ensures { λ _. ⌜ now (count .exit) ≡ output (λ n. n) (now (count .entry)) (partInto (now (part .entry)) (now (out .entry)) .answer) ⌝ }
+{
+    if ints::copy_into(out, 0, part) {
+        *count = part.len();
+        return 0;
+    }
+    format::error_number(format::Error::CapacityError)
+}
+
+// The empty table into the front of out.
+#[no_mangle]
+pub extern "C" fn cef_table_empty(out: &mut [i32], count: &mut usize) -> u32
+    ensures { λ r. ⌜ r ≡ status (emptyCall (now (out .entry)) .answer) ⌝ }
+    ensures { λ _. ⌜ now (out .exit) ≡ emptyCall (now (out .entry)) .out ⌝ }
+    ensures { λ _. ⌜ now (count .exit) ≡ output (λ n. n) (now (count .entry)) (emptyCall (now (out .entry)) .answer) ⌝ }
+{
+    told(raw_snap::empty(out), count)
+}
+
+// A packed table into the front of out.
+#[no_mangle]
+pub extern "C" fn cef_table_read(
+    src: &[u8],
+    out: &mut [i32],
+    scratch: &mut [i32],
+    count: &mut usize,
+    warnings: &mut [usize; 13],
+) -> u32
+    ensures { λ r. ⌜ r ≡ status (readCall (now (src .entry)) (now (out .entry)) (length (now (scratch .entry))) .answer) ⌝ }
+    ensures { λ _. ⌜ now (out .exit) ≡ readCall (now (src .entry)) (now (out .entry)) (length (now (scratch .entry))) .out ⌝ }
+    ensures { λ _. ⌜ now (scratch .exit) ≡ cleared (now (scratch .entry)) ⌝ }
+    ensures { λ _. ⌜ now (count .exit) ≡ output (λ n. n) (now (count .entry)) (readCall (now (src .entry)) (now (out .entry)) (length (now (scratch .entry))) .answer) ⌝ }
+    ensures { λ _. ⌜ now (warnings .exit) ≡ Boundary.row (warningsOf (readCall (now (src .entry)) (now (out .entry)) (length (now (scratch .entry))) .answer)) ⌝ }
+{
+    let read = raw_snap::read(src, out, scratch);
+    *warnings = row(read.warnings);
+    let answer = read.answer;
+    told(answer, count)
+}
+
+// A table of ints into the front of out.
+#[no_mangle]
+pub extern "C" fn cef_table_read_from_ints(
+    src: &[i32],
+    out: &mut [i32],
+    count: &mut usize,
+    warnings: &mut [usize; 13],
+) -> u32
+    ensures { λ r. ⌜ r ≡ status (readFromIntsCall (now (src .entry)) (now (out .entry)) .answer) ⌝ }
+    ensures { λ _. ⌜ now (out .exit) ≡ readFromIntsCall (now (src .entry)) (now (out .entry)) .out ⌝ }
+    ensures { λ _. ⌜ now (count .exit) ≡ output (λ n. n) (now (count .entry)) (readFromIntsCall (now (src .entry)) (now (out .entry)) .answer) ⌝ }
+    ensures { λ _. ⌜ now (warnings .exit) ≡ Boundary.row (warningsOf (readFromIntsCall (now (src .entry)) (now (out .entry)) .answer)) ⌝ }
+{
+    let read = raw_snap::read_from_ints(src, out);
+    *warnings = row(read.warnings);
+    let answer = read.answer;
+    told(answer, count)
+}
+
+// A table packed into the front of out.
+#[no_mangle]
+pub extern "C" fn cef_table_write(area: &[i32], out: &mut [u8], count: &mut usize) -> u32
+    ensures { λ r. ⌜ r ≡ status (writeCall (now (area .entry)) (now (out .entry)) .answer) ⌝ }
+    ensures { λ _. ⌜ now (out .exit) ≡ writeCall (now (area .entry)) (now (out .entry)) .out ⌝ }
+    ensures { λ _. ⌜ now (count .exit) ≡ output (λ n. n) (now (count .entry)) (writeCall (now (area .entry)) (now (out .entry)) .answer) ⌝ }
+{
+    let w = raw_snap::write(area, out);
+    match w {
+        IntWrite::Next(n) => {
+            *count = n;
+            0
+        }
+        IntWrite::Refused(e) => format::error_number(e),
+    }
+}
+
+// A table's written form into the front of out.
+#[no_mangle]
+pub extern "C" fn cef_table_write_to_ints(area: &[i32], out: &mut [i32], count: &mut usize) -> u32
+    ensures { λ r. ⌜ r ≡ status (writeToIntsCall (now (area .entry)) (now (out .entry)) .answer) ⌝ }
+    ensures { λ _. ⌜ now (out .exit) ≡ writeToIntsCall (now (area .entry)) (now (out .entry)) .out ⌝ }
+    ensures { λ _. ⌜ now (count .exit) ≡ output (λ n. n) (now (count .entry)) (writeToIntsCall (now (area .entry)) (now (out .entry)) .answer) ⌝ }
+{
+    told(raw_snap::write_to_ints(area, out), count)
+}
+
+// How many items a table has.
+#[no_mangle]
+pub extern "C" fn cef_table_num_items(area: &[i32], count: &mut usize) -> u32
+    ensures { λ r. ⌜ r ≡ status (numItemsCall (now (area .entry))) ⌝ }
+    ensures { λ _. ⌜ now (count .exit) ≡ output (λ n. n) (now (count .entry)) (numItemsCall (now (area .entry))) ⌝ }
+{
+    let c = raw_snap::num_items(area);
+    match c {
+        Count::Items(n) => {
+            *count = n;
+            0
+        }
+        Count::Refused(e) => format::error_number(e),
+    }
+}
+
+// Whether a table has an item.
+#[no_mangle]
+pub extern "C" fn cef_table_has_item(area: &[i32], raw_type_id: u16, id: u16, has: &mut u32) -> u32
+    ensures { λ r. ⌜ r ≡ status (hasItemCall (now (area .entry)) (keyOf «raw_type_id» id)) ⌝ }
+    ensures { λ _. ⌜ now (has .exit) ≡ output flag (now (has .entry)) (hasItemCall (now (area .entry)) (keyOf «raw_type_id» id)) ⌝ }
+{
+    let h = raw_snap::has_item(area, raw_type_id, id);
+    match h {
+        Has::Yes => {
+            *has = 1;
+            0
+        }
+        Has::No => {
+            *has = 0;
+            0
+        }
+        Has::Refused(e) => format::error_number(e),
+    }
+}
+
+// The data of an item into the front of out; none where there is no such item.
+#[no_mangle]
+pub extern "C" fn cef_table_item(
+    area: &[i32],
+    raw_type_id: u16,
+    id: u16,
+    out: &mut [i32],
+    count: &mut usize,
+) -> u32
+    ensures { λ r. ⌜ r ≡ status (partInto (itemCall (now (area .entry)) (keyOf «raw_type_id» id)) (now (out .entry)) .answer) ⌝ }
+    ensures { λ _. ⌜ now (out .exit) ≡ partInto (itemCall (now (area .entry)) (keyOf «raw_type_id» id)) (now (out .entry)) .out ⌝ }
+    ensures { λ _. ⌜ now (count .exit) ≡ output (λ n. n) (now (count .entry)) (partInto (itemCall (now (area .entry)) (keyOf «raw_type_id» id)) (now (out .entry)) .answer) ⌝ }
+{
+    part_into(raw_snap::item(area, raw_type_id, id), out, count)
+}
+
+// The sum of all data ints.
+#[no_mangle]
+pub extern "C" fn cef_table_crc(area: &[i32], crc: &mut i32) -> u32
+    ensures { λ r. ⌜ r ≡ status (crcCall (now (area .entry))) ⌝ }
+    ensures { λ _. ⌜ now (crc .exit) ≡ output (λ s. s) (now (crc .entry)) (crcCall (now (area .entry))) ⌝ }
+{
+    let c = raw_snap::crc(area);
+    match c {
+        Checksum::Sum(s) => {
+            *crc = s;
+            0
+        }
+        Checksum::Refused(e) => format::error_number(e),
+    }
+}
+
+// The key of the i-th item in the order of keys read as signed.
+#[no_mangle]
+pub extern "C" fn cef_table_walk_key(area: &[i32], i: usize, key: &mut i32, end: &mut u32) -> u32
+    ensures { λ r. ⌜ r ≡ status (walkKeyCall (now (area .entry)) i) ⌝ }
+    ensures { λ _. ⌜ now (key .exit) ≡ output (keyOr (now (key .entry))) (now (key .entry)) (walkKeyCall (now (area .entry)) i) ⌝ }
+    ensures { λ _. ⌜ now (end .exit) ≡ output ended (now (end .entry)) (walkKeyCall (now (area .entry)) i) ⌝ }
+{
+    let w = raw_snap::walk_key(area, i);
+    match w {
+        Walked::Key(k) => {
+            *key = k;
+            *end = 0;
+            0
+        }
+        Walked::End => {
+            *end = 1;
+            0
+        }
+        Walked::Refused(e) => format::error_number(e),
+    }
+}
+
+// The data of the i-th item in that order into the front of out; none past the end.
+#[no_mangle]
+pub extern "C" fn cef_table_walk_item(
+    area: &[i32],
+    i: usize,
+    out: &mut [i32],
+    count: &mut usize,
+) -> u32
+    ensures { λ r. ⌜ r ≡ status (partInto (walkItemCall (now (area .entry)) i) (now (out .entry)) .answer) ⌝ }
+    ensures { λ _. ⌜ now (out .exit) ≡ partInto (walkItemCall (now (area .entry)) i) (now (out .entry)) .out ⌝ }
+    ensures { λ _. ⌜ now (count .exit) ≡ output (λ n. n) (now (count .entry)) (partInto (walkItemCall (now (area .entry)) i) (now (out .entry)) .answer) ⌝ }
+{
+    part_into(raw_snap::walk_item(area, i), out, count)
+}
+
+// Adds an item to a table in its place by key.
+#[no_mangle]
+pub extern "C" fn cef_table_add_item(
+    area: &mut [i32],
+    raw_type_id: u16,
+    id: u16,
+    values: &[i32],
+    count: &mut usize,
+) -> u32
+    ensures { λ r. ⌜ r ≡ status (addItemCall (now (area .entry)) (record { key = keyOf «raw_type_id» id; values = now (values .entry) }) .answer) ⌝ }
+    ensures { λ _. ⌜ now (area .exit) ≡ addItemCall (now (area .entry)) (record { key = keyOf «raw_type_id» id; values = now (values .entry) }) .out ⌝ }
+    ensures { λ _. ⌜ now (count .exit) ≡ output (λ n. n) (now (count .entry)) (addItemCall (now (area .entry)) (record { key = keyOf «raw_type_id» id; values = now (values .entry) }) .answer) ⌝ }
+{
+    told(
+        raw_snap::raw_builder::add_item(area, raw_type_id, id, values),
+        count,
+    )
+}
