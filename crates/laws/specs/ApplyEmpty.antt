@@ -7,12 +7,8 @@ use borrow.Author.Tests.{eq-eqb}
 use lib.ListN.{length}
 use Rattle.definitions.specs.Outcome.{return}
 use Rattle.definitions.specs.Tables.{Table}
-use Rattle.definitions.specs.Deltas.{Delta}
 use Rattle.definitions.specs.Applying.{kept, applyUpdates, applyDelta}
-
--- a delta of no keys
-abbrev pub emptyDelta : Delta
-emptyDelta = record { deleted = []; updated = [] }
+use Rattle.definitions.specs.Manager.{emptyDelta}
 
 -- where no key is deleted, all is kept
 pub all-kept : (b : Table) → kept [] b ≡ b

@@ -20,12 +20,13 @@ use Rattle.definitions.specs.DeltaCalls.{sizesMatch}
 use Rattle.definitions.specs.DeltaReading.{readDelta}
 use Rattle.definitions.specs.Applying.{applyDelta}
 use Rattle.definitions.specs.Types.{typed}
+use Rattle.definitions.specs.Manager.{emptyDelta}
 use Rattle.laws.specs.OutcomeLaws.{ok-value, ok-not-err, return-bind}
 use Rattle.laws.specs.TableShape.{both}
 use Rattle.laws.specs.DeltaLaws.{delta-packs, empty-packs}
 use Rattle.laws.specs.DeltaReadBack.{readBack}
 use Rattle.laws.specs.DeltaMade.{made-short, made-held}
-use Rattle.laws.specs.ApplyEmpty.{emptyDelta, apply-empty}
+use Rattle.laws.specs.ApplyEmpty.{apply-empty}
 use Rattle.laws.specs.ApplyMade.{created, apply-created}
 use Rattle.laws.specs.DeltaWhole.{made-read-packed}
 use Rattle.laws.specs.BuilderForm.{Built, nothing, built-sound, built-whole, built-typed}
@@ -64,7 +65,7 @@ abbrev pub isEmptyDelta : Delta → Bool
 isEmptyDelta d = eqb (length (d .deleted)) 0 && eqb (length (d .updated)) 0
 
 -- it is the empty one
-empty-is : (d : Delta) → isEmptyDelta d ≡ true → d ≡ emptyDelta
+pub empty-is : (d : Delta) → isEmptyDelta d ≡ true → d ≡ emptyDelta
 empty-is d e =
     let p = both (eqb (length (d .deleted)) 0) _ e in
     ap₂ (λ (l : List ℕ) (u : List Item). record { deleted = l; updated = u })

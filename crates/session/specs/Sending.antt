@@ -1,5 +1,5 @@
 -- What goes out for an accepted table, message by message. Assumes nothing.
-use mathlib.Core.Path.{_≡_, refl, sym, _∙_, ap, ap₂, subst}
+use mathlib.Core.Path.{_≡_, refl, sym, _∙_, ap, subst}
 use mathlib.Core.Logic.{_⊎_, inl, inr}
 use mathlib.Core.Bool.{Bool, true, false, cond, not, _&&_}
 use mathlib.Core.List.{List, [], _∷_}
@@ -10,13 +10,13 @@ use lib.Dec.{ltb, leb, eqb}
 use lib.IntN.{ℤ}
 use lib.ListN.{length}
 use Rattle.definitions.specs.Ints.{wrappingSub}
-use Rattle.definitions.specs.Tables.{Item, list, crc}
+use Rattle.definitions.specs.Tables.{list, crc}
 use Rattle.definitions.specs.Deltas.{Delta, deltaInts}
 use Rattle.definitions.specs.Packed.{packInts}
 use Rattle.definitions.specs.Messages.{SnapSingle, Message, numParts, partMessage, deltaChunks}
 use Rattle.definitions.specs.Manager.{emptyDelta}
-use Rattle.laws.specs.TableShape.{both}
 use Rattle.laws.specs.DeltaLaws.{delta-packs, empty-packs}
+use Rattle.laws.specs.SessionLaws.{empty-is}
 use Rattle.session.specs.Runs.{Accepted, packed, emptyMessage, isEmpty, messagesOf}
 use Rattle.session.specs.Statement.{Among, Base}
 use Rattle.session.specs.Lists.{either, among-nothing, among-append, among-one}
@@ -30,19 +30,6 @@ among-list {A} f (suc k) m h = go (among-append (list f k) h) (λ u. among-list 
     go : Among m (list f k) ⊎ Among m (f k ∷ []) → (Among m (list f k) → (p : ℕ) × (p < k) × (m ≡ f p)) → (p : ℕ) × (p < suc k) × (m ≡ f p)
     go (inl u) g = let (p, l, e) = g u in (p, omega arith, e)
     go (inr u) g = (k, omega arith, among-one u)
-
--- ---- an empty delta
-
--- a list of length 0 is empty
-length-zero : {A : Type 0} (l : List A) → eqb (length l) 0 ≡ true → l ≡ []
-length-zero [] e = refl
-length-zero (x ∷ l) e = absurd (omega (arith, eqb-true (length (x ∷ l)) 0 e))
-
--- a delta that is empty is the empty delta
-pub empty-is : (d : Delta) → isEmpty d ≡ true → d ≡ emptyDelta
-empty-is d e =
-    let p = both (eqb (length (d .deleted)) 0) _ e in
-    ap₂ (λ (k : List ℕ) (u : List Item). record { deleted = k; updated = u }) (length-zero (d .deleted) (p .0)) (length-zero (d .updated) (p .1))
 
 module _ (sizes : List ℤ) (instead : ℤ → Bool) where
   -- whether a table's tick takes several messages
