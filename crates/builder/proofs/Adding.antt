@@ -1,20 +1,20 @@
 -- What adding items to a builder's table comes to, and what an area holds after the first of two. Assumes nothing.
 use mathlib.Core.Path.{_≡_, refl, sym, ap, _∙_}
-use mathlib.Core.Bool.{Bool, true, false, not}
+use mathlib.Core.Bool.{Bool, true, false}
 use mathlib.Core.List.{List, [], _∷_}
-use mathlib.Core.Logic.{_⊎_, inl, inr, ⊎-elim}
+use mathlib.Core.Logic.{⊎-elim}
 use mathlib.Core.Option.{none}
 use Prim.Native.Nat.{ℕ, _+_, _/_, _^_, _≤_, _<_}
 use native.Mathlib.Omega.{arith}
 use borrow.Author.Tests.{leb-true, lt-ltb, le-ltb}
-use lib.Dec.{ltb, leb}
+use lib.Dec.{leb}
 use lib.IntN.{ℤ}
 use lib.ListN.{length}
 use Rattle.definitions.specs.Areas.{lay}
-use Rattle.definitions.specs.Refusals.{duplicateKey, tooManyItems, tooLongSnap, capacityError, invalidTypeId, notInForm}
-use Rattle.definitions.specs.Outcome.{Outcome, return, refuse, require, _>>_, _>>=_, Wrote}
+use Rattle.definitions.specs.Refusals.{capacityError, invalidTypeId, notInForm}
+use Rattle.definitions.specs.Outcome.{Outcome, return, refuse, _>>_, _>>=_, Wrote}
 use Rattle.definitions.specs.Stored.{stored}
-use Rattle.definitions.specs.Tables.{Item, Table, written, sound, insert, find, isSome, tableOf, items, count, size}
+use Rattle.definitions.specs.Tables.{Item, Table, written, sound, insert, tableOf, items, count, size}
 use Rattle.definitions.specs.TableReading.{addItem}
 use Rattle.definitions.specs.TableCalls.{storedTable}
 use Rattle.definitions.specs.Types.{TypeId, Ordinal, Uuid, kindNumber, judgeTypeId}
@@ -25,7 +25,7 @@ use Rattle.laws.specs.TableForm.{length-items, length-form}
 use Rattle.laws.specs.TableRoundTrip.{items-sound}
 use Rattle.laws.specs.TableReadBack.{holds}
 use Rattle.laws.specs.TableReadSound.{added-sound, length-insert}
-use Rattle.laws.specs.BuilderCalls.{laid-held}
+use Rattle.laws.specs.BuilderCalls.{laid-held, adds-or-not}
 use Rattle.table.specs.Held.{Held}
 use Rattle.snap.specs.Answers.{numberIn}
 use Rattle.builder.specs.Building.{Built-as, addedAs}
@@ -57,25 +57,13 @@ module _ (a : List ℤ) (i : Item) (t : Table) where
     pub takes : m ≡ length (written (insert i t))
     pub laid : l ≡ lay (written (insert i t)) a
 
-  -- an item is added, or refused
-  either : (addItem i t ≡ return (insert i t)) ⊎ ((n : ℕ) × (addItem i t ≡ refuse n))
-  unfolding addItem
-  either = go (not (isSome (find (i .key) t))) (ltb (length t) 1024) (leb (length (written (insert i t))) 16384)
-    where
-      go : (p q r : Bool) → ((require p duplicateKey >> (require q tooManyItems >> (require r tooLongSnap >> return (insert i t)))) ≡ return (insert i t))
-          ⊎ ((n : ℕ) × ((require p duplicateKey >> (require q tooManyItems >> (require r tooLongSnap >> return (insert i t)))) ≡ refuse n))
-      go true true true = inl refl
-      go true true false = inr (tooLongSnap, refl)
-      go true false r = inr (tooManyItems, refl)
-      go false q r = inr (duplicateKey, refl)
-
   -- by its answer
   pub added : (m : ℕ) (l : List ℤ) → storedTable a (addItem i t) ≡ record { answer = return m; out = l } → Added m l
   added m l e =
       ⊎-elim
       (λ (f : addItem i t ≡ return (insert i t)). by-room f (leb (length (written (insert i t))) (length a)) refl (sym (ap (storedTable a) f) ∙ e))
       (λ (f : (n : ℕ) × (addItem i t ≡ refuse n)). absurd (refusal (f .0) (sym (ap (storedTable a) (f .1)) ∙ e)))
-      either
+      (adds-or-not i t)
     where
       refusal : (n : ℕ) → storedTable a (refuse n) ≡ record { answer = return m; out = l } → ⊥
       refusal n d = ok-not-err (sym (ap (λ (w : Wrote ℕ ℤ). w .answer) (sym (refused-is a n) ∙ d)))

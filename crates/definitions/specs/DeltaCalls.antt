@@ -6,22 +6,18 @@ use Prim.Native.Nat.{ℕ, _/_}
 use lib.Dec.{leb, eqb}
 use lib.IntN.{ℤ}
 use lib.ListN.{length}
-use Rattle.definitions.specs.Refusals.{capacityError, scratchTooShort, inputTooLong, knownSizeDiffers, notInForm}
-use Rattle.definitions.specs.Outcome.{Outcome, ok, err, return, refuse, require, _>>=_, _>>_, Wrote}
+use Rattle.definitions.specs.Refusals.{capacityError, scratchTooShort, inputTooLong, knownSizeDiffers}
+use Rattle.definitions.specs.Outcome.{Outcome, ok, err, return, require, _>>=_, _>>_, Wrote}
 use Rattle.definitions.specs.Packed.{packInts}
 use Rattle.definitions.specs.Stored.{stored}
 use Rattle.definitions.specs.Stream.{Stream, stream}
 use Rattle.definitions.specs.Tables.{Item}
-use Rattle.definitions.specs.TableCalls.{held}
+use Rattle.definitions.specs.TableCalls.{orNotInForm, held}
 use Rattle.definitions.specs.Deltas.{Delta, knownSize, deltaInts, writtenDelta, deltaOf}
 use Rattle.definitions.specs.DeltaMaking.{createDelta, createItemDelta, applyItemDelta}
 use Rattle.definitions.specs.DeltaReading.{DeltaRead, intStream, readDelta}
 
--- the delta that an area holds, or 47
-abbrev pub orNotInForm : Option Delta → Outcome Delta
-orNotInForm (some d) = return d
-orNotInForm none = refuse notInForm
-
+-- the delta that an area holds
 unfoldable pub heldDelta : List ℤ → Outcome Delta
 heldDelta area = orNotInForm (deltaOf area)
 

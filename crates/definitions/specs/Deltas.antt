@@ -15,6 +15,10 @@ pub record Delta : Type 0 where
   pub deleted : List ℕ
   pub updated : List Item
 
+-- whether nothing goes and nothing is updated
+abbrev pub isEmptyDelta : Delta → Bool
+isEmptyDelta d = eqb (length (d .deleted)) 0 && eqb (length (d .updated)) 0
+
 -- the place of a key among all keys read as signed
 unfoldable pub rank : ℕ → ℕ
 rank k = (k + 2 ^ 31) % 2 ^ 32

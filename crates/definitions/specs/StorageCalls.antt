@@ -6,19 +6,15 @@ use lib.Dec.{leb}
 use lib.IntN.{ℤ, pos}
 use lib.ListN.{length, replicate}
 use Rattle.definitions.specs.Areas.{lay}
-use Rattle.definitions.specs.Refusals.{scratchTooShort, notInForm}
-use Rattle.definitions.specs.Outcome.{Outcome, ok, err, return, refuse, require, _>>=_, _>>_}
+use Rattle.definitions.specs.Refusals.{scratchTooShort}
+use Rattle.definitions.specs.Outcome.{Outcome, ok, err, return, require, _>>=_, _>>_}
 use Rattle.definitions.specs.Tables.{Table, written}
-use Rattle.definitions.specs.TableCalls.{held}
+use Rattle.definitions.specs.TableCalls.{orNotInForm, held}
 use Rattle.definitions.specs.Deltas.{Delta, writtenDelta}
 use Rattle.definitions.specs.DeltaCalls.{heldDelta}
 use Rattle.definitions.specs.Storage.{StoredSnap, Storage, Store, beside, storeArea, storageOf, Keeps, AddedSnap, addDelta, addSnap, setDeltaTick, resetStorage}
 
--- what a store and its area hold, or 47
-abbrev pub orNotInForm : Option Storage → Outcome Storage
-orNotInForm (some s) = return s
-orNotInForm none = refuse notInForm
-
+-- what a store and its area hold
 unfoldable pub heldStorage : Store → List ℤ → Outcome Storage
 heldStorage s area = orNotInForm (storageOf s area)
 

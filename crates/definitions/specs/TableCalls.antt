@@ -14,11 +14,13 @@ use Rattle.definitions.specs.Stored.{stored}
 use Rattle.definitions.specs.Tables.{Item, Table, written, tableOf, find, isSome, walk, crc}
 use Rattle.definitions.specs.TableReading.{addItem, readTable, readPacked}
 
--- the table that an area holds, or 47
-abbrev pub orNotInForm : Option Table → Outcome Table
-orNotInForm (some t) = return t
-orNotInForm none = refuse notInForm
+-- what was found in an area, or 47
+module _ {A : Type 0} where
+  abbrev pub orNotInForm : Option A → Outcome A
+  orNotInForm (some a) = return a
+  orNotInForm none = refuse notInForm
 
+-- the table that an area holds
 unfoldable pub held : List ℤ → Outcome Table
 held area = orNotInForm (tableOf area)
 

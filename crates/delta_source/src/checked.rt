@@ -18,7 +18,6 @@ ghost use Rattle.delta_source.specs.declared.checked.Header.the-variants
 use delta_form::checked::known_size;
 use format::Error;
 use packer::IntRead;
-use table::checked::num;
 
 // The integer at a place.
 pub fn next_int(bytes: &[u8], ints: &[i32], packed: bool, at: usize) -> IntRead
@@ -206,7 +205,7 @@ pub fn read_size(
     };
     let overlong = overlong + ints::one_if(o);
     let padding = padding + ints::one_if(p);
-    let size = num(value);
+    let size = ints::num(value);
     if 4294967296 <= size {
         return head_refused(Error::NegativeSize, overlong, padding);
     }
@@ -234,11 +233,11 @@ pub fn judge_head(
     requires { ⌜ (at ≤ size (source packed (now bytes) (now ints))) × (overlong ≤ 2) × (padding ≤ 2) ⌝ }
     ensures { λ r. ⌜ HeadOf (source packed (now (bytes .entry)) (now (ints .entry))) (now (sizes .entry)) at (after (Laws.packed overlong padding) (headOf (now (sizes .entry)) «type_id» id (from (source packed (now (bytes .entry)) (now (ints .entry))) at))) r ⌝ }
 {
-    let t = num(type_id);
+    let t = ints::num(type_id);
     if 65536 <= t {
         return head_refused(Error::TypeIdRange, overlong, padding);
     }
-    let i = num(id);
+    let i = ints::num(id);
     if 65536 <= i {
         return head_refused(Error::IdRange, overlong, padding);
     }
@@ -425,7 +424,7 @@ pub fn read_number(bytes: &[u8], ints: &[i32], packed: bool, at: usize) -> Numbe
     };
     let overlong = ints::one_if(o);
     let padding = ints::one_if(p);
-    let number = num(value);
+    let number = ints::num(value);
     if 4294967296 <= number {
         return Number::Refused {
             error: Error::IntOutOfRange,
@@ -467,7 +466,7 @@ pub fn read_padding(
     Header::Delta {
         deleted,
         updated,
-        odd: num(value) != 0,
+        odd: ints::num(value) != 0,
         next,
         overlong: overlong + ints::one_if(o),
         padding: padding + ints::one_if(p),

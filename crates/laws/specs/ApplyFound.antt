@@ -196,26 +196,6 @@ long-other low i w (x ∷ t) e f l =
 
 -- ---- what is kept
 
-pub find-kept : (j : ℕ) (g : List ℕ) (b : Table) → find j (kept g b) ≡ cond (elem j g) none (find j b)
-unfolding find kept
-find-kept j g [] = flat (elem j g)
-  where
-    flat : (p : Bool) → _≡_ {A = Option (List ℤ)} none (cond p none none)
-    flat true = refl
-    flat false = refl
-find-kept j g (x ∷ b) = go (elem (x .key) g) (eqb (x .key) j) refl refl (find-kept j g b)
-  where
-    go : (p q : Bool) → elem (x .key) g ≡ p → eqb (x .key) j ≡ q → find j (kept g b) ≡ cond (elem j g) none (find j b)
-        → find j (cond p (kept g b) (x ∷ kept g b)) ≡ cond (elem j g) none (cond q (some (x .values)) (find j b))
-    go true true e f r =
-        let h : elem j g ≡ true = subst (λ (i : ℕ). elem i g ≡ true) (eqb-true (x .key) j f) e in
-        r ∙ rw h
-    go true false e f r = r
-    go false true e f r =
-        let h : elem j g ≡ false = subst (λ (i : ℕ). elem i g ≡ false) (eqb-true (x .key) j f) e in
-        rw (f, h)
-    go false false e f r = rw f r
-
 pub kept-append : (g : List ℕ) (t u : Table) → kept g (t ++ u) ≡ kept g t ++ kept g u
 unfolding kept
 kept-append g [] u = refl

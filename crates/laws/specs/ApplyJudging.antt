@@ -22,8 +22,8 @@ use Rattle.laws.specs.TableShape.{both}
 use Rattle.laws.specs.TableForm.{length-written}
 use Rattle.laws.specs.ZipLaws.{length-sums}
 use Rattle.laws.specs.OutcomeLaws.{return-bind}
-use Rattle.laws.specs.TableChanged.{rising-kept}
-use Rattle.laws.specs.ApplyFound.{withItem, find-withItem, rising-withItem, insert-is, replace-is, found-some, found-none, long-new, long-other, find-kept}
+use Rattle.laws.specs.TableChanged.{rising-kept, find-kept}
+use Rattle.laws.specs.ApplyFound.{withItem, find-withItem, rising-withItem, insert-is, replace-is, found-some, found-none, long-new, long-other}
 
 -- ---- the table
 

@@ -17,8 +17,8 @@ use Rattle.definitions.specs.Applying.{kept}
 use Rattle.laws.specs.Tests.{below}
 use Rattle.laws.specs.TableWalk.{Rises, rises, rise, rising-less}
 use Rattle.laws.specs.TableSettled.{find-nil, find-head, find-tail, find-below, same-found}
-use Rattle.laws.specs.TableChanged.{rising-kept}
-use Rattle.laws.specs.ApplyFound.{item, find-here, own-rise, either, find-append, withItem, find-withItem, rising-withItem, find-kept}
+use Rattle.laws.specs.TableChanged.{rising-kept, find-kept}
+use Rattle.laws.specs.ApplyFound.{item, find-here, own-rise, either, find-append, withItem, find-withItem, rising-withItem}
 use Rattle.laws.specs.ApplyJudging.{madeItem, updatedTable, keptOf, signed-rises}
 
 -- one item x of the base before the updates, where r merges what is behind x: the updates below it, then x or the update of it, then the rest

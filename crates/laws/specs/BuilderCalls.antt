@@ -78,9 +78,9 @@ pub laid-held : (t : Table) (a : List ℤ) → sound t ≡ true → length (writ
 laid-held t a s l = rw (lay-append (written t) a l) (back t (drop (length (written t)) a) s)
 
 -- an item is added, or refused
-either : (i : Item) (t : Table) → (addItem i t ≡ return (insert i t)) ⊎ ((n : ℕ) × (addItem i t ≡ refuse n))
+pub adds-or-not : (i : Item) (t : Table) → (addItem i t ≡ return (insert i t)) ⊎ ((n : ℕ) × (addItem i t ≡ refuse n))
 unfolding addItem
-either i t = go (not (isSome (find (i .key) t))) (ltb (length t) 1024) (leb (length (written (insert i t))) 16384)
+adds-or-not i t = go (not (isSome (find (i .key) t))) (ltb (length t) 1024) (leb (length (written (insert i t))) 16384)
   where
     go : (p q r : Bool) → ((require p duplicateKey >> (require q tooManyItems >> (require r tooLongSnap >> return (insert i t)))) ≡ return (insert i t))
         ⊎ ((n : ℕ) × ((require p duplicateKey >> (require q tooManyItems >> (require r tooLongSnap >> return (insert i t)))) ≡ refuse n))
@@ -102,7 +102,7 @@ left a i t =
     ⊎-elim
     (λ (e : addItem i t ≡ return (insert i t)). rw e (fits e (leb (length (written (insert i t))) (length a)) refl))
     (λ (e : (n : ℕ) × (addItem i t ≡ refuse n)). rw (e .1) (refused (e .1)))
-    (either i t)
+    (adds-or-not i t)
   where
     fits : addItem i t ≡ return (insert i t) → (p : Bool) → leb (length (written (insert i t))) (length a) ≡ p
         → Left a i t (cond p (record { answer = ok (length (written (insert i t))) Warnings.none; out = lay (written (insert i t)) a }) (record { answer = err capacityError Warnings.none; out = a }))

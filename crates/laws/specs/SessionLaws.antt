@@ -14,7 +14,7 @@ use Rattle.definitions.specs.Outcome.{Outcome, return, require, _>>=_, _>>_}
 use Rattle.definitions.specs.Packed.{packInts}
 use Rattle.definitions.specs.Stream.{stream}
 use Rattle.definitions.specs.Tables.{Item, Table}
-use Rattle.definitions.specs.Deltas.{Delta, deltaInts, writtenDelta, deltaOf}
+use Rattle.definitions.specs.Deltas.{Delta, isEmptyDelta, deltaInts, writtenDelta, deltaOf}
 use Rattle.definitions.specs.DeltaMaking.{deltaFrom, createDelta}
 use Rattle.definitions.specs.DeltaCalls.{sizesMatch}
 use Rattle.definitions.specs.DeltaReading.{readDelta}
@@ -60,11 +60,7 @@ was-packed sizes d x e = go (sizesMatch sizes (d .updated)) e
     go true q = (refl, ok-value q)
     go false q = absurd (ok-not-err (sym q))
 
--- whether a delta deletes and updates nothing
-abbrev pub isEmptyDelta : Delta → Bool
-isEmptyDelta d = eqb (length (d .deleted)) 0 && eqb (length (d .updated)) 0
-
--- it is the empty one
+-- a delta without keys and updates is the empty one
 pub empty-is : (d : Delta) → isEmptyDelta d ≡ true → d ≡ emptyDelta
 empty-is d e =
     let p = both (eqb (length (d .deleted)) 0) _ e in

@@ -1,16 +1,15 @@
 -- The lists of calls of a controller and of a printer, what they are answered and what they leave. Assumes nothing.
-use mathlib.Core.Bool.{Bool, cond, _&&_}
+use mathlib.Core.Bool.{Bool, cond}
 use mathlib.Core.List.{List, [], _∷_, _++_}
 use mathlib.Core.Option.{Option, some, none}
 use Prim.Native.Nat.{ℕ}
-use lib.Dec.{eqb}
 use lib.IntN.{ℤ, pos}
 use lib.ListN.{length, replicate}
 use Rattle.definitions.specs.Ints.{wrappingSub}
 use Rattle.definitions.specs.Outcome.{Outcome, ok, err, return, _>>=_}
 use Rattle.definitions.specs.Packed.{packInts}
 use Rattle.definitions.specs.Tables.{Table, items, crc}
-use Rattle.definitions.specs.Deltas.{Delta, deltaInts, deltaIn}
+use Rattle.definitions.specs.Deltas.{Delta, isEmptyDelta, deltaInts, deltaIn}
 use Rattle.definitions.specs.Messages.{SnapEmpty, Message, deltaChunks}
 use Rattle.definitions.specs.Receiver.{Receiver, freshReceiver}
 use Rattle.definitions.specs.Storage.{StoredSnap, Storage, freshStorage, Store, beside, storageOf}
@@ -95,16 +94,12 @@ packed sizes a = packInts (deltaInts sizes (a .delta))
 abbrev pub emptyMessage : Accepted → Message
 emptyMessage a = record { numbers = SnapEmpty (a .tick) (wrappingSub (a .tick) (a .base)); bytes = [] }
 
--- whether a delta is empty
-abbrev pub isEmpty : Delta → Bool
-isEmpty d = eqb (length (d .deleted)) 0 && eqb (length (d .updated)) 0
-
 -- the messages of a table: its delta cut; or an empty message instead of them; or beside them, where the delta is empty
 unfoldable pub messagesOf : List ℤ → (ℤ → Bool) → Accepted → List Message
 messagesOf sizes instead a =
     cond (instead (a .tick)) (emptyMessage a ∷ [])
     (deltaChunks (a .tick) (a .base) (packed sizes a) (crc (a .table))
-    ++ cond (isEmpty (a .delta)) (emptyMessage a ∷ []) [])
+    ++ cond (isEmptyDelta (a .delta)) (emptyMessage a ∷ []) [])
 
 -- ---- the printer
 

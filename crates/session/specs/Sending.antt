@@ -11,13 +11,13 @@ use lib.IntN.{ℤ}
 use lib.ListN.{length}
 use Rattle.definitions.specs.Ints.{wrappingSub}
 use Rattle.definitions.specs.Tables.{list, crc}
-use Rattle.definitions.specs.Deltas.{Delta, deltaInts}
+use Rattle.definitions.specs.Deltas.{Delta, isEmptyDelta, deltaInts}
 use Rattle.definitions.specs.Packed.{packInts}
 use Rattle.definitions.specs.Messages.{SnapSingle, Message, numParts, partMessage, deltaChunks}
 use Rattle.definitions.specs.Manager.{emptyDelta}
 use Rattle.laws.specs.DeltaLaws.{delta-packs, empty-packs}
 use Rattle.laws.specs.SessionLaws.{empty-is}
-use Rattle.session.specs.Runs.{Accepted, packed, emptyMessage, isEmpty, messagesOf}
+use Rattle.session.specs.Runs.{Accepted, packed, emptyMessage, messagesOf}
 use Rattle.session.specs.Statement.{Among, Base}
 use Rattle.session.specs.Lists.{either, among-nothing, among-append, among-one}
 
@@ -59,7 +59,7 @@ module _ (sizes : List ℤ) (instead : ℤ → Bool) where
     asEmpty : isLarge a ≡ false → Base l (a .base) (a .table) ⊎ (a .delta ≡ emptyDelta) → Goes l a (emptyMessage a)
 
   -- an empty delta fits one message
-  empty-short : (a : Accepted) → isEmpty (a .delta) ≡ true → length (packed sizes a) ≤ 900
+  empty-short : (a : Accepted) → isEmptyDelta (a .delta) ≡ true → length (packed sizes a) ≤ 900
   empty-short a e =
       let z : packed sizes a ≡ 0 ∷ 0 ∷ 0 ∷ [] = ap (λ (d : Delta). packInts (deltaInts sizes d)) (empty-is (a .delta) e) ∙ empty-packs sizes in
       rw z (omega arith)
@@ -90,10 +90,10 @@ module _ (sizes : List ℤ) (instead : ℤ → Bool) where
       (λ e. subst (Goes l a) (sym (among-one (rw e at h))) (asEmpty (unfold isLarge in rw e refl) (inl (q e))))
       (λ e. go e (among-append (deltaChunks (a .tick) (a .base) (packed sizes a) (crc (a .table))) (rw e at h)))
     where
-      go : instead (a .tick) ≡ false → Among m (deltaChunks (a .tick) (a .base) (packed sizes a) (crc (a .table))) ⊎ Among m (cond (isEmpty (a .delta)) (emptyMessage a ∷ []) []) → Goes l a m
+      go : instead (a .tick) ≡ false → Among m (deltaChunks (a .tick) (a .base) (packed sizes a) (crc (a .table))) ⊎ Among m (cond (isEmptyDelta (a .delta)) (emptyMessage a ∷ []) []) → Goes l a m
       go e (inl k) = chunk-goes l a m e k
       go e (inr k) =
-          either (isEmpty (a .delta))
+          either (isEmptyDelta (a .delta))
           (λ c.
           unfold isLarge in
           subst (Goes l a) (sym (among-one (rw c at k)))

@@ -19,19 +19,12 @@ pub enum TableForm {
     Bad,
 }
 
-// An int as a count; a negative one is 2^32, more than any area has.
-pub fn num(x: i32) -> usize
-    ensures { λ r. ⌜ (r ≡ Tables.num x) × (r ≤ 2 ^ 32) ⌝ }
-{
-    if x < 0 { 4294967296 } else { x as usize }
-}
-
 // The count at a place.
 pub fn nat_at(area: &[i32], i: usize) -> usize
     requires { ⌜ i < length (now area) ⌝ }
     ensures { λ r. ⌜ (r ≡ nat (now (area .entry)) i) × (r ≤ 2 ^ 32) × (mag (getD (now (area .entry)) i (pos 0)) < 2 ^ 31) ⌝ }
 {
-    num(area[i])
+    ints::num(area[i])
 }
 
 // The bits at a place, which holds an int.
