@@ -1,9 +1,10 @@
 -- An outcome as C sees it: a number, outputs behind pointers, the counts in a row. Assumes nothing.
 use mathlib.Core.List.{List, [], _∷_}
-use mathlib.Core.Bool.{Bool, cond}
+use mathlib.Core.Bool.{Bool, not, cond}
 use mathlib.Core.Option.{Option, some, none}
 use mathlib.Core.Path.{_≡_}
-use Prim.Native.Nat.{ℕ, zero, suc}
+use Prim.Native.Nat.{ℕ}
+use lib.Dec.{eqb}
 use lib.IntN.{ℤ}
 use Rattle.definitions.specs.Ints.{bits}
 use Rattle.definitions.specs.Refusals.{deltaDifferingSizes}
@@ -55,7 +56,7 @@ module _ {A : Type 0} where
 unfoldable pub partInto : List ℤ → List ℤ → Wrote ℕ ℤ
 partInto part out = stored out (return part)
 
--- the key of a walk, or what stood there at its end
+-- the key or the tick at a place of a walk, or what stood there at its end
 abbrev pub keyOr : ℤ → Option ℤ → ℤ
 keyOr before (some k) = k
 keyOr before none = before
@@ -65,10 +66,10 @@ abbrev pub ended : Option ℤ → ℕ
 ended (some k) = 0
 ended none = 1
 
--- ints that are there where a flag is not 0
-abbrev pub given : ℕ → List ℤ → Option (List ℤ)
-given zero l = none
-given (suc n) l = some l
+-- a value that is there where a flag is not 0
+module _ {A : Type 0} where
+  abbrev pub given : ℕ → A → Option A
+  given n x = cond (not (eqb n 0)) (some x) none
 
 -- a place for a clashing key, before and after a call, by its answer: 10 comes with such a key, else what stood there is left
 pub record Named (b t : Table) (before after : ℤ) (r : ℕ) : Type 0 where

@@ -2,10 +2,11 @@
 use mathlib.Core.Path.{_≡_, refl, ap, _∙_}
 use mathlib.Core.Bool.{Bool, true, false, cond}
 use mathlib.Core.List.{List}
-use mathlib.Core.Option.{some, none}
-use Prim.Native.Nat.{ℕ, zero, suc}
+use mathlib.Core.Option.{Option, some, none}
+use Prim.Native.Nat.{ℕ}
 use native.Mathlib.Nat.{zero-add}
 use native.Mathlib.Omega.{arith}
+use borrow.Author.Tests.{ne-eqb}
 use lib.Dec.{leb}
 use lib.IntN.{ℤ}
 use lib.ListN.{length}
@@ -24,7 +25,7 @@ use Rattle.format.specs.Answers.{storedInts, storedWith}
 use Rattle.delta_making.specs.Answers.{madeInts, Clash}
 use Rattle.delta_making.specs.declared.Made.{Made}
 use Rattle.delta_making.specs.declared.Made.the-variants as made
-use Rattle.boundary.specs.Boundary.{row, status, warningsOf, output, partInto, given, Named}
+use Rattle.boundary.specs.Boundary.{row, status, warningsOf, output, partInto, keyOr, ended, given, Named}
 
 module _ {A B : Type 0} (o : Outcome A) (f : A → B) where
   pub answered : {a : A} {w : Counts} → o ≡ ok a w → (before value : B) → value ≡ f a → (0 ≡ status o) × (value ≡ output f before o)
@@ -64,14 +65,23 @@ copied out xs e = part-stored out xs ∙ ap (storedBy (length xs)) e
 pub moved : (x y out : List ℤ) → x ≡ y → (r count₀ count : ℕ) (now : List ℤ) → (r ≡ status (partInto x out .answer)) × ((now ≡ partInto x out .out) × (count ≡ output (λ (n : ℕ). n) count₀ (partInto x out .answer))) → (r ≡ status (partInto y out .answer)) × ((now ≡ partInto y out .out) × (count ≡ output (λ (n : ℕ). n) count₀ (partInto y out .answer)))
 moved x y out e r count₀ count now p = rw e at p
 
--- ---- ints that are there or not
+-- ---- a place of a walk
 
-pub not-given : (has : ℕ) (l : List ℤ) → has ≡ 0 → given has l ≡ none
-not-given has l e = rw e refl
+module _ (o : Outcome (Option ℤ)) where
+  pub walk-found : {x : Option ℤ} {w : Counts} → o ≡ ok x w → (key₀ key : ℤ) (end : ℕ) → key ≡ keyOr key₀ x → (0 ≡ status o) × ((key ≡ output (keyOr key₀) key₀ o) × (ended x ≡ output ended end o))
+  walk-found e key₀ key end p = rw (e, p) (refl, (refl, refl))
 
-pub is-given : (has : ℕ) (l : List ℤ) → (has ≡ 0 → ⊥) → given has l ≡ some l
-is-given zero l f = absurd (f refl)
-is-given (suc n) l f = refl
+  pub walk-refused : {n : ℕ} {w : Counts} → o ≡ err n w → (r : ℕ) (key : ℤ) (end : ℕ) → r ≡ n → (r ≡ status o) × ((key ≡ output (keyOr key) key o) × (end ≡ output ended end o))
+  walk-refused e r key end p = rw (e, p) (refl, (refl, refl))
+
+-- ---- a value that is there or not
+
+module _ {A : Type 0} where
+  pub not-given : (has : ℕ) (x : A) → has ≡ 0 → given has x ≡ none
+  not-given has x e = rw e refl
+
+  pub is-given : (has : ℕ) (x : A) → (has ≡ 0 → ⊥) → given has x ≡ some x
+  is-given has x f = rw (ne-eqb has 0 f) refl
 
 -- ---- a count beside an area and a clashing key
 

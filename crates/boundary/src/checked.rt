@@ -1,9 +1,10 @@
-// The counts in a row, and a count behind a pointer.
+// The counts in a row, a count behind a pointer, and a part that is copied.
 ghost use mathlib.Core.Path.{_≡_};
 ghost use Rattle.format.specs.Totals.{counts};
 ghost use Rattle.format.specs.Answers.{storedInts};
 ghost use Rattle.boundary.specs.Boundary as Boundary;
-ghost use Rattle.boundary.specs.Boundary.{status, output};
+ghost use Rattle.boundary.specs.Boundary.{status, output, partInto};
+use format::Error;
 use format::Stored;
 use format::Warnings;
 
@@ -40,4 +41,17 @@ pub fn told(w: Stored, count: &mut usize) -> u32
         }
         Stored::Refused(e) => format::error_number(e),
     }
+}
+
+// Ints into the front of out.
+pub fn part_into(part: &[i32], out: &mut [i32], count: &mut usize) -> u32
+    ensures { λ r. ⌜ r ≡ status (partInto (now (part .entry)) (now (out .entry)) .answer) ⌝ }
+    ensures { λ _. ⌜ now (out .exit) ≡ partInto (now (part .entry)) (now (out .entry)) .out ⌝ }
+    ensures { λ _. ⌜ now (count .exit) ≡ output (λ n. n) (now (count .entry)) (partInto (now (part .entry)) (now (out .entry)) .answer) ⌝ }
+{
+    if ints::copy_into(out, 0, part) {
+        *count = part.len();
+        return 0;
+    }
+    format::error_number(Error::CapacityError)
 }

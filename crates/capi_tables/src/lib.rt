@@ -6,6 +6,7 @@ ghost use Rattle.definitions.specs.Tables.{keyOf};
 ghost use Rattle.definitions.specs.TableCalls.{emptyCall, readCall, readFromIntsCall, writeToIntsCall, writeCall, numItemsCall, hasItemCall, itemCall, crcCall, walkKeyCall, walkItemCall, addItemCall};
 ghost use Rattle.boundary.specs.Boundary as Boundary;
 ghost use Rattle.boundary.specs.Boundary.{status, warningsOf, output, flag, partInto, keyOr, ended};
+use boundary::checked::part_into;
 use boundary::checked::row;
 use boundary::checked::told;
 use packer::IntWrite;
@@ -13,19 +14,6 @@ use raw_snap::Checksum;
 use raw_snap::Count;
 use raw_snap::Has;
 use raw_snap::Walked;
-
-// Ints into the front of out.
-fn part_into(part: &[i32], out: &mut [i32], count: &mut usize) -> u32
-    ensures { λ r. ⌜ r ≡ status (partInto (now (part .entry)) (now (out .entry)) .answer) ⌝ }
-    ensures { λ _. ⌜ now (out .exit) ≡ partInto (now (part .entry)) (now (out .entry)) .out ⌝ }
-    ensures { λ _. ⌜ now (count .exit) ≡ output (λ n. n) (now (count .entry)) (partInto (now (part .entry)) (now (out .entry)) .answer) ⌝ }
-{
-    if ints::copy_into(out, 0, part) {
-        *count = part.len();
-        return 0;
-    }
-    format::error_number(format::Error::CapacityError)
-}
 
 // The empty table into the front of out.
 #[no_mangle]

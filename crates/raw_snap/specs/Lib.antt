@@ -1,2 +1,3 @@
--- What the answers of `raw_snap` mean. Assumes nothing.
+-- What the answers of `raw_snap` mean, and what applying a delta comes to. Assumes nothing.
 pub mod Answers
+pub mod Applied

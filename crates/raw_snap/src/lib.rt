@@ -4,6 +4,7 @@ ghost use lib.ListN.{length};
 ghost use Rattle.definitions.specs.Areas.{cleared};
 ghost use Rattle.definitions.specs.Tables.{keyOf};
 ghost use Rattle.definitions.specs.TableCalls.{emptyCall, readCall, readFromIntsCall, writeToIntsCall, writeCall, numItemsCall, hasItemCall, itemCall, crcCall, walkKeyCall, walkItemCall};
+ghost use Rattle.definitions.specs.Applying.{rawReadWithDeltaCall};
 ghost use Rattle.packer.specs.Answers.{intWrite};
 ghost use Rattle.format.specs.Totals.{counts};
 ghost use Rattle.format.specs.Answers.{storedInts, storedWith};
@@ -155,6 +156,16 @@ pub fn read(src: &[u8], out: &mut [i32], scratch: &mut [i32]) -> Reading
     read
 }
 
+// The table that a delta makes of its base, into the front of out: how many ints it takes there. Scratch has 16,384 entries or more; it is
+// zeros afterwards. A refused call leaves out as it was.
+pub fn read_with_delta(base: &[i32], delta: &[i32], out: &mut [i32], scratch: &mut [i32]) -> Reading
+    ensures { λ r. ⌜ (rawReadWithDeltaCall (now (base .entry)) (now (delta .entry)) (now (out .entry)) (length (now (scratch .entry))) ≡ record { answer = storedWith (r .answer) (counts (r .warnings)); out = now (out .exit) }) × (now (scratch .exit) ≡ cleared (now (scratch .entry))) ⌝ }
+{
+    let read = checked::apply_delta(base, delta, out, scratch.len());
+    ints::clear(scratch);
+    read
+}
+
 // A table's written form, into the front of out: how many ints; where it does not fit, out is left as it was.
 pub fn write_to_ints(area: &[i32], out: &mut [i32]) -> Stored
     ensures { λ r. ⌜ writeToIntsCall (now (area .entry)) (now (out .entry)) ≡ record { answer = storedInts r; out = now (out .exit) } ⌝ }
@@ -162,10 +173,7 @@ pub fn write_to_ints(area: &[i32], out: &mut [i32]) -> Stored
     let TableForm::Table { items: _, ints: n } = table::checked::form(area) else {
         return Stored::Refused(Error::NotInForm);
     };
-    if ints::copy_into(out, 0, &area[..n]) {
-        return Stored::Ints(n);
-    }
-    Stored::Refused(Error::CapacityError)
+    checked::copy_table(area, n, out)
 }
 
 // A table packed, into the front of out: how many bytes; where it does not fit, out is left as it was.

@@ -3,3 +3,4 @@ pub mod Naming
 pub mod Counted
 pub mod Placing
 pub mod Calls
+pub mod Applied

@@ -1,4 +1,4 @@
-// The steps of reading a table with types, and types of a table in form.
+// The steps of reading a table with types and of applying a delta, and types of a table in form.
 ghost use mathlib.Core.Path.{_≡_};
 ghost use mathlib.Core.List.{_∷_, []};
 ghost use Prim.Native.Nat.{_<_};
@@ -8,7 +8,7 @@ ghost use Rattle.definitions.specs.Outcome.{return};
 ghost use Rattle.definitions.specs.Tables.{items, itemAt, keyOf};
 ghost use Rattle.definitions.specs.Tables as Tables;
 ghost use Rattle.definitions.specs.TableCalls.{storedTable};
-ghost use Rattle.definitions.specs.Types.{typedReadCall, typedReadFromIntsCall, sameInts, kindNumber, typeId};
+ghost use Rattle.definitions.specs.Types.{typedReadCall, typedReadFromIntsCall, typedReadWithDeltaCall, sameInts, kindNumber, typeId};
 ghost use Rattle.laws.specs.WarningLaws.{packed};
 ghost use Rattle.format.specs.Totals.{counts};
 ghost use Rattle.format.specs.Answers.{storedWith};
@@ -17,6 +17,8 @@ ghost use Rattle.raw_snap.specs.Answers.{hasItem};
 ghost use Rattle.table_reading.specs.Answers.{excess};
 ghost use Rattle.table_reading.specs.Reading.{Ints};
 ghost use Rattle.types.specs.Answers.{uuidExcess};
+ghost use Rattle.typed_applying.specs.Answers.{typedCounts, Stands};
+ghost use Rattle.typed_applying.specs.Answers as Applying;
 ghost use Rattle.snap.specs.Answers.{typeOf, rawType, typeFound, numberIn, namesKind, typedItems, typedTable, rawTypeIn};
 use super::RawTypeId;
 use super::TypeFound;
@@ -26,6 +28,9 @@ use format::Reading;
 use format::Stored;
 use format::Warnings;
 use raw_snap::Has;
+use raw_snap::checked::Areas;
+use raw_snap::checked::copy_table;
+use raw_snap::checked::judge_areas;
 use raw_snap::checked::refused;
 use table::checked::data_at;
 use table::checked::find;
@@ -35,6 +40,9 @@ use table_reading::checked::Placed;
 use table_reading::checked::place_items;
 use table_reading::checked::read_header;
 use table_reading::checked::write_table;
+use typed_applying::checked::Table;
+use typed_applying::checked::Typed;
+use typed_applying::checked::apply_typed;
 use types::checked::Types;
 use types::checked::judge;
 
@@ -169,6 +177,64 @@ pub fn read_packed(src: &[u8], out: &mut [i32], scratch: &mut [i32]) -> Reading
     Reading {
         answer,
         warnings: warnings(all.overlong, all.padding, all.cut, read.excess, read.kinds),
+    }
+}
+
+// The warnings of applying a delta: whether the base lacks a deleted key, and how many kinds have more than four ints.
+pub fn applied_warnings(unknown_delete: bool, long: usize) -> Warnings
+    ensures { λ r. ⌜ counts r ≡ typedCounts «unknown_delete» long ⌝ }
+{
+    Warnings {
+        overlong_int_encoding: 0,
+        non_zero_int_padding: 0,
+        non_zero_padding: 0,
+        duplicate_delete: 0,
+        duplicate_update: 0,
+        unknown_delete: ints::one_if(unknown_delete),
+        delete_update: 0,
+        num_updated_items: 0,
+        excess_snap_data: 0,
+        excess_uuid_item_data: long,
+        duplicate_snap: 0,
+        differing_attributes: 0,
+        weird_negative_delta_tick: 0,
+    }
+}
+
+// What a delta made at the front of an area, into the front of out.
+pub fn store_made(made: Typed, area: &[i32], out: &mut [i32]) -> Reading
+    requires { ⌜ Stands (now area) (made .table) ⌝ }
+    ensures { λ r. ⌜ storedTable (now (out .entry)) (Applying.typedTable (items (now (area .entry))) made) ≡ record { answer = storedWith (r .answer) (counts (r .warnings)); out = now (out .exit) } ⌝ }
+{
+    let warnings = applied_warnings(made.unknown_delete, made.excess);
+    let table = made.table;
+    match table {
+        Table::Refused(e) => Reading {
+            answer: Stored::Refused(e),
+            warnings,
+        },
+        Table::Made { items: _, ints } => {
+            let answer = copy_table(area, ints, out);
+            Reading { answer, warnings }
+        }
+    }
+}
+
+// The table that a delta makes of its base, with sound types, into the front of out. What scratch then holds is of no account.
+pub fn apply_delta(base: &[i32], delta: &[i32], out: &mut [i32], scratch: &mut [i32]) -> Reading
+    ensures { λ r. ⌜ typedReadWithDeltaCall (now (base .entry)) (now (delta .entry)) (now (out .entry)) (length (now (scratch .entry))) ≡ record { answer = storedWith (r .answer) (counts (r .warnings)); out = now (out .exit) } ⌝ }
+{
+    let areas = judge_areas(base, delta, scratch.len());
+    match areas {
+        Areas::Refused(e) => refused(e),
+        Areas::Held {
+            items,
+            deleted,
+            updated,
+        } => {
+            let made = apply_typed(base, items, delta, deleted, updated, scratch);
+            store_made(made, scratch, out)
+        }
     }
 }
 

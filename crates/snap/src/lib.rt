@@ -2,7 +2,7 @@
 ghost use mathlib.Core.Path.{_≡_};
 ghost use lib.ListN.{length};
 ghost use Rattle.definitions.specs.Areas.{cleared};
-ghost use Rattle.definitions.specs.Types.{typedReadCall, typedReadFromIntsCall, typedItemCall, typedHasItemCall, rawTypeIdCall, typeIdCall};
+ghost use Rattle.definitions.specs.Types.{typedReadCall, typedReadFromIntsCall, typedReadWithDeltaCall, typedItemCall, typedHasItemCall, rawTypeIdCall, typeIdCall};
 ghost use Rattle.format.specs.Totals.{counts};
 ghost use Rattle.format.specs.Answers.{storedWith};
 ghost use Rattle.raw_snap.specs.Answers.{hasItem};
@@ -53,6 +53,16 @@ pub fn read(src: &[u8], out: &mut [i32], scratch: &mut [i32]) -> Reading
     ensures { λ r. ⌜ (typedReadCall (now (src .entry)) (now (out .entry)) (length (now (scratch .entry))) ≡ record { answer = storedWith (r .answer) (counts (r .warnings)); out = now (out .exit) }) × (now (scratch .exit) ≡ cleared (now (scratch .entry))) ⌝ }
 {
     let read = checked::read_packed(src, out, scratch);
+    ints::clear(scratch);
+    read
+}
+
+// The table that a delta makes of its base, with sound types, into the front of out: how many ints it takes there. Scratch has 16,384 entries
+// or more; it is zeros afterwards. A refused call leaves out as it was.
+pub fn read_with_delta(base: &[i32], delta: &[i32], out: &mut [i32], scratch: &mut [i32]) -> Reading
+    ensures { λ r. ⌜ (typedReadWithDeltaCall (now (base .entry)) (now (delta .entry)) (now (out .entry)) (length (now (scratch .entry))) ≡ record { answer = storedWith (r .answer) (counts (r .warnings)); out = now (out .exit) }) × (now (scratch .exit) ≡ cleared (now (scratch .entry))) ⌝ }
+{
+    let read = checked::apply_delta(base, delta, out, scratch);
     ints::clear(scratch);
     read
 }

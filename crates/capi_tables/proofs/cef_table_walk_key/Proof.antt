@@ -1,24 +1,11 @@
 -- `capi_tables::cef_table_walk_key` meets its contract: by what `walk_key` answered. Assumes nothing.
 use mathlib.Core.Path.{_≡_, refl, ap, _∙_}
-use mathlib.Core.Option.{Option, some, none}
-use Prim.Native.Nat.{ℕ}
-use lib.IntN.{ℤ}
 use mir.Facts.{toZ-ofZ}
-use Rattle.definitions.specs.Warnings.{Counts}
-use Rattle.definitions.specs.Outcome.{Outcome, ok, err}
 use Rattle.raw_snap.specs.Answers.{walked}
-use Rattle.boundary.specs.Boundary.{status, output, keyOr, ended}
+use Rattle.boundary.specs.Outcomes.{walk-found, walk-refused}
 use borrow.Author.Needs.{needs}
 use Rattle.capi_tables.proofs.cef_table_walk_key.Statement.{statement}
 use Rattle.capi_tables.proofs.cef_table_walk_key.Tie as tie
-
--- what the outputs hold, from the outcome
-module _ (o : Outcome (Option ℤ)) where
-  found : {x : Option ℤ} {w : Counts} → o ≡ ok x w → (key₀ key : ℤ) (end : ℕ) → key ≡ keyOr key₀ x → (0 ≡ status o) × ((key ≡ output (keyOr key₀) key₀ o) × (ended x ≡ output ended end o))
-  found e key₀ key end p = rw (e, p) (refl, (refl, refl))
-
-  refused : {n : ℕ} {w : Counts} → o ≡ err n w → (r : ℕ) (key : ℤ) (end : ℕ) → r ≡ n → (r ≡ status o) × ((key ≡ output (keyOr key) key o) × (end ≡ output ended end o))
-  refused e r key end p = rw (e, p) (refl, (refl, refl))
 
 walk-key-requires : tie.Need-walk-key-requires
 walk-key-requires c κs = search needs
@@ -36,13 +23,13 @@ error-number-requires : tie.Need-error-number-requires
 error-number-requires c κs = search needs
 
 returns : tie.Need-returns
-returns c = found _ (c .before .before .before .walk-key .ensures ∙ ap walked (c .before .w .given .1)) _ _ _ (toZ-ofZ (record { sfits = c .known-told .given .0 .1 }))
+returns c = walk-found _ (c .before .before .before .walk-key .ensures ∙ ap walked (c .before .w .given .1)) _ _ _ (toZ-ofZ (record { sfits = c .known-told .given .0 .1 }))
 
 returns-2 : tie.Need-returns-2
-returns-2 c = found _ (c .before .before .walk-key .ensures ∙ ap walked (c .enum-told .given .1)) _ _ _ refl
+returns-2 c = walk-found _ (c .before .before .walk-key .ensures ∙ ap walked (c .enum-told .given .1)) _ _ _ refl
 
 returns-3 : tie.Need-returns-3
-returns-3 c = refused _ (c .before .before .before .before .walk-key .ensures ∙ ap walked (c .before .before .w2 .given .1)) _ _ _ (c .error-number .ensures)
+returns-3 c = walk-refused _ (c .before .before .before .before .walk-key .ensures ∙ ap walked (c .before .before .w2 .given .1)) _ _ _ (c .error-number .ensures)
 
 pub cef-table-walk-key-spec : {M : Type 1} → statement M
 cef-table-walk-key-spec =

@@ -1,5 +1,5 @@
 -- `boundary::checked::told` meets its contract: by the answer. Assumes nothing.
-use mathlib.Core.Path.{_≡_, refl, ap, _∙_}
+use mathlib.Core.Path.{ap}
 use Prim.Native.Nat.{ℕ}
 use Rattle.format.specs.Answers.{storedInts}
 use Rattle.boundary.specs.Outcomes.{refused}

@@ -1,0 +1,2 @@
+-- Facts that the proofs of `capi_snaps` share. Assumes nothing.
+pub mod Calls

@@ -1,0 +1,2 @@
+-- How types look from C. Assumes nothing.
+pub mod Types
