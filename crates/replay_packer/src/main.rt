@@ -1,5 +1,7 @@
 // Replays recorded cases on packed integers: each line of the standard input is a case, and gets one line of answer.
 //     r AT HEX        an int is read: VALUE NEXT OVERLONG PADDING, or refused 1
+//     b AT HEX        the same by a reader over the bytes: VALUE AT LEFT EMPTY OVERLONG PADDING, or refused 1 AT LEFT EMPTY
+//     i AT INT..      the same by a reader over the ints
 //     w ROOM AT INT   an int is written into ROOM bytes aa: NEXT HEX, or refused 40 HEX
 //     u ROOM HEX      all ints are unpacked: COUNT CUT OVERLONG PADDING INT.., or refused 40 OVERLONG PADDING
 use format::Error;
@@ -18,6 +20,7 @@ use replay_text::put_number;
 use replay_text::put_odd;
 use replay_text::put_refused;
 use replay_text::word;
+use unpacker::Reading;
 
 // The counts of the packer's two warnings.
 fn put_warnings(out: &mut [u8], at: usize, w: Warnings) -> usize {
@@ -43,6 +46,51 @@ fn read_case(line: &[u8], out: &mut [u8]) -> usize {
     let end = put_next(out, end, next);
     let end = put_next(out, end, ints::one_if(overlong));
     put_next(out, end, ints::one_if(padding))
+}
+
+// Where a reader stands after a read: its place, how many entries are left, and whether none are.
+fn put_standing(out: &mut [u8], at: usize, r: Reading) -> usize {
+    let end = put_next(out, at, r.at);
+    let end = put_next(out, end, r.left);
+    put_next(out, end, ints::one_if(r.empty))
+}
+
+// What a reader answered.
+fn put_reading(out: &mut [u8], r: Reading) -> usize {
+    let read = r.read;
+    let IntRead::Int {
+        value,
+        overlong,
+        padding,
+        ..
+    } = read
+    else {
+        let end = put_refused(out, Error::UnexpectedEnd);
+        return put_standing(out, end, r);
+    };
+    let end = put_int(out, 0, value);
+    let end = put_standing(out, end, r);
+    let end = put_next(out, end, ints::one_if(overlong));
+    put_next(out, end, ints::one_if(padding))
+}
+
+// The answer of b AT HEX.
+fn bytes_case(line: &[u8], out: &mut [u8]) -> usize {
+    let mut src = [0u8; 64];
+    let len = replay_text::bytes(word(line, 2), &mut src);
+    let at = replay_text::number(word(line, 1));
+    put_reading(out, unpacker::read_bytes(&src[..len], at))
+}
+
+// The answer of i AT INT..; the place is the first of the line's ints.
+fn ints_case(line: &[u8], out: &mut [u8]) -> usize {
+    let mut src = [0i32; 65];
+    let len = replay_text::ints(line, &mut src);
+    let at = replay_text::number(word(line, 1));
+    if len == 0 {
+        return put_odd(out);
+    }
+    put_reading(out, unpacker::read_ints(&src[1..len], at))
 }
 
 // The answer of w ROOM AT INT.
@@ -110,6 +158,8 @@ fn answer(line: &[u8], out: &mut [u8]) -> usize {
     }
     match line[0] {
         b'r' => read_case(line, out),
+        b'b' => bytes_case(line, out),
+        b'i' => ints_case(line, out),
         b'w' => write_case(line, out),
         b'u' => unpack_case(line, out),
         _ => put_odd(out),

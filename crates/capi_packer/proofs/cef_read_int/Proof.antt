@@ -1,5 +1,5 @@
 -- `capi_packer::cef_read_int` meets its contract: by what `read_int` found. Assumes nothing.
-use mathlib.Core.Path.{_≡_, refl, sym, ap, ap₂, _∙_}
+use mathlib.Core.Path.{_≡_, refl, ap, _∙_}
 use mathlib.Core.List.{List}
 use Prim.Native.Nat.{ℕ}
 use lib.IntN.{ℤ}
@@ -10,7 +10,6 @@ use Rattle.definitions.specs.Warnings.{Counts}
 use Rattle.definitions.specs.Outcome.{Outcome, ok, err, refuse}
 use Rattle.definitions.specs.Packed.{warned}
 use Rattle.definitions.specs.Packer.{IntAt, readIntAt}
-use Rattle.laws.specs.WarningLaws.{packed, warned-packed}
 use Rattle.packer.specs.Answers.{intRead}
 use Rattle.boundary.specs.Boundary.{row, status, warningsOf, output}
 use borrow.Author.Needs.{needs}
@@ -50,29 +49,16 @@ returns c =
     c .before .before .before .before .before .read-int .ensures ∙ ap intRead (c .before .before .before .enum-told .given .1) in
     refused _ e _ _ _ _ (c .error-number .ensures) (c .before .row .ensures ∙ ap row (c .before .before .none .ensures))
 
-one-if-requires : tie.Need-one-if-requires
-one-if-requires c κs = search needs
-
-one-if-requires-2 : tie.Need-one-if-requires-2
-one-if-requires-2 c κs = search needs
-
-packed-warnings-requires : tie.Need-packed-warnings-requires
-packed-warnings-requires c κs = search needs
-
-row-requires-2 : tie.Need-row-requires-2
-row-requires-2 c κs = search needs
+warned-row-requires : tie.Need-warned-row-requires
+warned-row-requires c κs = search needs
 
 returns-2 : tie.Need-returns-2
 returns-2 c =
-    let a = c .before .before .before .before .before .before .before .before .before .args in
-    let g = c .before .before .before .before .before .v .given in
+    let a = c .before .before .before .before .before .before .args in
+    let g = c .before .before .v .given in
     let e : readIntAt (a .src .now) (a .at) ≡ ok (record { value = g .0 .0; next = g .0 .1 .0 }) (warned (g .0 .1 .1 .0) (g .0 .1 .1 .1 .0)) =
-    c .before .before .before .before .before .before .before .read-int .ensures ∙ ap intRead (g .1) in
-    let w =
-    c .before .packed-warnings .ensures
-    ∙ ap₂ packed (c .before .before .before .one-if .ensures) (c .before .before .one-if2 .ensures)
-    ∙ sym (warned-packed (g .0 .1 .1 .0) (g .0 .1 .1 .1 .0)) in
-    found _ e _ _ _ _ (toZ-ofZ (record { sfits = c .before .before .before .before .known-told .given .0 .1 })) (c .row2 .ensures ∙ ap row w)
+    c .before .before .before .before .read-int .ensures ∙ ap intRead (g .1) in
+    found _ e _ _ _ _ (toZ-ofZ (record { sfits = c .before .known-told .given .0 .1 })) (c .warned-row .ensures)
 
 pub cef-read-int-spec : {M : Type 1} → statement M
 cef-read-int-spec =
@@ -85,8 +71,5 @@ cef-read-int-spec =
     row-requires
     error-number-requires
     returns
-    one-if-requires
-    one-if-requires-2
-    packed-warnings-requires
-    row-requires-2
+    warned-row-requires
     returns-2)

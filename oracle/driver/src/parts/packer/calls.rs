@@ -14,7 +14,7 @@ use cefdugar::plain;
 use cefdugar::Refusal;
 use cefdugar::Warnings;
 
-const LEFT_WARNINGS: Warnings = Warnings([LEFT_SIZE; cefdugar::WARNINGS]);
+pub const LEFT_WARNINGS: Warnings = Warnings([LEFT_SIZE; cefdugar::WARNINGS]);
 
 /// What the caller holds after `read_int`.
 #[derive(Clone, Copy, Debug, PartialEq)]
@@ -42,7 +42,7 @@ struct Unpacked {
 }
 
 /// A number and a value as the safe calls answer them.
-fn answer<T>(number: u32, value: T) -> Result<T, Refusal> {
+pub fn answer<T>(number: u32, value: T) -> Result<T, Refusal> {
     match number {
         0 => Ok(value),
         number => Err(Refusal(number)),

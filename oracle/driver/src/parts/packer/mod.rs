@@ -1,9 +1,10 @@
-//! Packed integers: `read_int`, `write_int`, `unpack`.
+//! Packed integers: `read_int`, `write_int`, `unpack`, and the readers.
 
 mod bench;
 mod calls;
 mod inputs;
 mod oracle;
+mod readers;
 mod record;
 
 use super::Part;
@@ -55,13 +56,11 @@ fn compare(run: &mut Run) -> Result {
 
 /// Reads at every place of `src` and outside of it.
 fn read_everywhere(run: &mut Run, calls: &mut Calls, src: &[u8]) -> Result {
-    for at in 0..=src.len() + 2 {
+    for at in (0..=src.len() + 2).chain(inputs::FAR) {
         calls.read(run, src, at)?;
+        readers::bytes_at(run, src, at)?;
     }
-    for at in inputs::FAR {
-        calls.read(run, src, at)?;
-    }
-    Ok(())
+    readers::bytes(run, src)
 }
 
 /// Unpacks `src` into an area of exactly enough room, one less, one more and
@@ -86,6 +85,7 @@ fn short_strings(run: &mut Run, calls: &mut Calls) -> Result {
             unpack_all_rooms(run, calls, &[a, b])?;
             for c in 0..=255 {
                 calls.read(run, &[a, b, c], 0)?;
+                readers::bytes(run, &[a, b, c])?;
                 for spare in [1, 0, -1] {
                     calls.unpack(run, &[a, b, c], spare)?;
                 }
@@ -108,6 +108,7 @@ fn telling_strings(run: &mut Run, calls: &mut Calls) -> Result {
         for number in 0..inputs::TELLING.len().pow(len) {
             let src = inputs::numbered(number, len, &inputs::TELLING);
             calls.read(run, &src, 0)?;
+            readers::bytes(run, &src)?;
             calls.unpack(run, &src, 1)?;
         }
     }
@@ -149,6 +150,7 @@ fn lists(run: &mut Run, calls: &mut Calls) -> Result {
         for number in 0..inputs::LIST_INTS.len().pow(len) {
             let list = inputs::numbered(number, len, &inputs::LIST_INTS);
             calls.write_list(run, &list)?;
+            readers::ints(run, &list)?;
             unpack_all_rooms(run, calls, &oracle::packed(&list))?;
         }
     }
@@ -177,6 +179,7 @@ fn random_strings(run: &mut Run, calls: &mut Calls, random: &mut Random) -> Resu
             if len <= 1_000 {
                 read_everywhere(run, calls, &src)?;
             } else {
+                readers::bytes(run, &src)?;
                 for _ in 0..20 {
                     let at = random.below(len + 2);
                     calls.read(run, &src, at)?;
@@ -195,11 +198,13 @@ fn damaged_lists(run: &mut Run, calls: &mut Calls, random: &mut Random) -> Resul
         let len = random.below(40);
         let list: Vec<i32> = (0..len).map(|_| random.int()).collect();
         calls.write_list(run, &list)?;
+        readers::ints(run, &list)?;
         let mut src = oracle::packed(&list);
         for _ in 0..random.between(1, 3) {
             damage(&mut src, random);
         }
         unpack_all_rooms(run, calls, &src)?;
+        readers::bytes(run, &src)?;
         let at = random.below(src.len() + 1);
         calls.read(run, &src, at)?;
     }

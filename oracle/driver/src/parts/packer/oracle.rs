@@ -5,8 +5,10 @@ use crate::core::oracle::Number;
 use crate::core::oracle::Tally;
 use crate::core::told::told;
 use crate::core::told::Told;
+use cefdugar::Standing;
 use cefdugar::Warnings;
 use libtw2_packer::with_packer;
+use libtw2_packer::IntUnpacker;
 use libtw2_packer::Unpacker;
 
 /// The int at place `at`, and the place after it.
@@ -23,6 +25,52 @@ pub fn read_int(src: &[u8], at: usize) -> (Told<(i32, usize)>, Warnings) {
         }
     });
     (said, tally.0)
+}
+
+/// What a reader says, and where it then stands.
+pub struct Stood {
+    pub said: Told<i32>,
+    pub standing: Standing,
+    pub warnings: Warnings,
+}
+
+/// The next int of a reader whose bytes begin at place `from`.
+pub fn unpacker_read_int(from: usize, unpacker: &mut Unpacker) -> Stood {
+    let mut tally = Tally::default();
+    let said = told(|| {
+        unpacker
+            .read_int(&mut tally)
+            .map_err(|error| error.number())
+    });
+    Stood {
+        said,
+        standing: Standing {
+            at: from + unpacker.num_bytes_read(),
+            left: unpacker.as_slice().len(),
+            empty: unpacker.is_empty(),
+        },
+        warnings: tally.0,
+    }
+}
+
+/// The same of a reader at any place; outside of the bytes, one at their end.
+pub fn unpacker_read_int_at(src: &[u8], at: usize) -> Stood {
+    let from = at.min(src.len());
+    unpacker_read_int(from, &mut Unpacker::new(&src[from..]))
+}
+
+/// The next int of a reader over `len` ints.
+pub fn int_unpacker_read_int(len: usize, unpacker: &mut IntUnpacker) -> Stood {
+    let said = told(|| unpacker.read_int().map_err(|error| error.number()));
+    Stood {
+        said,
+        standing: Standing {
+            at: len - unpacker.as_slice().len(),
+            left: unpacker.as_slice().len(),
+            empty: unpacker.is_empty(),
+        },
+        warnings: Warnings::default(),
+    }
 }
 
 /// The place after the int.

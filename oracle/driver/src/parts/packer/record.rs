@@ -1,17 +1,21 @@
 //! Recorded answers on packed integers.
 //!
 //!     r AT HEX        VALUE NEXT OVERLONG PADDING, or refused 1
+//!     b AT HEX        by a reader: VALUE AT LEFT EMPTY OVERLONG PADDING, or refused 1 AT LEFT EMPTY
+//!     i AT INT..      the same by a reader over ints
 //!     w ROOM AT INT   NEXT HEX, or refused 40 HEX (an area of ROOM bytes aa)
 //!     u ROOM HEX      COUNT CUT OVERLONG PADDING INT.., or refused 40 OVERLONG PADDING
 
 use super::inputs;
 use super::oracle;
+use super::oracle::Stood;
 use crate::core::damage::damage;
 use crate::core::random::Random;
 use crate::core::record::Record;
 use crate::core::text::hex;
 use crate::core::told::Told;
 use cefdugar::Warnings;
+use libtw2_packer::IntUnpacker;
 
 const MOST_BYTES: usize = 64;
 const MOST_INTS: usize = 64;
@@ -34,6 +38,31 @@ fn read(record: &mut Record, src: &[u8], at: usize) {
         Told::Panicked => unreachable!("the Rust reads without a panic"),
     };
     record.case(&format!("r {at} {}", hex(src)), &answer);
+    let stood = oracle::unpacker_read_int_at(src, at);
+    record.case(&format!("b {at} {}", hex(src)), &standing(&stood));
+}
+
+/// What a reader answered.
+fn standing(stood: &Stood) -> String {
+    let at = stood.standing.at;
+    let left = stood.standing.left;
+    let empty = u32::from(stood.standing.empty);
+    match stood.said {
+        Told::Value(value) => format!("{value} {at} {left} {empty} {}", counts(&stood.warnings)),
+        Told::Refused(number) => format!("refused {number} {at} {left} {empty}"),
+        Told::Panicked => unreachable!("the Rust reads without a panic"),
+    }
+}
+
+/// A reader over ints, at each of its places and behind them.
+fn read_ints(record: &mut Record, list: &[i32]) {
+    assert!(list.len() <= MOST_INTS);
+    let ints: String = list.iter().map(|int| format!(" {int}")).collect();
+    let mut unpacker = IntUnpacker::new(list);
+    for at in (0..=list.len() + 1).chain([FAR]) {
+        let stood = oracle::int_unpacker_read_int(list.len(), &mut unpacker);
+        record.case(&format!("i {at}{ints}"), &standing(&stood));
+    }
 }
 
 fn write(record: &mut Record, room: usize, at: usize, int: i32) {
@@ -80,6 +109,7 @@ fn marked(record: &mut Record) {
     read(record, &[0x80, 0x80, 0x80, 0x80, 0x10], 0);
     let list = inputs::MARKED.map(|(int, _)| int);
     unpack(record, &oracle::packed(&list), 0);
+    read_ints(record, &list);
 }
 
 fn boundaries(record: &mut Record) {
@@ -137,6 +167,8 @@ fn boundaries(record: &mut Record) {
     }
     unpack(record, &[], 0);
     unpack(record, &[], 3);
+    read_ints(record, &[]);
+    read_ints(record, &[i32::MAX, -1, i32::MIN]);
 }
 
 fn random_cases(record: &mut Record, random: &mut Random) {
@@ -159,6 +191,9 @@ fn random_cases(record: &mut Record, random: &mut Random) {
             src = oracle::packed(&list);
             damage(&mut src, random);
             src.truncate(MOST_BYTES);
+            if i % 16 == 2 {
+                read_ints(record, &list);
+            }
         }
         let spare = random.pick(&[0, 0, 1, 2, -1, -2, -64]);
         unpack(record, &src, spare);

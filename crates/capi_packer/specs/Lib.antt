@@ -1,0 +1,2 @@
+-- What the outputs of `capi_packer` hold. Assumes nothing.
+pub mod Standing

@@ -1,0 +1,3 @@
+-- Facts that the proofs of `unpacker` share. Assumes nothing.
+pub mod PlaceLaws
+pub mod Lending

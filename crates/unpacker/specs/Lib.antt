@@ -1,0 +1,2 @@
+-- What the readers' answers mean. Assumes nothing.
+pub mod Readers
