@@ -1,10 +1,8 @@
 -- What the outputs hold, from a call that is known. Assumes nothing.
 use mathlib.Core.Path.{_≡_, refl, ap, sym, _∙_}
-use mathlib.Core.Bool.{Bool, true, false, not, cond}
 use mathlib.Core.List.{List, [], _∷_}
 use mathlib.Core.Option.{Option, some, none}
 use Prim.Native.Nat.{ℕ}
-use lib.Dec.{eqb}
 use lib.IntN.{ℤ, pos}
 use lib.ListN.{length}
 use Rattle.definitions.specs.Warnings.{Counts}
@@ -13,29 +11,20 @@ use Rattle.definitions.specs.Messages as Messages
 use Rattle.definitions.specs.Messages.{Message, chunkCall}
 use Rattle.delta_chunks.specs.Answers.{chunkOf, bytesOf}
 use Rattle.delta_chunks.specs.declared.Chunk.{Chunk}
-use Rattle.definitions.specs.Receiver.{Receiver, Receives, Taken, leaves, snapCall, snapSingleCall, snapEmptyCall}
+use Rattle.definitions.specs.Receiver.{Receiver, Receives, Taken, leaves}
 use Rattle.format.specs.Numbers.{number}
 use Rattle.format.specs.declared.Error.{Error}
 use Rattle.gamenet_snap.specs.Numbers.{numbers}
 use Rattle.gamenet_snap.specs.declared.SnapMsg.{SnapMsg}
 use Rattle.gamenet_snap.specs.declared.SnapMsg.the-variants as msg
-use Rattle.receiver.specs.States.{receiverOf}
+use Rattle.receiver.specs.States.{receiverWith}
 use Rattle.receiver.specs.Answers.{receivedWith}
-use Rattle.receiver.specs.declared.DeltaReceiver.{DeltaReceiver}
+use Rattle.receiver.specs.declared.checked.Ticks.{Ticks}
 use Rattle.receiver.specs.declared.Received.{Received}
 use Rattle.receiver.specs.declared.Received.the-variants as received
-use Rattle.boundary.specs.Boundary.{flag, row, status, warningsOf, output}
-use Rattle.capi_receiver.specs.Held.{heldReceiver, kindOf, ticksOr, lengthOr, kindOfNumbers, rowOf, kindOfMessage, numbersOr, bytesIn}
-
--- ---- a receiver in its rows
-
-flag-tells : (b : Bool) → not (eqb (cond b 1 0) 0) ≡ b
-flag-tells true = refl
-flag-tells false = refl
-
-pub stored : (r : DeltaReceiver) {p t d k : ℤ} {a b : ℕ} → p ≡ r .«previous_tick» → t ≡ r .tick → d ≡ r .«delta_tick» → k ≡ r .crc → a ≡ flag (r .«has_previous») → b ≡ flag (r .«has_current») → heldReceiver (p ∷ t ∷ d ∷ k ∷ []) (a ∷ b ∷ r .«num_parts» ∷ []) (r .parts) ≡ receiverOf r
-stored r p t d k a b =
-    rw (p, t, d, k, a, b, flag-tells (r .«has_previous»), flag-tells (r .«has_current»)) refl
+use Rattle.boundary.specs.Boundary.{row, status, warningsOf, output}
+use Rattle.boundary_states.specs.Rows.{heldReceiver}
+use Rattle.capi_receiver.specs.Held.{kindOf, ticksOr, lengthOr, kindOfNumbers, rowOf, kindOfMessage, numbersOr, bytesIn}
 
 -- ---- the numbers of a message
 
@@ -107,15 +96,13 @@ unfolding leaves
 kept r rc area second ps js (ok t v) a w e n p f = absurd (f (p w ∙ sym (ap (λ (o : Receives). status (o .answer)) e)))
 kept r rc area second ps js (err k v) a w e n p f = ap (λ (o : Receives). o .receiver) e
 
--- a part by other names of the receiver and the numbers
-pub snap-moved : {r h : Receiver} {t′ d′ n′ p′ k′ t d n p k : ℤ} (x a b : List ℕ) {o : Receives} → r ≡ h → t′ ≡ t → d′ ≡ d → n′ ≡ n → p′ ≡ p → k′ ≡ k → snapCall r (record { tick = t′; deltaTick = d′; numParts = n′; part = p′; crc = k′ }) x a b ≡ o → snapCall h (record { tick = t; deltaTick = d; numParts = n; part = p; crc = k }) x a b ≡ o
-snap-moved x a b r t d n p k e = rw (r, t, d, n, p, k) at e
+-- its ticks stay, and so do the lengths
+pub same-lengths : (t : Ticks) (ticks : List ℤ) (counts lengths lengths' : List ℕ) → heldReceiver ticks counts lengths ≡ receiverWith t lengths' → lengths' ≡ lengths
+same-lengths t ticks counts lengths lengths' e = sym (ap (λ (r : Receiver). r .parts) e)
 
-pub single-moved : {r h : Receiver} {t′ d′ k′ t d k : ℤ} (x a b : List ℕ) {o : Receives} → r ≡ h → t′ ≡ t → d′ ≡ d → k′ ≡ k → snapSingleCall r t′ d′ k′ x a b ≡ o → snapSingleCall h t d k x a b ≡ o
-single-moved x a b r t d k e = rw (r, t, d, k) at e
-
-pub empty-moved : {r h : Receiver} {t′ d′ t d : ℤ} (a b : List ℕ) {o : Receives} → r ≡ h → t′ ≡ t → d′ ≡ d → snapEmptyCall r t′ d′ a b ≡ o → snapEmptyCall h t d a b ≡ o
-empty-moved a b r t d e = rw (r, t, d) at e
+pub still-held : (t : Ticks) (ticks : List ℤ) (counts lengths lengths' : List ℕ) → heldReceiver ticks counts lengths ≡ receiverWith t lengths' → heldReceiver ticks counts lengths' ≡ receiverWith t lengths'
+still-held t ticks counts lengths lengths' e =
+    ap (heldReceiver ticks counts) (same-lengths t ticks counts lengths lengths' e) ∙ e
 
 -- the warnings beside an answer
 warned : (a : Received) (w : Counts) → warningsOf (receivedWith a w) ≡ w

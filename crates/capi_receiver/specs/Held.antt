@@ -1,31 +1,12 @@
--- A receiver in three rows, and what the outputs of a call hold. Assumes nothing.
-use mathlib.Core.Bool.{not, cond}
+-- What the outputs of a call hold. Assumes nothing.
 use mathlib.Core.List.{List, [], _∷_}
 use mathlib.Core.Option.{Option, some, none}
 use Prim.Native.Nat.{ℕ}
-use lib.Dec.{eqb}
 use lib.IntN.{ℤ, pos}
-use lib.ListN.{length, getD}
+use lib.ListN.{length}
 use Rattle.definitions.specs.Messages as Messages
 use Rattle.definitions.specs.Messages.{Message}
 use Rattle.definitions.specs.Receiver as Receiver
-
--- the receiver in its rows: last finished tick, unfinished tick, its base and its sum; whether there are such ticks, and the part count; the parts' lengths
-abbrev pub heldReceiver : List ℤ → List ℕ → List ℕ → Receiver.Receiver
-heldReceiver ticks counts lengths =
-    record {
-      previousTick = cond (not (eqb (getD counts 0 0) 0)) (some (getD ticks 0 (pos 0))) none;
-      current =
-          cond (not (eqb (getD counts 1 0) 0))
-          (some (record {
-            tick = getD ticks 1 (pos 0);
-            deltaTick = getD ticks 2 (pos 0);
-            numParts = getD counts 2 0;
-            crc = getD ticks 3 (pos 0);
-          }))
-          none;
-      parts = lengths;
-    }
 
 -- ---- a delta that was received
 

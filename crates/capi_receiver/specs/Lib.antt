@@ -1,3 +1,3 @@
--- How messages, the receiver and its answers look from C. Assumes nothing.
+-- How messages and the receiver's answers look from C. Assumes nothing.
 pub mod Held
 pub mod Places

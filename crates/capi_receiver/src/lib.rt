@@ -4,65 +4,27 @@ ghost use mathlib.Core.List.{[]};
 ghost use lib.IntN.{pos};
 ghost use Rattle.definitions.specs.Messages.{numChunksCall, chunkCall};
 ghost use Rattle.definitions.specs.Receiver.{freshReceiver, snapCall, snapSingleCall, snapEmptyCall};
-ghost use Rattle.receiver.specs.States.{receiverOf};
 ghost use Rattle.receiver.specs.Answers.{receivedWith};
 ghost use Rattle.boundary.specs.Boundary as Boundary;
 ghost use Rattle.boundary.specs.Boundary.{status, warningsOf, output};
+ghost use Rattle.boundary_states.specs.Rows.{heldReceiver};
 ghost use Rattle.gamenet_snap.specs.Numbers as gamenet;
-ghost use Rattle.capi_receiver.specs.Held.{heldReceiver, kindOf, ticksOr, lengthOr, kindOfNumbers, rowOf, kindOfMessage, numbersOr, bytesIn};
+ghost use Rattle.capi_receiver.specs.Held.{kindOf, ticksOr, lengthOr, kindOfNumbers, rowOf, kindOfMessage, numbersOr, bytesIn};
 ghost use Rattle.definitions.specs.Warnings.{Counts};
 use boundary::checked::row;
+use boundary_states::checked::load_receiver;
+use boundary_states::checked::load_ticks;
+use boundary_states::checked::write_receiver;
+use boundary_states::checked::write_ticks;
 use delta_chunks::Chunk;
 use delta_chunks::NumChunks;
 use gamenet_snap::SnapMsg;
 use receiver::DeltaReceiver;
 use receiver::Received;
-
-// The receiver in three rows.
-fn load(ticks: &[i32; 4], counts: &[u32; 3], lengths: &[u16; 32]) -> DeltaReceiver
-    ensures { λ r. ⌜ receiverOf r ≡ heldReceiver (now (ticks .entry)) (now (counts .entry)) (now (lengths .entry)) ⌝ }
-{
-    let has_previous = counts[0] != 0;
-    let has_current = counts[1] != 0;
-    let previous_tick = ticks[0];
-    let tick = ticks[1];
-    let delta_tick = ticks[2];
-    let num_parts = counts[2];
-    let crc = ticks[3];
-    let parts = *lengths;
-    DeltaReceiver {
-        has_previous,
-        previous_tick,
-        has_current,
-        tick,
-        delta_tick,
-        num_parts,
-        crc,
-        parts,
-    }
-}
-
-// 1 for true, 0 for false.
-fn flag(b: bool) -> u32
-    ensures { λ r. ⌜ r ≡ Boundary.flag b ⌝ }
-{
-    if b {
-        return 1;
-    }
-    0
-}
-
-// A receiver into its rows.
-fn store(r: DeltaReceiver, ticks: &mut [i32; 4], counts: &mut [u32; 3], lengths: &mut [u16; 32])
-    ensures { λ _. ⌜ heldReceiver (now (ticks .exit)) (now (counts .exit)) (now (lengths .exit)) ≡ receiverOf r ⌝ }
-{
-    let has_previous = flag(r.has_previous);
-    let has_current = flag(r.has_current);
-    *ticks = [r.previous_tick, r.tick, r.delta_tick, r.crc];
-    *counts = [has_previous, has_current, r.num_parts];
-    let parts = r.parts;
-    *lengths = parts;
-}
+use receiver::checked::Part;
+use receiver::checked::receive;
+use receiver::whole::receive_empty;
+use receiver::whole::receive_single;
 
 // What a message brought, where it was taken, and the number of the answer.
 fn tell(a: Received, kind: &mut u32, numbers: &mut [i32; 3], len: &mut usize) -> u32
@@ -187,7 +149,7 @@ pub extern "C" fn cef_receiver_new(
 )
     ensures { λ _. ⌜ heldReceiver (now (ticks .exit)) (now (counts .exit)) (now (lengths .exit)) ≡ freshReceiver ⌝ }
 {
-    store(DeltaReceiver::new(), ticks, counts, lengths);
+    write_receiver(DeltaReceiver::new(), ticks, counts, lengths);
 }
 
 // Forgets both ticks.
@@ -199,8 +161,8 @@ pub extern "C" fn cef_receiver_reset(
 )
     ensures { λ _. ⌜ heldReceiver (now (ticks .exit)) (now (counts .exit)) (now (lengths .exit)) ≡ freshReceiver ⌝ }
 {
-    let r = load(ticks, counts, lengths);
-    store(r.reset(), ticks, counts, lengths);
+    let r = load_receiver(ticks, counts, lengths);
+    write_receiver(r.reset(), ticks, counts, lengths);
 }
 
 // Takes a part of a delta; the last one missing joins them all in joined.
@@ -232,15 +194,22 @@ pub extern "C" fn cef_receiver_snap(
     ensures { λ _. ⌜ now (len .exit) ≡ output (lengthOr (now (len .entry))) (now (len .entry)) (snapCall (heldReceiver (now (ticks .entry)) (now (counts .entry)) (now (lengths .entry))) (record { tick = tick; deltaTick = «delta_tick»; numParts = «num_parts»; part = part; crc = crc }) (now («data» .entry)) (now (parts .entry)) (now (joined .entry)) .answer) ⌝ }
     ensures { λ _. ⌜ now (warnings .exit) ≡ Boundary.row (warningsOf (snapCall (heldReceiver (now (ticks .entry)) (now (counts .entry)) (now (lengths .entry))) (record { tick = tick; deltaTick = «delta_tick»; numParts = «num_parts»; part = part; crc = crc }) (now («data» .entry)) (now (parts .entry)) (now (joined .entry)) .answer)) ⌝ }
 {
-    let r = load(ticks, counts, lengths);
-    let s = r.snap(tick, delta_tick, num_parts, part, crc, data, parts, joined);
+    let m = Part {
+        tick,
+        delta_tick,
+        num_parts,
+        part,
+        crc,
+    };
+    let r = load_ticks(ticks, counts);
+    let s = receive(r, m, lengths, data, parts, joined);
     *warnings = row(s.warnings);
     let answer = s.answer;
     let number = tell(answer, kind, received, len);
     if number != 0 {
         return number;
     }
-    store(s.receiver, ticks, counts, lengths);
+    write_ticks(s.ticks, ticks, counts);
     0
 }
 
@@ -269,15 +238,15 @@ pub extern "C" fn cef_receiver_snap_single(
     ensures { λ _. ⌜ now (len .exit) ≡ output (lengthOr (now (len .entry))) (now (len .entry)) (snapSingleCall (heldReceiver (now (ticks .entry)) (now (counts .entry)) (now (lengths .entry))) tick «delta_tick» crc (now («data» .entry)) [] (now (joined .entry)) .answer) ⌝ }
     ensures { λ _. ⌜ now (warnings .exit) ≡ Boundary.row (warningsOf (snapSingleCall (heldReceiver (now (ticks .entry)) (now (counts .entry)) (now (lengths .entry))) tick «delta_tick» crc (now («data» .entry)) [] (now (joined .entry)) .answer)) ⌝ }
 {
-    let r = load(ticks, counts, lengths);
-    let s = r.snap_single(tick, delta_tick, crc, data, joined);
+    let r = load_ticks(ticks, counts);
+    let s = receive_single(r, tick, delta_tick, crc, lengths, data, joined);
     *warnings = row(s.warnings);
     let answer = s.answer;
     let number = tell(answer, kind, received, len);
     if number != 0 {
         return number;
     }
-    store(s.receiver, ticks, counts, lengths);
+    write_ticks(s.ticks, ticks, counts);
     0
 }
 
@@ -302,14 +271,14 @@ pub extern "C" fn cef_receiver_snap_empty(
     ensures { λ _. ⌜ now (len .exit) ≡ output (lengthOr (now (len .entry))) (now (len .entry)) (snapEmptyCall (heldReceiver (now (ticks .entry)) (now (counts .entry)) (now (lengths .entry))) tick «delta_tick» [] [] .answer) ⌝ }
     ensures { λ _. ⌜ now (warnings .exit) ≡ Boundary.row (warningsOf (snapEmptyCall (heldReceiver (now (ticks .entry)) (now (counts .entry)) (now (lengths .entry))) tick «delta_tick» [] [] .answer)) ⌝ }
 {
-    let r = load(ticks, counts, lengths);
-    let s = r.snap_empty(tick, delta_tick);
+    let r = load_ticks(ticks, counts);
+    let s = receive_empty(r, tick, delta_tick, lengths);
     *warnings = row(s.warnings);
     let answer = s.answer;
     let number = tell(answer, kind, received, len);
     if number != 0 {
         return number;
     }
-    store(s.receiver, ticks, counts, lengths);
+    write_ticks(s.ticks, ticks, counts);
     0
 }

@@ -13,17 +13,13 @@ use Rattle.definitions.specs.Messages.{baseTick}
 use Rattle.definitions.specs.Refusals.{oldDelta, invalidNumParts, invalidPart, duplicatePart, scratchTooShort, partTooLong, notInForm}
 use Rattle.definitions.specs.Warnings.{DuplicateSnap, DifferingAttributes}
 use Rattle.definitions.specs.Outcome.{err, require, return, warnIf, _>>_}
-use Rattle.definitions.specs.Receiver.{Receiver, Part, Taken, Receives, finishedAt, isIn, receiverForm, isOld, isCurrent, opened, differs, withPart, putPart, takeSnap, takeSingle, takeEmpty, whole, leaves, snapCall, snapSingleCall, snapEmptyCall}
+use Rattle.definitions.specs.Receiver.{Receiver, Part, Taken, Receives, noParts, finishedAt, isIn, receiverForm, isOld, isCurrent, opened, differs, withPart, putPart, takeSnap, takeSingle, takeEmpty, whole, leaves, snapCall, snapSingleCall, snapEmptyCall}
 use Rattle.format.specs.Totals.{counts}
 use Rattle.format.specs.declared.Warnings.{Warnings}
-use Rattle.receiver.specs.declared.DeltaReceiver.{DeltaReceiver}
+use Rattle.receiver.specs.declared.checked.Ticks.{Ticks}
 use Rattle.receiver.specs.declared.Received.the-variants as received
-use Rattle.receiver.specs.States.{receiverOf}
-use Rattle.receiver.specs.Answers.{answered, flagged, refusing, settled, taking}
-
--- a message by its numbers
-pub named : (r : Receiver) (bytes area second : List ℕ) (t d n p k t' d' n' p' k' : ℤ) (x : Receives) → t' ≡ t → d' ≡ d → n' ≡ n → p' ≡ p → k' ≡ k → snapCall r (record { tick = t'; deltaTick = d'; numParts = n'; part = p'; crc = k' }) bytes area second ≡ x → snapCall r (record { tick = t; deltaTick = d; numParts = n; part = p; crc = k }) bytes area second ≡ x
-named r bytes area second t d n p k t' d' n' p' k' x e f g h i q = rw (← e, ← f, ← g, ← h, ← i) q
+use Rattle.receiver.specs.States.{receiverWith}
+use Rattle.receiver.specs.Answers.{taken, flagged, refusing, settled, taking}
 
 -- ---- a part
 
@@ -114,12 +110,12 @@ module _ (r : Receiver) (tick distance crc : ℤ) (bytes second : List ℕ) wher
 
 -- ---- a whole delta was taken
 
-module _ (w : Warnings) (d : Bool) (tick distance : ℤ) (t b : ℤ) (f : DeltaReceiver) (e : counts w ≡ flagged d false) (i : t ≡ tick) (j : b ≡ baseTick tick distance) (v : receiverOf f ≡ finishedAt tick) (area : List ℕ) where
-  pub single-settled : (n : ℕ) (s crc : ℤ) (second second' : List ℕ) → s ≡ crc → second' ≡ second → settled (flagged d false) (whole tick distance (some (record { length = n; crc = crc })) area second) ≡ answered (record { answer = received.Delta t b n s; warnings = w; receiver = f }) area second'
+module _ (w : Warnings) (d : Bool) (tick distance : ℤ) (t b : ℤ) (f : Ticks) (e : counts w ≡ flagged d false) (i : t ≡ tick) (j : b ≡ baseTick tick distance) (v : receiverWith f noParts ≡ finishedAt tick) (area : List ℕ) where
+  pub single-settled : (n : ℕ) (s crc : ℤ) (second second' : List ℕ) → s ≡ crc → second' ≡ second → settled (flagged d false) (whole tick distance (some (record { length = n; crc = crc })) area second) ≡ taken (record { answer = received.Delta t b n s; warnings = w; ticks = f }) noParts area second'
   unfolding settled
   single-settled n s crc second second' k l = rw (e, i, j, k, l, v)
 
-  pub empty-settled : (second : List ℕ) → settled (flagged d false) (whole tick distance none area second) ≡ answered (record { answer = received.Empty t b; warnings = w; receiver = f }) area second
+  pub empty-settled : (second : List ℕ) → settled (flagged d false) (whole tick distance none area second) ≡ taken (record { answer = received.Empty t b; warnings = w; ticks = f }) noParts area second
   unfolding settled
   empty-settled second = rw (e, i, j, v)
 

@@ -2,19 +2,24 @@
 use mathlib.Core.Bool.{Bool, false, cond}
 use mathlib.Core.List.{List}
 use mathlib.Core.Option.{Option, some, none}
-use Prim.Native.Nat.{ℕ, _*_}
+use Prim.Native.Nat.{ℕ, _*_, _<_, _≤_}
 use lib.ListN.{length}
 use Rattle.definitions.specs.Areas.{layAt}
 use Rattle.definitions.specs.Refusals.{duplicatePart}
 use Rattle.definitions.specs.Warnings.{Counts}
 use Rattle.definitions.specs.Outcome.{Outcome, ok, err, refuse}
 use Rattle.definitions.specs.Receiver as Receiver
+use Rattle.definitions.specs.Tables.{num}
 use Rattle.format.specs.Numbers.{number}
 use Rattle.format.specs.Totals.{counts}
-use Rattle.receiver.specs.States.{receiverOf}
+use Rattle.receiver.specs.States.{receiverOf, receiverWith}
 use Rattle.receiver.specs.declared.Received.{Received}
 use Rattle.receiver.specs.declared.Received.the-variants as received
 use Rattle.receiver.specs.declared.Receiving.{Receiving}
+use Rattle.receiver.specs.declared.checked.Part.{Part}
+use Rattle.receiver.specs.declared.checked.Taking.{Taking}
+use Rattle.receiver.specs.declared.checked.Judged.{Judged}
+use Rattle.receiver.specs.declared.checked.Judged.the-variants as judged
 
 -- an answer with the counts beside it
 abbrev pub receivedWith : Received → Counts → Outcome (Option Receiver.ReceivedDelta)
@@ -30,6 +35,16 @@ answered a area second =
     record {
       answer = receivedWith (a .answer) (counts (a .warnings));
       receiver = receiverOf (a .receiver);
+      parts = area;
+      joined = second;
+    }
+
+-- the same, with the lengths apart
+abbrev pub taken : Taking → List ℕ → List ℕ → List ℕ → Receiver.Receives
+taken a lengths area second =
+    record {
+      answer = receivedWith (a .answer) (counts (a .warnings));
+      receiver = receiverWith (a .ticks) lengths;
       parts = area;
       joined = second;
     }
@@ -76,3 +91,14 @@ taking r m p bytes area second =
     })
     (settled (flagged false (Receiver.differs (Receiver.opened r m .current) m))
     (Receiver.putPart (r .previousTick) (Receiver.withPart (Receiver.opened r m) p (length bytes)) (layAt (900 * p) bytes area) second))
+
+-- what a part comes to, by what was judged of it
+abbrev pub judgedAs : Judged → Receiver.Receiver → Receiver.Part → List ℕ → List ℕ → List ℕ → Receiver.Receives
+judgedAs (judged.Part p) r m bytes area second = taking r m p bytes area second
+judgedAs (judged.Refused e) r m bytes area second = refusing (number e) r area second
+
+-- what is known of a part that may be taken
+abbrev pub Fits : Judged → Part → List ℕ → List ℕ → List ℕ → Type 0
+Fits (judged.Part p) m bytes area second =
+    (num (m .«num_parts») ≤ 32) × (p < 32) × (length bytes ≤ 900) × (28800 ≤ length area) × (28800 ≤ length second)
+Fits (judged.Refused e) m bytes area second = Unit {0}

@@ -1,3 +1,4 @@
 -- What the receiver of the code and its answers mean. Assumes nothing.
 pub mod States
 pub mod Answers
+pub mod Moves

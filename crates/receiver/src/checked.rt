@@ -1,22 +1,46 @@
 // The steps of a message: the receiver's form, what the numbers say, the parts, and how they are joined.
 ghost use mathlib.Core.Path.{_≡_};
-ghost use mathlib.Core.Bool.{true, cond};
+ghost use mathlib.Core.Bool.{Bool, true, cond};
 ghost use mathlib.Core.List.{List};
 ghost use mathlib.Core.Option.{some, none};
 ghost use Prim.Native.Nat.{ℕ, _+_, _*_, _<_, _≤_};
-ghost use lib.ListN.{length};
+ghost use lib.ListN.{length, take, set};
 ghost use Rattle.definitions.specs.Tables as Tables;
 ghost use Rattle.definitions.specs.Areas.{lay, layAt};
 ghost use Rattle.definitions.specs.Receiver as Receiver;
 ghost use Rattle.format.specs.Numbers.{number};
 ghost use Rattle.format.specs.Totals.{counts};
-ghost use Rattle.receiver.specs.States.{receiverOf, previousOf, currentOf, openedOf, partOf, Opens, AddsPart};
-ghost use Rattle.receiver.specs.Answers.{flagged, refusing, settled, taking, answered};
+ghost use Rattle.receiver.specs.States.{ticksOf, receiverOf, receiverWith, previousIn, currentIn, openedWith, partsFor, partOf, Opens};
+ghost use Rattle.receiver.specs.Answers.{flagged, refusing, settled, taking, answered, taken, judgedAs, Fits};
 use super::DeltaReceiver;
 use super::Received;
 use super::Receiving;
 use format::Error;
 use format::Warnings;
+
+// What a receiver holds beside the lengths of its parts.
+pub struct Ticks {
+    pub has_previous: bool,
+    pub previous_tick: i32,
+    pub has_current: bool,
+    pub tick: i32,
+    pub delta_tick: i32,
+    pub num_parts: u32,
+    pub crc: i32,
+}
+
+// What a message comes to where the lengths are changed in place.
+pub struct Taking {
+    pub answer: Received,
+    pub warnings: Warnings,
+    pub ticks: Ticks,
+}
+
+// The number of a part that may be taken, or why it is refused.
+pub enum Judged {
+    Part(usize),
+    Refused(Error),
+}
 
 // The numbers of a part.
 pub struct Part {
@@ -55,22 +79,68 @@ pub fn warnings(duplicate: bool, differing: bool) -> Warnings
     }
 }
 
-// A call that is refused before anything is counted.
-pub fn refused(error: Error, r: DeltaReceiver) -> Receiving
-    ensures { λ a. ⌜ ((area second : List ℕ) → refusing (number error) (receiverOf r) area second ≡ answered a area second) ⌝ }
+// What a receiver holds beside the lengths.
+pub fn ticks_of(r: DeltaReceiver) -> Ticks
+    ensures { λ t. ⌜ t ≡ ticksOf r ⌝ }
 {
-    Receiving {
-        answer: Received::Refused(error),
-        warnings: Warnings::none(),
-        receiver: r,
+    Ticks {
+        has_previous: r.has_previous,
+        previous_tick: r.previous_tick,
+        has_current: r.has_current,
+        tick: r.tick,
+        delta_tick: r.delta_tick,
+        num_parts: r.num_parts,
+        crc: r.crc,
     }
 }
 
-// A receiver without an unfinished tick.
-pub fn without_current(has_previous: bool, previous_tick: i32) -> DeltaReceiver
-    ensures { λ r. ⌜ receiverOf r ≡ record { previousTick = cond «has_previous» (some «previous_tick») none; current = none; parts = Receiver.noParts } ⌝ }
+// A receiver of ticks and lengths.
+pub fn with_lengths(t: Ticks, parts: [u16; 32]) -> DeltaReceiver
+    ensures { λ r. ⌜ receiverOf r ≡ receiverWith t parts ⌝ }
 {
     DeltaReceiver {
+        has_previous: t.has_previous,
+        previous_tick: t.previous_tick,
+        has_current: t.has_current,
+        tick: t.tick,
+        delta_tick: t.delta_tick,
+        num_parts: t.num_parts,
+        crc: t.crc,
+        parts,
+    }
+}
+
+// What a message comes to, with the receiver afterwards.
+pub fn receiving(a: Taking, lengths: [u16; 32]) -> Receiving
+    ensures { λ r. ⌜ ((area second : List ℕ) → taken a lengths area second ≡ answered r area second) ⌝ }
+{
+    let answer = a.answer;
+    let warnings = a.warnings;
+    let t = a.ticks;
+    let receiver = with_lengths(t, lengths);
+    Receiving {
+        answer,
+        warnings,
+        receiver,
+    }
+}
+
+// A call that is refused before anything is counted.
+pub fn refused(error: Error, r: Ticks) -> Taking
+    ensures { λ a. ⌜ ((lengths area second : List ℕ) → refusing (number error) (receiverWith r lengths) area second ≡ taken a lengths area second) ⌝ }
+{
+    Taking {
+        answer: Received::Refused(error),
+        warnings: Warnings::none(),
+        ticks: r,
+    }
+}
+
+// The ticks of a receiver without an unfinished one.
+pub fn without_current(has_previous: bool, previous_tick: i32) -> Ticks
+    ensures { λ r. ⌜ ((lengths : List ℕ) → receiverWith r lengths ≡ record { previousTick = cond «has_previous» (some «previous_tick») none; current = none; parts = lengths }) ⌝ }
+{
+    Ticks {
         has_previous,
         previous_tick,
         has_current: false,
@@ -78,36 +148,28 @@ pub fn without_current(has_previous: bool, previous_tick: i32) -> DeltaReceiver
         delta_tick: 0,
         num_parts: 0,
         crc: 0,
-        parts: [901u16; 32],
     }
 }
 
-// Whether part p is in.
-pub fn is_in(r: DeltaReceiver, p: usize) -> bool
-    requires { ⌜ p < 32 ⌝ }
-    ensures { λ b. ⌜ b ≡ Receiver.isIn (r .parts) p ⌝ }
-{
-    r.parts[p] as usize <= DeltaReceiver::PART_SIZE
-}
-
 // How many parts are in.
-pub fn count_in(r: DeltaReceiver) -> usize
-    ensures { λ n. ⌜ (n ≡ Receiver.countIn (r .parts) 32) × (n ≤ 32) ⌝ }
+pub fn count_in(lengths: &[u16]) -> usize
+    requires { ⌜ length (now lengths) ≡ 32 ⌝ }
+    ensures { λ n. ⌜ (n ≡ Receiver.countIn (now (lengths .entry)) 32) × (n ≤ 32) ⌝ }
 {
-    let mut n: usize = 0;
+    let mut n: u16 = 0;
     let mut i: usize = 0;
     while i < DeltaReceiver::MAX_PARTS {
-        if r.parts[i] as usize <= DeltaReceiver::PART_SIZE {
+        if lengths[i] as usize <= DeltaReceiver::PART_SIZE {
             n += 1;
         }
         i += 1;
     }
-    n
+    n as usize
 }
 
 // Whether a tick is above the last finished.
-pub fn above_previous(r: DeltaReceiver, tick: i32) -> bool
-    ensures { λ b. ⌜ b ≡ Receiver.abovePrevious (previousOf r) tick ⌝ }
+pub fn above_previous(r: Ticks, tick: i32) -> bool
+    ensures { λ b. ⌜ b ≡ Receiver.abovePrevious (previousIn r) tick ⌝ }
 {
     if r.has_previous {
         return ints::signed_less(r.previous_tick, tick);
@@ -115,11 +177,10 @@ pub fn above_previous(r: DeltaReceiver, tick: i32) -> bool
     true
 }
 
-// Whether a receiver is in form.
-pub fn in_form(r: DeltaReceiver) -> bool
-    ensures { λ b. ⌜ b ≡ Receiver.receiverForm (receiverOf r) ⌝ }
+// Whether a receiver of which n parts are in is in form.
+pub fn ticks_form(r: Ticks, n: usize) -> bool
+    ensures { λ b. ⌜ ((lengths : List ℕ) → n ≡ Receiver.countIn lengths 32 → b ≡ Receiver.receiverForm (receiverWith r lengths)) ⌝ }
 {
-    let n = count_in(r);
     if !r.has_current {
         return n == 0;
     }
@@ -136,9 +197,18 @@ pub fn in_form(r: DeltaReceiver) -> bool
     n < k
 }
 
+// Whether a receiver is in form.
+pub fn in_form(r: DeltaReceiver) -> bool
+    ensures { λ b. ⌜ b ≡ Receiver.receiverForm (receiverOf r) ⌝ }
+{
+    let lengths = r.parts;
+    let n = count_in(&lengths);
+    ticks_form(ticks_of(r), n)
+}
+
 // Whether a tick is old.
-pub fn is_old(r: DeltaReceiver, tick: i32) -> bool
-    ensures { λ b. ⌜ b ≡ Receiver.isOld (receiverOf r) tick ⌝ }
+pub fn is_old(r: Ticks, tick: i32) -> bool
+    ensures { λ b. ⌜ ((lengths : List ℕ) → b ≡ Receiver.isOld (receiverWith r lengths) tick) ⌝ }
 {
     if r.has_current {
         return ints::signed_less(tick, r.tick);
@@ -147,8 +217,8 @@ pub fn is_old(r: DeltaReceiver, tick: i32) -> bool
 }
 
 // Whether a tick is the unfinished one.
-pub fn is_current(r: DeltaReceiver, tick: i32) -> bool
-    ensures { λ b. ⌜ b ≡ Receiver.isCurrent (receiverOf r) tick ⌝ }
+pub fn is_current(r: Ticks, tick: i32) -> bool
+    ensures { λ b. ⌜ ((lengths : List ℕ) → b ≡ Receiver.isCurrent (receiverWith r lengths) tick) ⌝ }
 {
     if r.has_current {
         return same(r.tick, tick);
@@ -156,8 +226,8 @@ pub fn is_current(r: DeltaReceiver, tick: i32) -> bool
     false
 }
 
-// The receiver with the part's tick as the unfinished one; a newer tick drops an older one.
-pub fn opened(r: DeltaReceiver, m: Part) -> DeltaReceiver
+// The ticks with the part's as the unfinished one; a newer tick drops an older one.
+pub fn opened(r: Ticks, m: Part) -> Ticks
     requires { ⌜ Tables.num (m .«num_parts») ≤ 32 ⌝ }
     ensures { λ o. ⌜ Opens r m o ⌝ }
 {
@@ -166,7 +236,7 @@ pub fn opened(r: DeltaReceiver, m: Part) -> DeltaReceiver
     }
     let delta_tick = ints::wrapping_sub(m.tick, m.delta_tick);
     let num_parts = ints::num(m.num_parts) as u32;
-    DeltaReceiver {
+    Ticks {
         has_previous: r.has_previous,
         previous_tick: r.previous_tick,
         has_current: true,
@@ -174,13 +244,12 @@ pub fn opened(r: DeltaReceiver, m: Part) -> DeltaReceiver
         delta_tick,
         num_parts,
         crc: m.crc,
-        parts: [901u16; 32],
     }
 }
 
 // Whether a part's count, sum or distance is not what the first one said.
-pub fn differs(o: DeltaReceiver, m: Part) -> bool
-    ensures { λ b. ⌜ b ≡ Receiver.differs (currentOf o) (partOf m) ⌝ }
+pub fn differs(o: Ticks, m: Part) -> bool
+    ensures { λ b. ⌜ b ≡ Receiver.differs (currentIn o) (partOf m) ⌝ }
 {
     if !same(m.delta_tick, o.delta_tick) {
         return true;
@@ -192,128 +261,204 @@ pub fn differs(o: DeltaReceiver, m: Part) -> bool
     !same(m.crc, o.crc)
 }
 
-// The receiver with part p of n bytes.
-pub fn with_part(r: DeltaReceiver, p: usize, n: usize) -> DeltaReceiver
-    requires { ⌜ (p < 32) × (n ≤ 900) ⌝ }
-    ensures { λ o. ⌜ AddsPart r p n o ⌝ }
+// Whether part p is in already; of a new tick none is.
+pub fn is_in(current: bool, lengths: &[u16], p: usize) -> bool
+    requires { ⌜ (p < 32) × (length (now lengths) ≡ 32) ⌝ }
+    ensures { λ b. ⌜ b ≡ Receiver.isIn (partsFor current (now (lengths .entry))) p ⌝ }
 {
-    let mut o = r;
-    o.parts[p] = n as u16;
-    o
+    if current {
+        return lengths[p] as usize <= DeltaReceiver::PART_SIZE;
+    }
+    false
+}
+
+// Part p of n bytes comes in; those of an older tick are dropped.
+pub fn put_length(current: bool, lengths: &mut [u16; 32], p: usize, n: usize)
+    requires { ⌜ (p < 32) × (n ≤ 900) ⌝ }
+    ensures { λ _. ⌜ now (lengths .exit) ≡ set (partsFor current (now (lengths .entry))) p n ⌝ }
+{
+    if !current {
+        *lengths = [901u16; 32];
+    }
+    lengths[p] = n as u16;
+}
+
+// How many parts are in with one more, where n of the unfinished tick were.
+pub fn count_with(current: bool, n: usize) -> usize
+    requires { ⌜ n ≤ 32 ⌝ }
+    ensures { λ r. ⌜ r ≡ cond current n 0 + 1 ⌝ }
+{
+    if current {
+        return n + 1;
+    }
+    1
+}
+
+// Copies bytes; by way of an array, so that the compiler can move them all at once.
+pub fn put_bytes(out: &mut [u8], at: usize, xs: &[u8])
+    requires { ⌜ (length (now xs) ≤ 28800) × (at + length (now xs) ≤ length (now out)) ⌝ }
+    ensures { λ _. ⌜ now (out .exit) ≡ layAt at (now (xs .entry)) (now (out .entry)) ⌝ }
+{
+    let mut block = [0u8; 28800];
+    ints::checked::copy_bytes(&mut block, 0, xs);
+    ints::checked::copy_bytes(out, at, &block[..xs.len()]);
+}
+
+// How many parts in front are full: their bytes stand one behind the other as they are joined.
+pub fn full_parts(lengths: &[u16]) -> usize
+    requires { ⌜ length (now lengths) ≡ 32 ⌝ }
+    ensures { λ f. ⌜ (f ≤ 32) × ((area : List ℕ) → Receiver.joined (now (lengths .entry)) area f ≡ take (900 * f) area) ⌝ }
+{
+    let mut i: usize = 0;
+    while i < DeltaReceiver::MAX_PARTS {
+        if lengths[i] as usize != DeltaReceiver::PART_SIZE {
+            return i;
+        }
+        i += 1;
+    }
+    i
 }
 
 // Part i, where it is in, copied to a place of the second area; the place behind it.
-pub fn join_part(r: DeltaReceiver, i: usize, at: usize, parts: &[u8], joined: &mut [u8]) -> usize
-    requires { ⌜ (i < 32) × (at ≤ 900 * i) × (28800 ≤ length (now parts)) × (28800 ≤ length (now joined)) ⌝ }
-    ensures { λ n. ⌜ (n ≡ at + length (Receiver.partIn (r .parts) (now (parts .entry)) i)) × (n ≤ at + 900) × (now (joined .exit) ≡ layAt at (Receiver.partIn (r .parts) (now (parts .entry)) i) (now (joined .entry))) ⌝ }
+pub fn join_part(lengths: &[u16], i: usize, at: usize, parts: &[u8], joined: &mut [u8]) -> usize
+    requires { ⌜ (length (now lengths) ≡ 32) × (i < 32) × (at ≤ 900 * i) × (28800 ≤ length (now parts)) × (28800 ≤ length (now joined)) ⌝ }
+    ensures { λ n. ⌜ (n ≡ at + length (Receiver.partIn (now (lengths .entry)) (now (parts .entry)) i)) × (n ≤ at + 900) × (now (joined .exit) ≡ layAt at (Receiver.partIn (now (lengths .entry)) (now (parts .entry)) i) (now (joined .entry))) ⌝ }
 {
-    let n = r.parts[i] as usize;
+    let n = lengths[i] as usize;
     if DeltaReceiver::PART_SIZE < n {
         return at;
     }
     let from = DeltaReceiver::PART_SIZE * i;
-    ints::checked::copy_bytes(joined, at, &parts[from..from + n]);
+    put_bytes(joined, at, &parts[from..from + n]);
     at + n
 }
 
 // All parts that are in, in the order of their numbers, to the front of the second area: how many bytes.
-pub fn join(r: DeltaReceiver, parts: &[u8], joined: &mut [u8]) -> usize
-    requires { ⌜ (28800 ≤ length (now parts)) × (28800 ≤ length (now joined)) ⌝ }
-    ensures { λ n. ⌜ (n ≡ length (Receiver.joined (r .parts) (now (parts .entry)) 32)) × (now (joined .exit) ≡ lay (Receiver.joined (r .parts) (now (parts .entry)) 32) (now (joined .entry))) ⌝ }
+pub fn join(lengths: &[u16], parts: &[u8], joined: &mut [u8]) -> usize
+    requires { ⌜ (length (now lengths) ≡ 32) × (28800 ≤ length (now parts)) × (28800 ≤ length (now joined)) ⌝ }
+    ensures { λ n. ⌜ (n ≡ length (Receiver.joined (now (lengths .entry)) (now (parts .entry)) 32)) × (now (joined .exit) ≡ lay (Receiver.joined (now (lengths .entry)) (now (parts .entry)) 32) (now (joined .entry))) ⌝ }
 {
-    let mut at: usize = 0;
-    let mut i: usize = 0;
+    let mut i = full_parts(lengths);
+    let mut at = DeltaReceiver::PART_SIZE * i;
+    put_bytes(joined, 0, &parts[..at]);
     while i < DeltaReceiver::MAX_PARTS {
-        at = join_part(r, i, at, parts, joined);
+        at = join_part(lengths, i, at, parts, joined);
         i += 1;
     }
     at
 }
 
-// A part came in: the tick is finished where it was the last one missing.
-pub fn put_part(o: DeltaReceiver, warnings: Warnings, parts: &[u8], joined: &mut [u8]) -> Receiving
-    requires { ⌜ (o .«has_current» ≡ true) × (28800 ≤ length (now parts)) × (28800 ≤ length (now joined)) ⌝ }
-    ensures { λ a. ⌜ settled (counts warnings) (Receiver.putPart (previousOf o) (openedOf o) (now (parts .entry)) (now (joined .entry))) ≡ answered a (now (parts .entry)) (now (joined .exit)) ⌝ }
+// A part came in, so that n are: the tick is finished where it was the last one missing.
+pub fn put_part(
+    o: Ticks,
+    n: usize,
+    warnings: Warnings,
+    lengths: &mut [u16; 32],
+    parts: &[u8],
+    joined: &mut [u8],
+) -> Taking
+    requires { ⌜ (o .«has_current» ≡ true) × (n ≡ Receiver.countIn (now lengths) 32) × (28800 ≤ length (now parts)) × (28800 ≤ length (now joined)) ⌝ }
+    ensures { λ a. ⌜ settled (counts warnings) (Receiver.putPart (previousIn o) (openedWith o (now (lengths .entry))) (now (parts .entry)) (now (joined .entry))) ≡ taken a (now (lengths .exit)) (now (parts .entry)) (now (joined .exit)) ⌝ }
 {
     let k = o.num_parts as usize;
-    if count_in(o) != k {
-        return Receiving {
+    if n != k {
+        return Taking {
             answer: Received::NotYet,
             warnings,
-            receiver: o,
+            ticks: o,
         };
     }
-    let len = join(o, parts, joined);
+    let len = join(lengths, parts, joined);
+    *lengths = [901u16; 32];
     let answer = Received::Delta {
         tick: o.tick,
         delta_tick: o.delta_tick,
         len,
         crc: o.crc,
     };
-    Receiving {
+    Taking {
         answer,
         warnings,
-        receiver: without_current(true, o.tick),
+        ticks: without_current(true, o.tick),
     }
 }
 
-// Part p of a message whose numbers were judged.
+// Part p of a message whose numbers were judged, where n parts are in.
 pub fn take(
-    r: DeltaReceiver,
+    r: Ticks,
+    n: usize,
     m: Part,
     p: usize,
+    lengths: &mut [u16; 32],
     data: &[u8],
     parts: &mut [u8],
     joined: &mut [u8],
-) -> Receiving
+) -> Taking
     requires { ⌜ (Tables.num (m .«num_parts») ≤ 32) × (p < 32) × (length (now «data») ≤ 900) × (28800 ≤ length (now parts)) × (28800 ≤ length (now joined)) ⌝ }
-    ensures { λ a. ⌜ taking (receiverOf r) (partOf m) p (now («data» .entry)) (now (parts .entry)) (now (joined .entry)) ≡ answered a (now (parts .exit)) (now (joined .exit)) ⌝ }
+    requires { ⌜ (n ≡ Receiver.countIn (now lengths) 32) × (n ≤ 32) ⌝ }
+    ensures { λ a. ⌜ taking (receiverWith r (now (lengths .entry))) (partOf m) p (now («data» .entry)) (now (parts .entry)) (now (joined .entry)) ≡ taken a (now (lengths .exit)) (now (parts .exit)) (now (joined .exit)) ⌝ }
 {
+    let current = is_current(r, m.tick);
     let o = opened(r, m);
     let w = warnings(false, differs(o, m));
-    if is_in(o, p) {
-        return Receiving {
+    if is_in(current, lengths, p) {
+        return Taking {
             answer: Received::Refused(Error::DuplicatePart),
             warnings: w,
-            receiver: r,
+            ticks: r,
         };
     }
-    ints::checked::copy_bytes(parts, DeltaReceiver::PART_SIZE * p, data);
-    put_part(with_part(o, p, data.len()), w, parts, joined)
+    put_length(current, lengths, p, data.len());
+    put_bytes(parts, DeltaReceiver::PART_SIZE * p, data);
+    put_part(o, count_with(current, n), w, lengths, parts, joined)
 }
 
-// A part of a delta.
+// What the receiver's form, the areas and the numbers of a part say of it, where n parts are in.
+pub fn judge(r: Ticks, n: usize, m: Part, data: &[u8], parts: &[u8], joined: &[u8]) -> Judged
+    ensures { λ j. ⌜ ((lengths : List ℕ) → n ≡ Receiver.countIn lengths 32 → Receiver.snapCall (receiverWith r lengths) (partOf m) (now («data» .entry)) (now (parts .entry)) (now (joined .entry)) ≡ judgedAs j (receiverWith r lengths) (partOf m) (now («data» .entry)) (now (parts .entry)) (now (joined .entry))) ⌝ }
+    ensures { λ j. ⌜ Fits j m (now («data» .entry)) (now (parts .entry)) (now (joined .entry)) ⌝ }
+{
+    if !ticks_form(r, n) {
+        return Judged::Refused(Error::NotInForm);
+    }
+    if parts.len() < DeltaReceiver::AREA_SIZE {
+        return Judged::Refused(Error::ScratchTooShort);
+    }
+    if joined.len() < DeltaReceiver::AREA_SIZE {
+        return Judged::Refused(Error::ScratchTooShort);
+    }
+    if DeltaReceiver::PART_SIZE < data.len() {
+        return Judged::Refused(Error::PartTooLong);
+    }
+    if is_old(r, m.tick) {
+        return Judged::Refused(Error::OldDelta);
+    }
+    let k = ints::num(m.num_parts);
+    if DeltaReceiver::MAX_PARTS < k {
+        return Judged::Refused(Error::InvalidNumParts);
+    }
+    let p = ints::num(m.part);
+    if k <= p {
+        return Judged::Refused(Error::InvalidPart);
+    }
+    Judged::Part(p)
+}
+
+// A part of a delta; the lengths are changed in place.
 pub fn receive(
-    r: DeltaReceiver,
+    r: Ticks,
     m: Part,
+    lengths: &mut [u16; 32],
     data: &[u8],
     parts: &mut [u8],
     joined: &mut [u8],
-) -> Receiving
-    ensures { λ a. ⌜ Receiver.snapCall (receiverOf r) (partOf m) (now («data» .entry)) (now (parts .entry)) (now (joined .entry)) ≡ answered a (now (parts .exit)) (now (joined .exit)) ⌝ }
+) -> Taking
+    ensures { λ a. ⌜ Receiver.snapCall (receiverWith r (now (lengths .entry))) (partOf m) (now («data» .entry)) (now (parts .entry)) (now (joined .entry)) ≡ taken a (now (lengths .exit)) (now (parts .exit)) (now (joined .exit)) ⌝ }
 {
-    if !in_form(r) {
-        return refused(Error::NotInForm, r);
+    let n = count_in(lengths);
+    let j = judge(r, n, m, data, parts, joined);
+    match j {
+        Judged::Part(p) => take(r, n, m, p, lengths, data, parts, joined),
+        Judged::Refused(e) => refused(e, r),
     }
-    if parts.len() < DeltaReceiver::AREA_SIZE {
-        return refused(Error::ScratchTooShort, r);
-    }
-    if joined.len() < DeltaReceiver::AREA_SIZE {
-        return refused(Error::ScratchTooShort, r);
-    }
-    if DeltaReceiver::PART_SIZE < data.len() {
-        return refused(Error::PartTooLong, r);
-    }
-    if is_old(r, m.tick) {
-        return refused(Error::OldDelta, r);
-    }
-    let n = ints::num(m.num_parts);
-    if DeltaReceiver::MAX_PARTS < n {
-        return refused(Error::InvalidNumParts, r);
-    }
-    let p = ints::num(m.part);
-    if n <= p {
-        return refused(Error::InvalidPart, r);
-    }
-    take(r, m, p, data, parts, joined)
 }

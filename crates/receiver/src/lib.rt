@@ -11,6 +11,7 @@ use format::Error;
 use format::Warnings;
 
 pub mod checked;
+pub mod whole;
 
 // The last finished tick and the unfinished one, where there are any; what the first part of the unfinished one said; and the length of each part, above 900 where it is not in.
 pub struct DeltaReceiver {
@@ -62,14 +63,15 @@ impl DeltaReceiver {
         ensures { λ r. ⌜ receiverOf r ≡ freshReceiver ⌝ }
     {
         let has_previous = false;
-        checked::without_current(has_previous, 0)
+        checked::with_lengths(checked::without_current(has_previous, 0), [901u16; 32])
     }
 
     // Forgets both ticks.
     pub fn reset(self) -> DeltaReceiver
         ensures { λ r. ⌜ receiverOf r ≡ freshReceiver ⌝ }
     {
-        checked::without_current(false, 0)
+        let t = checked::without_current(false, 0);
+        checked::with_lengths(t, [901u16; 32])
     }
 
     // Takes a part of a delta; the last one missing joins them all in joined.
@@ -93,7 +95,16 @@ impl DeltaReceiver {
             part,
             crc,
         };
-        checked::receive(self, m, data, parts, joined)
+        let mut lengths = self.parts;
+        let a = checked::receive(
+            checked::ticks_of(self),
+            m,
+            &mut lengths,
+            data,
+            parts,
+            joined,
+        );
+        checked::receiving(a, lengths)
     }
 
     // Takes a whole delta, into joined.
@@ -107,54 +118,19 @@ impl DeltaReceiver {
     ) -> Receiving
         ensures { λ r. ⌜ ((area : List ℕ) → snapSingleCall (receiverOf self) tick «delta_tick» crc (now («data» .entry)) area (now (joined .entry)) ≡ record { answer = receivedWith (r .answer) (counts (r .warnings)); receiver = receiverOf (r .receiver); parts = area; joined = now (joined .exit) }) ⌝ }
     {
-        if !checked::in_form(self) {
-            return checked::refused(Error::NotInForm, self);
-        }
-        if joined.len() < DeltaReceiver::AREA_SIZE {
-            return checked::refused(Error::ScratchTooShort, self);
-        }
-        if DeltaReceiver::PART_SIZE < data.len() {
-            return checked::refused(Error::PartTooLong, self);
-        }
-        if checked::is_old(self, tick) {
-            return checked::refused(Error::OldDelta, self);
-        }
-        let warnings = checked::warnings(checked::is_current(self, tick), false);
-        ints::checked::copy_bytes(joined, 0, data);
-        let answer = Received::Delta {
-            tick,
-            delta_tick: ints::wrapping_sub(tick, delta_tick),
-            len: data.len(),
-            crc,
-        };
-        Receiving {
-            answer,
-            warnings,
-            receiver: checked::without_current(true, tick),
-        }
+        let t = checked::ticks_of(self);
+        let mut lengths = self.parts;
+        let a = whole::receive_single(t, tick, delta_tick, crc, &mut lengths, data, joined);
+        checked::receiving(a, lengths)
     }
 
     // Takes an empty delta.
     pub fn snap_empty(self, tick: i32, delta_tick: i32) -> Receiving
         ensures { λ r. ⌜ ((area second : List ℕ) → snapEmptyCall (receiverOf self) tick «delta_tick» area second ≡ record { answer = receivedWith (r .answer) (counts (r .warnings)); receiver = receiverOf (r .receiver); parts = area; joined = second }) ⌝ }
     {
-        if !checked::in_form(self) {
-            return checked::refused(Error::NotInForm, self);
-        }
-        if checked::is_old(self, tick) {
-            return checked::refused(Error::OldDelta, self);
-        }
-        let duplicate = checked::is_current(self, tick);
-        let warnings = checked::warnings(duplicate, false);
-        let base = ints::wrapping_sub(tick, delta_tick);
-        let answer = Received::Empty {
-            tick,
-            delta_tick: base,
-        };
-        Receiving {
-            answer,
-            warnings,
-            receiver: checked::without_current(true, tick),
-        }
+        let t = checked::ticks_of(self);
+        let mut lengths = self.parts;
+        let a = whole::receive_empty(t, tick, delta_tick, &mut lengths);
+        checked::receiving(a, lengths)
     }
 }

@@ -32,6 +32,7 @@ pub enum Message<'a> {
 }
 
 /// `cef_num_chunks`. Refused (42): `count` is left.
+#[inline]
 pub fn plain_num_chunks(data: &[u8], count: &mut usize) -> u32 {
     // References are valid, not null and do not overlap.
     unsafe { sys::cef_num_chunks(data.as_ptr(), data.len(), count) }
@@ -39,6 +40,7 @@ pub fn plain_num_chunks(data: &[u8], count: &mut usize) -> u32 {
 
 /// `cef_chunk`. Refused (42): `kind`, `numbers` and `len` are left; without a
 /// message `numbers` are.
+#[inline]
 #[allow(clippy::too_many_arguments)]
 pub fn plain_chunk(
     tick: i32,
@@ -67,6 +69,7 @@ pub fn plain_chunk(
 }
 
 /// How many messages carry the bytes of a delta. Refused: `INPUT_TOO_LONG`.
+#[inline]
 pub fn num_chunks(data: &[u8]) -> Result<usize, Refusal> {
     let mut count = 0;
     let number = plain_num_chunks(data, &mut count);
@@ -76,6 +79,7 @@ pub fn num_chunks(data: &[u8]) -> Result<usize, Refusal> {
 /// Message `i` of those that carry the bytes of a delta from the table of tick
 /// `delta_tick` to that of `tick`, whose sum is `crc`. Refused:
 /// `INPUT_TOO_LONG`.
+#[inline]
 pub fn chunk(
     tick: i32,
     delta_tick: i32,

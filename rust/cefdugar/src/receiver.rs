@@ -39,6 +39,7 @@ pub struct ReceivedDelta {
 /// A call that answered, with its warnings.
 pub type Received = (Result<Option<ReceivedDelta>, Refusal>, Warnings);
 
+#[inline]
 fn received(number: u32, outputs: Outputs, warnings: Warnings) -> Received {
     let Outputs {
         kind,
@@ -54,7 +55,8 @@ fn received(number: u32, outputs: Outputs, warnings: Warnings) -> Received {
 }
 
 impl Outputs {
-    const NONE: Outputs = Outputs {
+    /// Nothing set.
+    pub const NONE: Outputs = Outputs {
         kind: 0,
         received: [0; 3],
         len: 0,
@@ -87,6 +89,7 @@ impl Receiver {
         receiver
     }
     /// Forgets both ticks.
+    #[inline]
     pub fn reset(&mut self) {
         unsafe { sys::cef_receiver_reset(&mut self.ticks, &mut self.counts, &mut self.lengths) }
     }
@@ -94,6 +97,7 @@ impl Receiver {
     /// Takes a part of a delta: tick, distance, part count, part number and
     /// sum, and its bytes. `parts` and `joined` are the two part areas; the
     /// last part missing joins all in the second.
+    #[inline]
     pub fn snap(
         &mut self,
         numbers: [i32; 5],
@@ -106,12 +110,14 @@ impl Receiver {
         received(number, outputs, warnings)
     }
     /// Takes a whole delta: tick, distance and sum, and its bytes.
+    #[inline]
     pub fn snap_single(&mut self, numbers: [i32; 3], data: &[u8], joined: &mut [u8]) -> Received {
         let (mut outputs, mut warnings) = (Outputs::NONE, Warnings::default());
         let number = self.plain_single(numbers, data, joined, &mut outputs, &mut warnings);
         received(number, outputs, warnings)
     }
     /// Takes an empty delta: tick and distance.
+    #[inline]
     pub fn snap_empty(&mut self, numbers: [i32; 2]) -> Received {
         let (mut outputs, mut warnings) = (Outputs::NONE, Warnings::default());
         let number = self.plain_empty(numbers, &mut outputs, &mut warnings);
@@ -120,6 +126,7 @@ impl Receiver {
 
     /// `cef_receiver_snap`. Refused (47, 41, 43, 20 to 23): all but `warnings`
     /// is left.
+    #[inline]
     pub fn plain_snap(
         &mut self,
         numbers: [i32; 5],
@@ -155,6 +162,7 @@ impl Receiver {
     }
     /// `cef_receiver_snap_single`. Refused (47, 41, 43, 20): all but `warnings`
     /// is left.
+    #[inline]
     pub fn plain_single(
         &mut self,
         numbers: [i32; 3],
@@ -184,6 +192,7 @@ impl Receiver {
         }
     }
     /// `cef_receiver_snap_empty`. Refused (47, 20): all but `warnings` is left.
+    #[inline]
     pub fn plain_empty(
         &mut self,
         numbers: [i32; 2],

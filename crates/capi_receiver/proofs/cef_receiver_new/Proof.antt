@@ -1,4 +1,4 @@
--- `capi_receiver::cef_receiver_new` meets its contract: by what `new` and `store` promise. Assumes nothing.
+-- `capi_receiver::cef_receiver_new` meets its contract: by what `new` and `write_receiver` promise. Assumes nothing.
 use mathlib.Core.Path.{_∙_}
 use borrow.Author.Needs.{needs}
 use Rattle.capi_receiver.proofs.cef_receiver_new.Statement.{statement}
@@ -7,11 +7,11 @@ use Rattle.capi_receiver.proofs.cef_receiver_new.Tie as tie
 new-requires : tie.Need-new-requires
 new-requires c κs = search needs
 
-store-requires : tie.Need-store-requires
-store-requires c κs = search needs
+write-receiver-requires : tie.Need-write-receiver-requires
+write-receiver-requires c κs = search needs
 
 returns : tie.Need-returns
-returns c = c .store .ensures ∙ c .before .before .before .before .new .ensures
+returns c = c .write-receiver .ensures ∙ c .before .before .before .before .new .ensures
 
 pub cef-receiver-new-spec : {M : Type 1} → statement M
-cef-receiver-new-spec = tie.close (tie.spec new-requires store-requires returns)
+cef-receiver-new-spec = tie.close (tie.spec new-requires write-receiver-requires returns)

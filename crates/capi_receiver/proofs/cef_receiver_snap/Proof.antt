@@ -1,4 +1,4 @@
--- `capi_receiver::cef_receiver_snap` meets its contract: by what `snap` answered. Assumes nothing.
+-- `capi_receiver::cef_receiver_snap` meets its contract: by what `receive` answered. Assumes nothing.
 use mathlib.Core.Path.{_≡_, refl}
 use mathlib.Core.List.{List, []}
 use Prim.Native.Nat.{ℕ}
@@ -6,17 +6,18 @@ use mir.Facts.{toZ-ofZ}
 use denote.Ref.{now}
 use Rattle.definitions.specs.Receiver.{snapCall}
 use Rattle.format.specs.Totals.{counts}
-use Rattle.capi_receiver.specs.Held.{heldReceiver}
-use Rattle.capi_receiver.proofs.Calls.{kept, zero-tells, snap-moved, taken}
+use Rattle.receiver.specs.Moves.{snap-moved}
+use Rattle.boundary_states.specs.Rows.{heldReceiver}
+use Rattle.capi_receiver.proofs.Calls.{kept, same-lengths, still-held, zero-tells, taken}
 use borrow.Author.Needs.{needs}
 use Rattle.capi_receiver.proofs.cef_receiver_snap.Statement.{statement}
 use Rattle.capi_receiver.proofs.cef_receiver_snap.Tie as tie
 
-load-requires : tie.Need-load-requires
-load-requires c κs = search needs
+load-ticks-requires : tie.Need-load-ticks-requires
+load-ticks-requires c κs = search needs
 
-snap-requires : tie.Need-snap-requires
-snap-requires c κs = search needs
+receive-requires : tie.Need-receive-requires
+receive-requires c κs = search needs
 
 row-requires : tie.Need-row-requires
 row-requires c κs = search needs
@@ -32,12 +33,18 @@ same-length-2 c = search needs
 
 returns : tie.Need-returns
 returns c =
-    let o = snapCall (heldReceiver (now (c .before .before .before .before .before .before .before .before .before .before .before .before .before .before .before .before .before .before .before .before .args .ticks)) (now (c .before .before .before .before .before .before .before .before .before .before .before .before .before .before .before .before .before .before .before .before .args .counts)) (now (c .before .before .before .before .before .before .before .before .before .before .before .before .before .before .before .before .before .before .before .before .args .lengths))) (record { tick = c .before .before .before .before .before .before .before .before .before .before .before .before .before .before .before .before .before .before .before .before .args .tick; deltaTick = c .before .before .before .before .before .before .before .before .before .before .before .before .before .before .before .before .before .before .before .before .args .delta-tick; numParts = c .before .before .before .before .before .before .before .before .before .before .before .before .before .before .before .before .before .before .before .before .args .num-parts; part = c .before .before .before .before .before .before .before .before .before .before .before .before .before .before .before .before .before .before .before .before .args .part; crc = c .before .before .before .before .before .before .before .before .before .before .before .before .before .before .before .before .before .before .before .before .args .crc }) (now (c .before .before .before .before .before .before .before .before .before .before .before .before .before .before .before .before .before .before .before .before .args .«data»)) (now (c .before .before .before .before .before .before .before .before .before .before .before .before .before .before .before .before .before .before .before .before .args .parts)) (now (c .before .before .before .before .before .before .before .before .before .before .before .before .before .before .before .before .before .before .before .before .args .joined)) in
-    let e = snap-moved (now (c .before .before .before .before .before .before .before .before .before .before .before .before .before .before .before .before .before .before .before .before .args .«data»)) (now (c .before .before .before .before .before .before .before .before .before .before .before .before .before .before .before .before .before .before .before .before .args .parts)) (now (c .before .before .before .before .before .before .before .before .before .before .before .before .before .before .before .before .before .before .before .before .args .joined)) (c .before .before .before .before .before .before .before .before .before .before .before .before .before .load .ensures) (toZ-ofZ (c .before .before .before .before .before .before .before .before .before .before .before .before .before .before .before .before .before .before .before .before .fits .tick)) (toZ-ofZ (c .before .before .before .before .before .before .before .before .before .before .before .before .before .before .before .before .before .before .before .before .fits .delta-tick)) (toZ-ofZ (c .before .before .before .before .before .before .before .before .before .before .before .before .before .before .before .before .before .before .before .before .fits .num-parts)) (toZ-ofZ (c .before .before .before .before .before .before .before .before .before .before .before .before .before .before .before .before .before .before .before .before .fits .part)) (toZ-ofZ (c .before .before .before .before .before .before .before .before .before .before .before .before .before .before .before .before .before .before .before .before .fits .crc)) (c .before .before .before .before .before .before .before .before .before .before .snap .ensures) in
-    taken o (c .before .before .before .before .before .before .before .before .before .before .snap .result .answer) (counts (c .before .before .before .before .before .before .before .before .before .before .snap .result .warnings)) e _ (now (c .before .before .before .before .before .before .before .before .before .before .before .before .before .before .before .before .before .before .before .before .args .kind)) _ (now (c .before .before .before .before .before .before .before .before .before .before .before .before .before .before .before .before .before .before .before .before .args .received)) _ (now (c .before .before .before .before .before .before .before .before .before .before .before .before .before .before .before .before .before .before .before .before .args .len)) _ _ _ _ (c .before .tell .ensures) (kept _ _ _ _ _ _ _ (c .before .before .before .before .before .before .before .before .before .before .snap .result .answer) (counts (c .before .before .before .before .before .before .before .before .before .before .snap .result .warnings)) e _ (c .before .tell .ensures .0) (c .if1 .taken)) (c .before .before .before .before .before .row .ensures) (λ _. (refl, (refl, refl)))
+    let s = c .before .before .before .before .before .before .before .before .before .before .before .before .before .before .before .before .before .before .before .before in
+    let a = s .args in
+    let f = s .fits in
+    let h = heldReceiver (now (a .ticks)) (now (a .counts)) (now (a .lengths)) in
+    let o = snapCall h (record { tick = a .tick; deltaTick = a .delta-tick; numParts = a .num-parts; part = a .part; crc = a .crc }) (now (a .«data»)) (now (a .parts)) (now (a .joined)) in
+    let r = c .before .before .before .before .before .before .before .before .before .before .receive .result in
+    let e = snap-moved (now (a .«data»)) (now (a .parts)) (now (a .joined)) (c .before .before .before .before .before .before .before .before .before .before .before .before .before .before .load-ticks .ensures (now (a .lengths))) (toZ-ofZ (f .tick)) (toZ-ofZ (f .delta-tick)) (toZ-ofZ (f .num-parts)) (toZ-ofZ (f .part)) (toZ-ofZ (f .crc)) (c .before .before .before .before .before .before .before .before .before .before .receive .ensures) in
+    let k = kept _ _ _ _ _ _ _ (r .answer) (counts (r .warnings)) e _ (c .before .tell .ensures .0) (c .if1 .taken) in
+    taken o (r .answer) (counts (r .warnings)) e _ (now (a .kind)) _ (now (a .received)) _ (now (a .len)) _ _ _ _ (c .before .tell .ensures) (still-held (r .ticks) (now (a .ticks)) (now (a .counts)) (now (a .lengths)) _ k) (c .before .before .before .before .before .row .ensures) (λ _. (refl, (refl, same-lengths (r .ticks) (now (a .ticks)) (now (a .counts)) (now (a .lengths)) _ k)))
 
-store-requires : tie.Need-store-requires
-store-requires c κs = search needs
+write-ticks-requires : tie.Need-write-ticks-requires
+write-ticks-requires c κs = search needs
 
 same-length-3 : tie.Need-same-length-3
 same-length-3 c = search needs
@@ -47,22 +54,27 @@ same-length-4 c = search needs
 
 returns-2 : tie.Need-returns-2
 returns-2 c =
-    let o = snapCall (heldReceiver (now (c .before .before .before .before .before .before .before .before .before .before .before .before .before .before .before .before .before .before .before .before .before .before .before .before .args .ticks)) (now (c .before .before .before .before .before .before .before .before .before .before .before .before .before .before .before .before .before .before .before .before .before .before .before .before .args .counts)) (now (c .before .before .before .before .before .before .before .before .before .before .before .before .before .before .before .before .before .before .before .before .before .before .before .before .args .lengths))) (record { tick = c .before .before .before .before .before .before .before .before .before .before .before .before .before .before .before .before .before .before .before .before .before .before .before .before .args .tick; deltaTick = c .before .before .before .before .before .before .before .before .before .before .before .before .before .before .before .before .before .before .before .before .before .before .before .before .args .delta-tick; numParts = c .before .before .before .before .before .before .before .before .before .before .before .before .before .before .before .before .before .before .before .before .before .before .before .before .args .num-parts; part = c .before .before .before .before .before .before .before .before .before .before .before .before .before .before .before .before .before .before .before .before .before .before .before .before .args .part; crc = c .before .before .before .before .before .before .before .before .before .before .before .before .before .before .before .before .before .before .before .before .before .before .before .before .args .crc }) (now (c .before .before .before .before .before .before .before .before .before .before .before .before .before .before .before .before .before .before .before .before .before .before .before .before .args .«data»)) (now (c .before .before .before .before .before .before .before .before .before .before .before .before .before .before .before .before .before .before .before .before .before .before .before .before .args .parts)) (now (c .before .before .before .before .before .before .before .before .before .before .before .before .before .before .before .before .before .before .before .before .before .before .before .before .args .joined)) in
-    let e = snap-moved (now (c .before .before .before .before .before .before .before .before .before .before .before .before .before .before .before .before .before .before .before .before .before .before .before .before .args .«data»)) (now (c .before .before .before .before .before .before .before .before .before .before .before .before .before .before .before .before .before .before .before .before .before .before .before .before .args .parts)) (now (c .before .before .before .before .before .before .before .before .before .before .before .before .before .before .before .before .before .before .before .before .before .before .before .before .args .joined)) (c .before .before .before .before .before .before .before .before .before .before .before .before .before .before .before .before .before .load .ensures) (toZ-ofZ (c .before .before .before .before .before .before .before .before .before .before .before .before .before .before .before .before .before .before .before .before .before .before .before .before .fits .tick)) (toZ-ofZ (c .before .before .before .before .before .before .before .before .before .before .before .before .before .before .before .before .before .before .before .before .before .before .before .before .fits .delta-tick)) (toZ-ofZ (c .before .before .before .before .before .before .before .before .before .before .before .before .before .before .before .before .before .before .before .before .before .before .before .before .fits .num-parts)) (toZ-ofZ (c .before .before .before .before .before .before .before .before .before .before .before .before .before .before .before .before .before .before .before .before .before .before .before .before .fits .part)) (toZ-ofZ (c .before .before .before .before .before .before .before .before .before .before .before .before .before .before .before .before .before .before .before .before .before .before .before .before .fits .crc)) (c .before .before .before .before .before .before .before .before .before .before .before .before .before .before .snap .ensures) in
-    taken o (c .before .before .before .before .before .before .before .before .before .before .before .before .before .before .snap .result .answer) (counts (c .before .before .before .before .before .before .before .before .before .before .before .before .before .before .snap .result .warnings)) e 0 (now (c .before .before .before .before .before .before .before .before .before .before .before .before .before .before .before .before .before .before .before .before .before .before .before .before .args .kind)) _ (now (c .before .before .before .before .before .before .before .before .before .before .before .before .before .before .before .before .before .before .before .before .before .before .before .before .args .received)) _ (now (c .before .before .before .before .before .before .before .before .before .before .before .before .before .before .before .before .before .before .before .before .before .before .before .before .args .len)) _ _ _ _ (zero-tells (c .before .before .before .before .before .before .before .before .before .before .before .before .before .before .snap .result .answer) (c .before .before .before .before .before .tell .result) (now (c .before .before .before .before .before .before .before .before .before .before .before .before .before .before .before .before .before .before .before .before .before .before .before .before .args .kind)) _ (now (c .before .before .before .before .before .before .before .before .before .before .before .before .before .before .before .before .before .before .before .before .before .before .before .before .args .received)) _ (now (c .before .before .before .before .before .before .before .before .before .before .before .before .before .before .before .before .before .before .before .before .before .before .before .before .args .len)) _ (c .before .before .before .before .if1 .left) (c .before .before .before .before .before .tell .ensures)) (c .store .ensures) (c .before .before .before .before .before .before .before .before .before .row .ensures) (λ f. absurd (f refl))
+    let s = c .before .before .before .before .before .before .before .before .before .before .before .before .before .before .before .before .before .before .before .before .before .before .before in
+    let a = s .args in
+    let f = s .fits in
+    let h = heldReceiver (now (a .ticks)) (now (a .counts)) (now (a .lengths)) in
+    let o = snapCall h (record { tick = a .tick; deltaTick = a .delta-tick; numParts = a .num-parts; part = a .part; crc = a .crc }) (now (a .«data»)) (now (a .parts)) (now (a .joined)) in
+    let r = c .before .before .before .before .before .before .before .before .before .before .before .before .before .receive .result in
+    let e = snap-moved (now (a .«data»)) (now (a .parts)) (now (a .joined)) (c .before .before .before .before .before .before .before .before .before .before .before .before .before .before .before .before .before .load-ticks .ensures (now (a .lengths))) (toZ-ofZ (f .tick)) (toZ-ofZ (f .delta-tick)) (toZ-ofZ (f .num-parts)) (toZ-ofZ (f .part)) (toZ-ofZ (f .crc)) (c .before .before .before .before .before .before .before .before .before .before .before .before .before .receive .ensures) in
+    taken o (r .answer) (counts (r .warnings)) e 0 (now (a .kind)) _ (now (a .received)) _ (now (a .len)) _ _ _ _ (zero-tells (r .answer) (c .before .before .before .before .tell .result) (now (a .kind)) _ (now (a .received)) _ (now (a .len)) _ (c .before .before .before .if1 .left) (c .before .before .before .before .tell .ensures)) (c .write-ticks .ensures _) (c .before .before .before .before .before .before .before .before .row .ensures) (λ f. absurd (f refl))
 
 pub cef-receiver-snap-spec : {M : Type 1} → statement M
 cef-receiver-snap-spec =
     tie.close
     (tie.spec
-    load-requires
-    snap-requires
+    load-ticks-requires
+    receive-requires
     row-requires
     tell-requires
     same-length
     same-length-2
     returns
-    store-requires
+    write-ticks-requires
     same-length-3
     same-length-4
     returns-2)

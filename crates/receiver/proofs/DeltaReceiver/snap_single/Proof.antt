@@ -1,129 +1,39 @@
--- `DeltaReceiver::snap_single` meets its contract: refusal by refusal. Assumes nothing.
-use mathlib.Core.Path.{_≡_, sym, _∙_}
-use mathlib.Core.Bool.{true, false}
+-- `DeltaReceiver::snap_single` meets its contract. Assumes nothing.
+use mathlib.Core.Path.{ap, _∙_}
 use borrow.Author.Needs.{needs}
-use borrow.Author.Tests.{not-true, not-false}
-use mir.Syntax.{w32}
-use mir.Val.{ofZ, toZ}
 use mir.Facts.{toZ-ofZ}
-use Rattle.definitions.specs.Messages.{baseTick}
-use Rattle.definitions.specs.Receiver.{receiverForm, isOld, isCurrent, finishedAt}
-use Rattle.format.specs.Totals.{counts}
-use Rattle.receiver.specs.States.{receiverOf}
-use Rattle.receiver.specs.Answers.{flagged}
-use Rattle.receiver.proofs.Calls.{single-47, single-41, single-43, single-20, single-taken, single-settled}
+use Rattle.receiver.specs.declared.checked.Ticks.{Ticks}
+use Rattle.receiver.specs.States.{receiverWith}
+use Rattle.receiver.specs.Moves.{single-moved}
 use Rattle.receiver.proofs.DeltaReceiver.snap_single.Statement.{statement}
 use Rattle.receiver.proofs.DeltaReceiver.snap_single.Tie as tie
 
--- the receiver is in form
-formed : (c : tie.Else1) → receiverForm (receiverOf (c .before .before .before .before .args .self)) ≡ true
-formed c = sym (c .before .in-form .ensures) ∙ not-false _ (c .if1 .left)
+ticks-of-requires : tie.Need-ticks-of-requires
+ticks-of-requires c κs = search needs
 
--- whether the tick is old
-old : (c : tie.After-is-old) → let a = c .before .before .before .before .before .before .before .args in c .is-old .result ≡ isOld (receiverOf (a .self)) (a .tick)
-old c = rw (toZ-ofZ (c .before .before .before .before .before .before .before .fits .tick)) at (c .is-old .ensures)
+receive-single-requires : tie.Need-receive-single-requires
+receive-single-requires c κs = search needs
 
--- the warning
-told : (c : tie.After-warnings) → let a = c .before .before .before .before .before .before .before .before .before .before .args in counts (c .warnings .result) ≡ flagged (isCurrent (receiverOf (a .self)) (a .tick)) false
-told c =
-    rw (c .before .is-current .ensures, toZ-ofZ (c .before .before .before .before .before .before .before .before .before .before .fits .tick)) at (c .warnings .ensures)
-
--- the base
-base : (c : tie.After-wrapping-sub) → let a = c .before .before .before .before .before .before .before .before .before .before .before .before .before .before .before .args in toZ w32 (ofZ w32 (c .wrapping-sub .result)) ≡ baseTick (a .tick) (a .delta-tick)
-base c =
-    let f = c .before .before .before .before .before .before .before .before .before .before .before .before .before .before .before .fits in
-    toZ-ofZ (record { sfits = c .wrapping-sub .ok })
-    ∙ rw (toZ-ofZ (f .tick), toZ-ofZ (f .delta-tick)) at (c .wrapping-sub .ensures)
-
--- the receiver afterwards
-after : (c : tie.After-without-current) → receiverOf (c .without-current .result) ≡ finishedAt (c .before .before .before .before .before .before .before .before .before .before .before .before .before .before .before .before .args .tick)
-after c = rw (toZ-ofZ (c .before .before .before .before .before .before .before .before .before .before .before .before .before .before .before .before .fits .tick)) at (c .without-current .ensures)
-
-in-form-requires : tie.Need-in-form-requires
-in-form-requires c κs = search needs
-
-refused-requires : tie.Need-refused-requires
-refused-requires c κs = search needs
-
-returns : tie.Need-returns
-returns c area =
-    let a = c .before .before .before .before .before .args in
-    single-47 (receiverOf (a .self)) (a .tick) (a .delta-tick) (a .crc) (a .«data» .now) (a .joined .now) (sym (c .before .before .in-form .ensures) ∙ not-true _ (c .before .if1 .taken)) area
-    ∙ c .refused .ensures area (a .joined .now)
-
-refused-requires-2 : tie.Need-refused-requires-2
-refused-requires-2 c κs = search needs
-
-returns-2 : tie.Need-returns-2
-returns-2 c area =
-    let a = c .before .before .before .before .before .before .args in
-    single-41 (receiverOf (a .self)) (a .tick) (a .delta-tick) (a .crc) (a .«data» .now) (a .joined .now) (formed (c .before .before)) (c .before .if2 .taken) area
-    ∙ c .refused2 .ensures area (a .joined .now)
-
-refused-requires-3 : tie.Need-refused-requires-3
-refused-requires-3 c κs = search needs
-
-returns-3 : tie.Need-returns-3
-returns-3 c area =
-    let a = c .before .before .before .before .before .before .before .args in
-    single-43 (receiverOf (a .self)) (a .tick) (a .delta-tick) (a .crc) (a .«data» .now) (a .joined .now) (formed (c .before .before .before)) (c .before .before .if2 .left) (c .before .if3 .taken) area
-    ∙ c .refused3 .ensures area (a .joined .now)
-
-is-old-requires : tie.Need-is-old-requires
-is-old-requires c κs = search needs
-
-refused-requires-4 : tie.Need-refused-requires-4
-refused-requires-4 c κs = search needs
-
-returns-4 : tie.Need-returns-4
-returns-4 c area =
-    let a = c .before .before .before .before .before .before .before .before .before .args in
-    single-20 (receiverOf (a .self)) (a .tick) (a .delta-tick) (a .crc) (a .«data» .now) (a .joined .now) (formed (c .before .before .before .before .before)) (c .before .before .before .before .if2 .left) (c .before .before .before .if3 .left) (sym (old (c .before .before)) ∙ c .before .if4 .taken) area
-    ∙ c .refused4 .ensures area (a .joined .now)
-
-is-current-requires : tie.Need-is-current-requires
-is-current-requires c κs = search needs
-
-warnings-requires : tie.Need-warnings-requires
-warnings-requires c κs = search needs
-
-copy-bytes-requires : tie.Need-copy-bytes-requires
-copy-bytes-requires c κs = search needs
-
-wrapping-sub-requires : tie.Need-wrapping-sub-requires
-wrapping-sub-requires c κs = search needs
-
-without-current-requires : tie.Need-without-current-requires
-without-current-requires c κs = search needs
+receiving-requires : tie.Need-receiving-requires
+receiving-requires c κs = search needs
 
 same-length : tie.Need-same-length
 same-length c = search needs
 
-returns-5 : tie.Need-returns-5
-returns-5 c area =
-    let s = c .before .before .before .before .before .before .before .before .before .before .before .before .before .before .before .before in
+returns : tie.Need-returns
+returns c area =
+    let s = c .before .before .before .before .before .before .before .before .before .before in
     let a = s .args in
-    single-taken (receiverOf (a .self)) (a .tick) (a .delta-tick) (a .crc) (a .«data» .now) (a .joined .now) (formed (c .before .before .before .before .before .before .before .before .before .before .before .before)) (c .before .before .before .before .before .before .before .before .before .before .before .if2 .left) (c .before .before .before .before .before .before .before .before .before .before .if3 .left) (sym (old (c .before .before .before .before .before .before .before .before .before)) ∙ c .before .before .before .before .before .before .before .before .if4 .left) area
-    ∙ single-settled (c .before .before .before .before .before .before .warnings .result) (isCurrent (receiverOf (a .self)) (a .tick)) (a .tick) (a .delta-tick) _ _ (c .without-current .result) (told (c .before .before .before .before .before .before)) (toZ-ofZ (s .fits .tick)) (base (c .before)) (after c) area _ _ _ _ _ (toZ-ofZ (s .fits .crc)) (c .before .before .before .before .copy-bytes .ensures)
+    let f = s .fits in
+    single-moved (a .«data» .now) area (a .joined .now) (ap (λ (t : Ticks). receiverWith t (a .self .parts)) (c .before .before .before .before .before .before .before .ticks-of .ensures)) (toZ-ofZ (f .tick)) (toZ-ofZ (f .delta-tick)) (toZ-ofZ (f .crc)) (c .before .before .before .receive-single .ensures area)
+    ∙ c .receiving .ensures area _
 
 pub snap-single-spec : {M : Type 1} → statement M
 snap-single-spec =
     tie.close
     (tie.spec
-    in-form-requires
-    refused-requires
-    returns
-    refused-requires-2
-    returns-2
-    refused-requires-3
-    returns-3
-    is-old-requires
-    refused-requires-4
-    returns-4
-    is-current-requires
-    warnings-requires
-    copy-bytes-requires
-    wrapping-sub-requires
-    without-current-requires
+    ticks-of-requires
+    receive-single-requires
+    receiving-requires
     same-length
-    returns-5)
+    returns)

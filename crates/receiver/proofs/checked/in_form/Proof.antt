@@ -1,58 +1,42 @@
--- `checked::in_form` meets its contract: case by case. Assumes nothing.
-use mathlib.Core.Path.{_≡_, sym, _∙_}
+-- `checked::in_form` meets its contract. Assumes nothing.
+use mathlib.Core.Path.{_≡_, sym, ap, _∙_}
 use borrow.Author.Needs.{needs}
-use mir.Syntax.{w32}
-use mir.Facts.{toZ-ofZ}
-use borrow.Author.Tests.{not-true, not-false}
-use Rattle.definitions.specs.Receiver.{abovePrevious}
-use Rattle.receiver.specs.States.{previousOf}
-use Rattle.receiver.proofs.Forms.{no-current, not-above, too-many, none-in, some-in}
+use lib.ListN.{length}
+use Rattle.definitions.specs.Receiver.{receiverForm}
+use Rattle.receiver.specs.declared.checked.Ticks.{Ticks}
+use Rattle.receiver.specs.States.{receiverWith}
+use Rattle.receiver.proofs.Parts.{whole}
 use Rattle.receiver.proofs.checked.in_form.Statement.{statement}
 use Rattle.receiver.proofs.checked.in_form.Tie as tie
 
--- whether the unfinished tick is above the last finished
-rises : (c : tie.After-above-previous) → let r = c .before .before .before .before .before .args .r in c .above-previous .result ≡ abovePrevious (previousOf r) (r .tick)
-rises c =
-    let r = c .before .before .before .before .before .args .r in
-    rw (toZ-ofZ {w = w32} {z = r .tick} (record { sfits = c .before .struct-told .given .1 .1 .1 .0 .1 })) at (c .above-previous .ensures)
+-- there are 32 lengths
+all-there : (c : tie.Start) → length (c .args .r .parts) ≡ 32
+all-there c = whole (c .args .r .parts) (c .good .0 .1 .1 .1 .1 .1 .1 .1 .1 .1 .0 .1 .0 .1)
+
+slice-aggregate-count-in : tie.Need-slice-aggregate-count-in
+slice-aggregate-count-in c = sym (all-there (c .before .before))
 
 count-in-requires : tie.Need-count-in-requires
-count-in-requires c κs = search needs
+count-in-requires c κs = all-there (c .before .before)
+
+ticks-of-requires : tie.Need-ticks-of-requires
+ticks-of-requires c κs = search needs
+
+ticks-form-requires : tie.Need-ticks-form-requires
+ticks-form-requires c κs = search needs
 
 returns : tie.Need-returns
-returns c = no-current (c .before .before .before .args .r) _ (c .before .before .count-in .ensures .0) (not-true _ (c .if1 .taken))
-
-above-previous-requires : tie.Need-above-previous-requires
-above-previous-requires c κs = search needs
-
-returns-2 : tie.Need-returns-2
-returns-2 c =
-    not-above (c .before .before .before .before .before .before .args .r) _ (c .before .before .before .before .before .count-in .ensures .0) (not-false _ (c .before .before .before .if1 .left)) (sym (rises (c .before)) ∙ not-true _ (c .if2 .taken))
-
-cast-k : tie.Need-cast-k
-cast-k c = search needs
-
-returns-3 : tie.Need-returns-3
-returns-3 c =
-    too-many (c .before .before .before .before .before .before .before .before .args .r) _ (c .before .before .before .before .before .before .before .count-in .ensures .0) (not-false _ (c .before .before .before .before .before .if1 .left)) (sym (rises (c .before .before .before)) ∙ not-false _ (c .before .before .if2 .left)) (c .if3 .taken)
-
-returns-4 : tie.Need-returns-4
-returns-4 c =
-    none-in (c .before .before .before .before .before .before .before .before .before .args .r) _ (c .before .before .before .before .before .before .before .before .count-in .ensures .0) (not-false _ (c .before .before .before .before .before .before .if1 .left)) (sym (rises (c .before .before .before .before)) ∙ not-false _ (c .before .before .before .if2 .left)) (c .before .if3 .left) (c .if4 .taken)
-
-returns-5 : tie.Need-returns-5
-returns-5 c =
-    some-in (c .before .before .before .before .before .before .before .before .before .args .r) _ (c .before .before .before .before .before .before .before .before .count-in .ensures .0) (not-false _ (c .before .before .before .before .before .before .if1 .left)) (sym (rises (c .before .before .before .before)) ∙ not-false _ (c .before .before .before .if2 .left)) (c .before .if3 .left) (c .if4 .left)
+returns c =
+    let r = c .before .before .before .before .before .args .r in
+    c .ticks-form .ensures (r .parts) (c .before .before .count-in .ensures .0)
+    ∙ ap (λ (t : Ticks). receiverForm (receiverWith t (r .parts))) (c .before .ticks-of .ensures)
 
 pub in-form-spec : {M : Type 1} → statement M
 in-form-spec =
     tie.close
     (tie.spec
+    slice-aggregate-count-in
     count-in-requires
-    returns
-    above-previous-requires
-    returns-2
-    cast-k
-    returns-3
-    returns-4
-    returns-5)
+    ticks-of-requires
+    ticks-form-requires
+    returns)

@@ -11,7 +11,7 @@ signed-less-requires c κs = search needs
 
 returns : tie.Need-returns
 unfolding isOld
-returns c =
+returns c lengths =
     let s = c .before .before .before in
     rw (c .before .before .if1 .taken, c .signed-less .ensures, toZ-ofZ (s .fits .tick), toZ-ofZ {w = w32} {z = s .args .r .tick} (record { sfits = c .before .struct-told .given .1 .1 .1 .0 .1 }))
 
@@ -20,7 +20,7 @@ above-previous-requires c κs = search needs
 
 returns-2 : tie.Need-returns-2
 unfolding isOld
-returns-2 c = rw (c .before .if1 .left, c .above-previous .ensures, toZ-ofZ (c .before .before .fits .tick))
+returns-2 c lengths = rw (c .before .if1 .left, c .above-previous .ensures, toZ-ofZ (c .before .before .fits .tick))
 
 pub is-old-spec : {M : Type 1} → statement M
 is-old-spec = tie.close (tie.spec signed-less-requires returns above-previous-requires returns-2)

@@ -1,8 +1,8 @@
 -- `checked::put_part` meets its contract: by how many parts are in. Assumes nothing.
-use mathlib.Core.Path.{sym, _∙_}
 use borrow.Author.Needs.{needs}
 use mir.Syntax.{w32}
 use mir.Facts.{toZ-ofZ}
+use Rattle.definitions.specs.Receiver.{noParts}
 use Rattle.receiver.proofs.Opening.{waiting, all-in}
 use Rattle.receiver.proofs.checked.put_part.Statement.{statement}
 use Rattle.receiver.proofs.checked.put_part.Tie as tie
@@ -10,17 +10,14 @@ use Rattle.receiver.proofs.checked.put_part.Tie as tie
 cast-k : tie.Need-cast-k
 cast-k c = search needs
 
-count-in-requires : tie.Need-count-in-requires
-count-in-requires c κs = search needs
-
 returns : tie.Need-returns
 returns c =
-    let s = c .before .before .before .before .before in
+    let s = c .before .before .before .before in
     let a = s .args in
-    waiting (a .o) (a .warnings) (a .parts .now) (a .joined .now) (s .pre .0) (λ q. c .if1 .taken (c .before .count-in .ensures .0 ∙ q))
+    waiting (a .o) (a .warnings) (a .n) (a .lengths .now) (a .parts .now) (a .joined .now) (s .pre .1) (s .pre .0) (c .if1 .taken)
 
 join-requires : tie.Need-join-requires
-join-requires c κs = search needs
+join-requires c κs = (c .before .join-arg2 .given .0, search needs, search needs)
 
 without-current-requires : tie.Need-without-current-requires
 without-current-requires c κs = search needs
@@ -30,16 +27,16 @@ same-length c = search needs
 
 returns-2 : tie.Need-returns-2
 returns-2 c =
-    let a = c .before .before .before .before .before .before .before .before .before .before .before .before .args in
-    let j = c .before .before .before .before .before .join .ensures in
-    all-in (a .o) (a .warnings) (a .parts .now) (a .joined .now) _ _ _ _ _ (c .without-current .result) (sym (c .before .before .before .before .before .before .before .before .count-in .ensures .0) ∙ c .before .before .before .before .before .before .before .if1 .left) (j .0) (j .1) (toZ-ofZ {w = w32} {z = a .o .tick} (record { sfits = c .before .before .struct-told .given .1 .1 .1 .0 .1 })) (toZ-ofZ {w = w32} {z = a .o .«delta_tick»} (record { sfits = c .before .before .struct-told .given .1 .1 .1 .1 .0 .1 })) (toZ-ofZ {w = w32} {z = a .o .crc} (record { sfits = c .before .before .struct-told .given .1 .1 .1 .1 .1 .1 .0 .1 })) (rw (toZ-ofZ {w = w32} {z = a .o .tick} (record { sfits = c .before .struct-told2 .given .1 .1 .1 .0 .1 })) at (c .without-current .ensures))
+    let s = c .before .before .before .before .before .before .before .before .before .before .before .before .before .before in
+    let a = s .args in
+    let j = c .before .before .before .before .before .before .join .ensures in
+    all-in (a .o) (a .warnings) (a .n) (a .lengths .now) (a .parts .now) (a .joined .now) (s .pre .1) _ _ _ _ _ (c .without-current .result) (c .before .before .before .before .before .before .before .before .before .before .if1 .left) (j .0) (j .1) (toZ-ofZ {w = w32} {z = a .o .tick} (record { sfits = c .before .before .struct-told .given .1 .1 .1 .0 .1 })) (toZ-ofZ {w = w32} {z = a .o .«delta_tick»} (record { sfits = c .before .before .struct-told .given .1 .1 .1 .1 .0 .1 })) (toZ-ofZ {w = w32} {z = a .o .crc} (record { sfits = c .before .before .struct-told .given .1 .1 .1 .1 .1 .1 .0 .1 })) (rw (toZ-ofZ {w = w32} {z = a .o .tick} (record { sfits = c .before .struct-told2 .given .1 .1 .1 .0 .1 })) at (c .without-current .ensures noParts))
 
 pub put-part-spec : {M : Type 1} → statement M
 put-part-spec =
     tie.close
     (tie.spec
     cast-k
-    count-in-requires
     returns
     join-requires
     without-current-requires

@@ -4,7 +4,7 @@ use Rattle.receiver.proofs.checked.without_current.Statement.{statement
 use Rattle.receiver.proofs.checked.without_current.Tie as tie
 
 returns : tie.Need-returns
-returns c = rw (toZ-ofZ (c .fits .previous-tick))
+returns c lengths = rw (toZ-ofZ (c .fits .previous-tick))
 
 pub without-current-spec : {M : Type 1} → statement M
 without-current-spec = tie.close (tie.spec returns)

@@ -1,11 +1,20 @@
 //! Times of a delta that is cut, and of its parts that are received.
+//!
+//! The plain rows hold the port's safe calls against the Rust as its users call
+//! it. `each call`: the Rust behind the same C boundary as the port, with the
+//! same outputs filled: kind, numbers, length and the 13 counts.
 
+use super::oracle;
 use super::oracle::Call;
 use crate::core::bench::Table;
+use crate::core::oracle::Number;
+use crate::core::oracle::Tally;
 use crate::core::random::Random;
 use cefdugar::messages;
+use cefdugar::receiver::Outputs;
 use cefdugar::receiver::Receiver;
 use cefdugar::receiver::AREA_BYTES;
+use cefdugar::Warnings;
 use libtw2_gamenet_snap as msg;
 use libtw2_snapshot::snap;
 use libtw2_snapshot::DeltaReceiver;
@@ -14,11 +23,15 @@ use std::hint::black_box;
 pub fn bench(table: &mut Table) {
     let mut random = Random::new(1, "receiver", 0);
     for len in [14_400, 28_800] {
-        cut(table, &super::inputs::bytes(&mut random, len));
+        let data = super::inputs::bytes(&mut random, len);
+        cut(table, &data);
+        cut_calls(table, &data);
         let mut parts = super::inputs::messages(&mut random, 10, 4, len);
         receive(table, "parts received in order", len, &parts);
+        receive_calls(table, "parts received in order, each call", len, &parts);
         parts.reverse();
         receive(table, "parts received in reverse", len, &parts);
+        receive_calls(table, "parts received in reverse, each call", len, &parts);
     }
 }
 
@@ -40,14 +53,87 @@ fn cut(table: &mut Table, data: &[u8]) {
     );
 }
 
-fn receive(table: &mut Table, name: &str, len: usize, list: &[Call]) {
-    let parts: Vec<_> = list
-        .iter()
+/// `cef_chunk` by the Rust, whose iterator takes the place of the number.
+#[inline(never)]
+extern "C" fn rust_chunk(
+    chunks: &mut snap::DeltaChunks<'_>,
+    kind: &mut u32,
+    numbers: &mut [i32; 5],
+    len: &mut usize,
+) -> u32 {
+    match chunks.next() {
+        None => (*kind, *len) = (0, 0),
+        Some(msg::SnapMsg::Snap(snap)) => {
+            *kind = 1;
+            *numbers = [
+                snap.tick,
+                snap.delta_tick,
+                snap.num_parts,
+                snap.part,
+                snap.crc,
+            ];
+            *len = snap.data.len();
+        }
+        Some(msg::SnapMsg::SnapEmpty(snap)) => {
+            *kind = 2;
+            *numbers = [snap.tick, snap.delta_tick, 0, 0, 0];
+            *len = 0;
+        }
+        Some(msg::SnapMsg::SnapSingle(snap)) => {
+            *kind = 3;
+            *numbers = [snap.tick, snap.delta_tick, 0, 0, snap.crc];
+            *len = snap.data.len();
+        }
+    }
+    0
+}
+
+/// Each message by a call; both sides behind the same C boundary.
+fn cut_calls(table: &mut Table, data: &[u8]) {
+    let (mut kind, mut numbers, mut len) = (0, [0; 5], 0);
+    let (mut rust_kind, mut rust_numbers, mut rust_len) = (0, [0; 5], 0);
+    table.race(
+        "bytes cut into messages, each call",
+        data.len(),
+        &mut || {
+            let mut chunks = snap::delta_chunks(black_box(10), 4, black_box(data), 7);
+            loop {
+                rust_chunk(
+                    &mut chunks,
+                    &mut rust_kind,
+                    &mut rust_numbers,
+                    &mut rust_len,
+                );
+                if black_box(rust_kind) == 0 {
+                    break;
+                }
+            }
+        },
+        &mut || {
+            for i in 0.. {
+                let data = black_box(data);
+                messages::plain_chunk(10, 4, data, 7, i, &mut kind, &mut numbers, &mut len);
+                if black_box(kind) == 0 {
+                    break;
+                }
+            }
+        },
+    );
+    assert!((kind, numbers, len) == (rust_kind, rust_numbers, rust_len));
+}
+
+/// The parts of a delta.
+fn parts_of(list: &[Call]) -> Vec<([i32; 5], &[u8])> {
+    list.iter()
         .map(|call| match call {
             Call::Snap(numbers, data) => (*numbers, &data[..]),
             _ => unreachable!("more than one part"),
         })
-        .collect();
+        .collect()
+}
+
+fn receive(table: &mut Table, name: &str, len: usize, list: &[Call]) {
+    let parts = parts_of(list);
     let (mut rust, mut port) = (DeltaReceiver::new(), Receiver::new());
     let (mut area, mut joined) = (vec![0; AREA_BYTES], vec![0; AREA_BYTES]);
     table.race(
@@ -56,14 +142,7 @@ fn receive(table: &mut Table, name: &str, len: usize, list: &[Call]) {
         &mut || {
             rust.reset();
             for (numbers, data) in &parts {
-                let snap = msg::Snap {
-                    tick: numbers[0],
-                    delta_tick: numbers[1],
-                    num_parts: numbers[2],
-                    part: numbers[3],
-                    crc: numbers[4],
-                    data: black_box(data),
-                };
+                let snap = oracle::snap(numbers, black_box(data));
                 let _ = black_box(rust.snap(&mut libtw2_warn::Ignore, snap));
             }
         },
@@ -75,4 +154,95 @@ fn receive(table: &mut Table, name: &str, len: usize, list: &[Call]) {
             }
         },
     );
+}
+
+/// `cef_receiver_snap` by the Rust, whose areas are its own.
+#[inline(never)]
+extern "C" fn rust_snap(
+    receiver: &mut DeltaReceiver,
+    tick: i32,
+    delta_tick: i32,
+    num_parts: i32,
+    part: i32,
+    crc: i32,
+    data: *const u8,
+    data_len: usize,
+    outputs: &mut Outputs,
+    warnings: &mut [usize; cefdugar::WARNINGS],
+) -> u32 {
+    // SAFETY: called below with a slice's own pointer and length.
+    let data = unsafe { std::slice::from_raw_parts(data, data_len) };
+    let snap = msg::Snap {
+        tick,
+        delta_tick,
+        num_parts,
+        part,
+        crc,
+        data,
+    };
+    let mut tally = Tally::default();
+    let result = receiver.snap(&mut tally, snap);
+    *warnings = (tally.0).0;
+    match result {
+        Ok(None) => outputs.kind = 0,
+        Ok(Some(delta)) => match delta.data_and_crc {
+            Some((bytes, crc)) => {
+                outputs.kind = 1;
+                outputs.received = [delta.tick, delta.delta_tick, crc];
+                outputs.len = bytes.len();
+            }
+            None => {
+                outputs.kind = 2;
+                outputs.received = [delta.tick, delta.delta_tick, 0];
+                outputs.len = 0;
+            }
+        },
+        Err(error) => return error.number(),
+    }
+    0
+}
+
+/// Each part by a call; both sides behind the same C boundary.
+fn receive_calls(table: &mut Table, name: &str, len: usize, list: &[Call]) {
+    let parts = parts_of(list);
+    let (mut rust, mut port) = (DeltaReceiver::new(), Receiver::new());
+    let (mut area, mut joined) = (vec![0; AREA_BYTES], vec![0; AREA_BYTES]);
+    let (mut rust_outputs, mut outputs) = (Outputs::NONE, Outputs::NONE);
+    let (mut rust_warnings, mut warnings) = (Warnings::default(), Warnings::default());
+    table.race(
+        name,
+        len,
+        &mut || {
+            rust.reset();
+            for ([tick, delta_tick, num_parts, part, crc], data) in &parts {
+                let data = black_box(data);
+                black_box(rust_snap(
+                    &mut rust,
+                    *tick,
+                    *delta_tick,
+                    *num_parts,
+                    *part,
+                    *crc,
+                    data.as_ptr(),
+                    data.len(),
+                    &mut rust_outputs,
+                    &mut rust_warnings.0,
+                ));
+            }
+        },
+        &mut || {
+            port.reset();
+            for (numbers, data) in &parts {
+                black_box(port.plain_snap(
+                    *numbers,
+                    black_box(data),
+                    &mut area,
+                    &mut joined,
+                    &mut outputs,
+                    &mut warnings,
+                ));
+            }
+        },
+    );
+    assert!((outputs, warnings) == (rust_outputs, rust_warnings));
 }

@@ -54,13 +54,18 @@ fn call_of(message: msg::SnapMsg) -> Call {
 pub fn messages(random: &mut Random, tick: i32, base: i32, len: usize) -> Vec<Call> {
     let data = bytes(random, len);
     let crc = random.int();
-    snap::delta_chunks(tick, base, &data, crc)
+    messages_of(tick, base, &data, crc)
+}
+
+/// The messages of a delta's bytes.
+pub fn messages_of(tick: i32, base: i32, data: &[u8], crc: i32) -> Vec<Call> {
+    snap::delta_chunks(tick, base, data, crc)
         .map(call_of)
         .collect()
 }
 
 /// One number of a part is not what it was.
-fn changed(call: &mut Call, random: &mut Random) {
+pub fn changed(call: &mut Call, random: &mut Random) {
     match call {
         Call::Snap(numbers, data) => {
             let other = match random.below(4) {

@@ -1,9 +1,9 @@
 //! Messages: deltas cut into them, and the receiver of their parts.
 
 mod bench;
-mod calls;
-mod inputs;
-mod oracle;
+pub mod calls;
+pub mod inputs;
+pub mod oracle;
 mod record;
 
 use super::Part;
@@ -139,7 +139,7 @@ fn refused(
 }
 
 /// Receivers that no call leaves.
-fn out_of_form(fresh: Receiver) -> Vec<Receiver> {
+pub fn out_of_form(fresh: Receiver) -> Vec<Receiver> {
     let mut list = vec![];
     // A part is in, and no tick is unfinished.
     let mut one = fresh;

@@ -51,43 +51,47 @@ fn said(
     }
 }
 
+/// A part of a delta as the Rust has it.
+pub fn snap<'a>(numbers: &[i32; 5], data: &'a [u8]) -> msg::Snap<'a> {
+    let [tick, delta_tick, num_parts, part, crc] = *numbers;
+    msg::Snap {
+        tick,
+        delta_tick,
+        num_parts,
+        part,
+        crc,
+        data,
+    }
+}
+
+/// A whole delta.
+pub fn single<'a>(numbers: &[i32; 3], data: &'a [u8]) -> msg::SnapSingle<'a> {
+    let [tick, delta_tick, crc] = *numbers;
+    msg::SnapSingle {
+        tick,
+        delta_tick,
+        crc,
+        data,
+    }
+}
+
+/// An empty one.
+pub fn empty(numbers: &[i32; 2]) -> msg::SnapEmpty {
+    let [tick, delta_tick] = *numbers;
+    msg::SnapEmpty { tick, delta_tick }
+}
+
 /// What the Rust's receiver says.
 pub fn call(receiver: &mut DeltaReceiver, call: &Call) -> Said {
     let mut tally = Tally::default();
-    match call {
-        Call::Snap([tick, delta_tick, num_parts, part, crc], data) => {
-            let snap = msg::Snap {
-                tick: *tick,
-                delta_tick: *delta_tick,
-                num_parts: *num_parts,
-                part: *part,
-                crc: *crc,
-                data,
-            };
-            let result = receiver.snap(&mut tally, snap);
-            said(result, tally)
-        }
-        Call::Single([tick, delta_tick, crc], data) => {
-            let snap = msg::SnapSingle {
-                tick: *tick,
-                delta_tick: *delta_tick,
-                crc: *crc,
-                data,
-            };
-            let result = receiver.snap_single(&mut tally, snap);
-            said(result, tally)
-        }
-        Call::Empty([tick, delta_tick]) => {
-            let snap = msg::SnapEmpty {
-                tick: *tick,
-                delta_tick: *delta_tick,
-            };
-            let result = receiver.snap_empty(&mut tally, snap);
-            said(result, tally)
-        }
+    let result = match call {
+        Call::Snap(numbers, data) => receiver.snap(&mut tally, snap(numbers, data)),
+        Call::Single(numbers, data) => receiver.snap_single(&mut tally, single(numbers, data)),
+        Call::Empty(numbers) => receiver.snap_empty(&mut tally, empty(numbers)),
         Call::Reset => {
             receiver.reset();
-            said(Ok(None), tally)
+            Ok(None)
         }
-    }
+    };
+    said(result, tally)
 }

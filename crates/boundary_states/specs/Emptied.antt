@@ -1,0 +1,25 @@
+-- A store in its rows, and one that is emptied: its count fits. Assumes nothing.
+use mathlib.Core.Path.{_≡_, sym, ap, _∙_}
+use mathlib.Core.List.{List}
+use native.Mathlib.Omega.{arith}
+use lib.IntN.{ℤ}
+use Rattle.definitions.specs.Outcome.{return}
+use Rattle.definitions.specs.Storage.{Store, beside, freshStorage}
+use Rattle.definitions.specs.StorageCalls.{StoreStep, resetCall}
+use Rattle.boundary_states.specs.Few.{Fits}
+
+-- a store by another name
+pub fits-before : {s h : Store} → s ≡ h → Fits s → Fits h
+fits-before e f = rw e at f
+
+pub fits-new : {s : Store} → s ≡ beside freshStorage → Fits s
+fits-new e = rw e (omega arith)
+
+module _ (s : Store) {t : Store} (area : List ℤ) {x : List ℤ} (e : resetCall s area ≡ record { answer = return tt; store = t; area = x }) where
+  pub fits-reset : Fits t
+  fits-reset = rw (sym (ap (λ (o : StoreStep (Unit {0})). o .store) e)) (omega arith)
+
+  pub reset-told : {h k : Store} → s ≡ h → k ≡ t → (k ≡ resetCall h area .store) × (x ≡ resetCall h area .area)
+  reset-told p q =
+      let m = rw p at e in
+      (q ∙ sym (ap (λ (o : StoreStep (Unit {0})). o .store) m), sym (ap (λ (o : StoreStep (Unit {0})). o .area) m))

@@ -1,0 +1,4 @@
+-- How a receiver and a store look from C. Assumes nothing.
+pub mod Rows
+pub mod Few
+pub mod Emptied

@@ -1,0 +1,59 @@
+-- A receiver and a store in rows of numbers. Assumes nothing.
+use mathlib.Core.Path.{_≡_}
+use mathlib.Core.Bool.{Bool, true}
+use mathlib.Core.List.{List}
+use mathlib.Core.Option.{Option}
+use Prim.Native.Nat.{ℕ}
+use lib.IntN.{ℤ, pos}
+use lib.ListN.{getD}
+use Rattle.definitions.specs.Receiver.{Current, Receiver}
+use Rattle.definitions.specs.Storage.{Store}
+use Rattle.boundary.specs.Boundary.{given}
+
+-- the receiver in its rows: last finished tick, unfinished tick, its base and its sum; whether there are such ticks, and the part count; the parts' lengths
+abbrev pub heldReceiver : List ℤ → List ℕ → List ℕ → Receiver
+heldReceiver ticks counts lengths =
+    record {
+      previousTick = given (getD counts 0 0) (getD ticks 0 (pos 0));
+      current =
+          given (getD counts 1 0)
+          (record {
+            tick = getD ticks 1 (pos 0);
+            deltaTick = getD ticks 2 (pos 0);
+            numParts = getD counts 2 0;
+            crc = getD ticks 3 (pos 0);
+          });
+      parts = lengths;
+    }
+
+-- the store in its rows: the tick acknowledged last and that of the base; the number of tables, and whether there are such ticks
+abbrev pub heldStore : List ℤ → List ℕ → Store
+heldStore ticks counts =
+    record {
+      count = getD counts 0 0;
+      ackTick = given (getD counts 1 0) (getD ticks 0 (pos 0));
+      deltaTick = given (getD counts 2 0) (getD ticks 1 (pos 0));
+    }
+
+-- whether two are the same
+pub record Compares {A : Type 0} (x y : A) (r : Bool) : Type 0 where
+  pub same : r ≡ true → x ≡ y
+  pub told : x ≡ y → r ≡ true
+
+-- a receiver without the lengths of its parts
+pub record Ticks : Type 0 where
+  pub previous : Option ℤ
+  pub current : Option Current
+
+abbrev pub ticksOf : Receiver → Ticks
+ticksOf r = record { previous = r .previousTick; current = r .current }
+
+-- the rows of a receiver before and after a call: they hold it, and are left entry for entry where they held it
+pub record SavedReceiver (r : Receiver) (ticks₀ : List ℤ) (counts₀ lengths₀ : List ℕ) (ticks : List ℤ) (counts lengths : List ℕ) : Type 0 where
+  pub holds : heldReceiver ticks counts lengths ≡ r
+  pub left : heldReceiver ticks₀ counts₀ lengths₀ ≡ r → (ticks ≡ ticks₀) × ((counts ≡ counts₀) × (lengths ≡ lengths₀))
+
+-- the rows of a store before and after a call: they hold it, and are left entry for entry where they held it
+pub record SavedStore (s : Store) (ticks₀ : List ℤ) (counts₀ : List ℕ) (ticks : List ℤ) (counts : List ℕ) : Type 0 where
+  pub holds : heldStore ticks counts ≡ s
+  pub left : heldStore ticks₀ counts₀ ≡ s → (ticks ≡ ticks₀) × (counts ≡ counts₀)

@@ -1,0 +1,2 @@
+// How a receiver and a store look from C.
+pub mod checked;

@@ -1,0 +1,54 @@
+-- `checked::ticks_form` meets its contract: case by case. Assumes nothing.
+use mathlib.Core.Path.{_≡_, sym, _∙_}
+use borrow.Author.Needs.{needs}
+use mir.Syntax.{w32}
+use mir.Facts.{toZ-ofZ}
+use borrow.Author.Tests.{not-true, not-false}
+use Rattle.definitions.specs.Receiver.{abovePrevious}
+use Rattle.receiver.specs.States.{previousIn}
+use Rattle.receiver.proofs.Forms.{no-current, not-above, too-many, none-in, some-in}
+use Rattle.receiver.proofs.checked.ticks_form.Statement.{statement}
+use Rattle.receiver.proofs.checked.ticks_form.Tie as tie
+
+-- whether the unfinished tick is above the last finished
+rises : (c : tie.After-above-previous) → let r = c .before .before .before .before .args .r in c .above-previous .result ≡ abovePrevious (previousIn r) (r .tick)
+rises c =
+    let r = c .before .before .before .before .args .r in
+    rw (toZ-ofZ {w = w32} {z = r .tick} (record { sfits = c .before .struct-told .given .1 .1 .1 .0 .1 })) at (c .above-previous .ensures)
+
+returns : tie.Need-returns
+returns c lengths e = no-current (c .before .before .args .r) lengths _ e (not-true _ (c .if1 .taken))
+
+above-previous-requires : tie.Need-above-previous-requires
+above-previous-requires c κs = search needs
+
+returns-2 : tie.Need-returns-2
+returns-2 c lengths e =
+    not-above (c .before .before .before .before .before .args .r) lengths _ e (not-false _ (c .before .before .before .if1 .left)) (sym (rises (c .before)) ∙ not-true _ (c .if2 .taken))
+
+cast-k : tie.Need-cast-k
+cast-k c = search needs
+
+returns-3 : tie.Need-returns-3
+returns-3 c lengths e =
+    too-many (c .before .before .before .before .before .before .before .args .r) lengths _ e (not-false _ (c .before .before .before .before .before .if1 .left)) (sym (rises (c .before .before .before)) ∙ not-false _ (c .before .before .if2 .left)) (c .if3 .taken)
+
+returns-4 : tie.Need-returns-4
+returns-4 c lengths e =
+    none-in (c .before .before .before .before .before .before .before .before .args .r) lengths _ e (not-false _ (c .before .before .before .before .before .before .if1 .left)) (sym (rises (c .before .before .before .before)) ∙ not-false _ (c .before .before .before .if2 .left)) (c .before .if3 .left) (c .if4 .taken)
+
+returns-5 : tie.Need-returns-5
+returns-5 c lengths e =
+    some-in (c .before .before .before .before .before .before .before .before .args .r) lengths _ e (not-false _ (c .before .before .before .before .before .before .if1 .left)) (sym (rises (c .before .before .before .before)) ∙ not-false _ (c .before .before .before .if2 .left)) (c .before .if3 .left) (c .if4 .left)
+
+pub ticks-form-spec : {M : Type 1} → statement M
+ticks-form-spec =
+    tie.close
+    (tie.spec
+    returns
+    above-previous-requires
+    returns-2
+    cast-k
+    returns-3
+    returns-4
+    returns-5)

@@ -1,0 +1,80 @@
+// The messages that bring a whole delta: a single one, and an empty one.
+ghost use mathlib.Core.Path.{_≡_};
+ghost use mathlib.Core.List.{List};
+ghost use Prim.Native.Nat.{ℕ};
+ghost use Rattle.definitions.specs.Receiver.{snapSingleCall, snapEmptyCall};
+ghost use Rattle.receiver.specs.States.{receiverWith};
+ghost use Rattle.receiver.specs.Answers.{taken};
+use super::DeltaReceiver;
+use super::Received;
+use super::checked;
+use super::checked::Taking;
+use super::checked::Ticks;
+use format::Error;
+
+// A single message, its bytes into joined; the lengths are changed in place.
+pub fn receive_single(
+    r: Ticks,
+    tick: i32,
+    delta_tick: i32,
+    crc: i32,
+    lengths: &mut [u16; 32],
+    data: &[u8],
+    joined: &mut [u8],
+) -> Taking
+    ensures { λ a. ⌜ ((area : List ℕ) → snapSingleCall (receiverWith r (now (lengths .entry))) tick «delta_tick» crc (now («data» .entry)) area (now (joined .entry)) ≡ taken a (now (lengths .exit)) area (now (joined .exit))) ⌝ }
+{
+    let n = checked::count_in(lengths);
+    if !checked::ticks_form(r, n) {
+        return checked::refused(Error::NotInForm, r);
+    }
+    if joined.len() < DeltaReceiver::AREA_SIZE {
+        return checked::refused(Error::ScratchTooShort, r);
+    }
+    if DeltaReceiver::PART_SIZE < data.len() {
+        return checked::refused(Error::PartTooLong, r);
+    }
+    if checked::is_old(r, tick) {
+        return checked::refused(Error::OldDelta, r);
+    }
+    let warnings = checked::warnings(checked::is_current(r, tick), false);
+    *lengths = [901u16; 32];
+    checked::put_bytes(joined, 0, data);
+    let answer = Received::Delta {
+        tick,
+        delta_tick: ints::wrapping_sub(tick, delta_tick),
+        len: data.len(),
+        crc,
+    };
+    Taking {
+        answer,
+        warnings,
+        ticks: checked::without_current(true, tick),
+    }
+}
+
+// An empty message; the lengths are changed in place.
+pub fn receive_empty(r: Ticks, tick: i32, delta_tick: i32, lengths: &mut [u16; 32]) -> Taking
+    ensures { λ a. ⌜ ((area second : List ℕ) → snapEmptyCall (receiverWith r (now (lengths .entry))) tick «delta_tick» area second ≡ taken a (now (lengths .exit)) area second) ⌝ }
+{
+    let n = checked::count_in(lengths);
+    if !checked::ticks_form(r, n) {
+        return checked::refused(Error::NotInForm, r);
+    }
+    if checked::is_old(r, tick) {
+        return checked::refused(Error::OldDelta, r);
+    }
+    let duplicate = checked::is_current(r, tick);
+    let warnings = checked::warnings(duplicate, false);
+    let base = ints::wrapping_sub(tick, delta_tick);
+    *lengths = [901u16; 32];
+    let answer = Received::Empty {
+        tick,
+        delta_tick: base,
+    };
+    Taking {
+        answer,
+        warnings,
+        ticks: checked::without_current(true, tick),
+    }
+}
