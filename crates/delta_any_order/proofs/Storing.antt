@@ -1,13 +1,11 @@
 -- A delta that was read, with what was repeated, and how it is stored. Assumes nothing.
 use mathlib.Core.Path.{_≡_, refl, sym, ap, _∙_}
-use mathlib.Core.Bool.{Bool, true, false, cond}
 use mathlib.Core.List.{List, [], _∷_, _++_, map, append-assoc}
-use Prim.Native.Nat.{ℕ, suc, _+_, _≤_, _<_}
+use Prim.Native.Nat.{ℕ, _+_, _≤_, _<_}
 use native.Mathlib.Omega.{arith}
 use borrow.Author.Tests.{le-leb, lt-leb}
-use lib.Dec.{ltb, eqb}
 use lib.IntN.{ℤ, pos}
-use lib.ListN.{length, drop, set, length-append}
+use lib.ListN.{length, drop, set}
 use lib.Seq.{drop-at}
 use Rattle.definitions.specs.Ints.{bits, fromBits}
 use Rattle.definitions.specs.Areas.{layAt, lay}
@@ -16,14 +14,15 @@ use Rattle.definitions.specs.Warnings.{Counts}
 use Rattle.definitions.specs.Outcome.{ok, err}
 use Rattle.definitions.specs.Stored.{stored}
 use Rattle.definitions.specs.Tables.{Item}
-use Rattle.definitions.specs.Deltas.{rank, updateInts, updatesInts, deltaInts, writtenDelta}
-use Rattle.definitions.specs.DeltaReading.{put, ordered, orderedKeys, orderedUpdates, deltaRead}
+use Rattle.definitions.specs.Deltas.{updatesInts, deltaInts, writtenDelta}
+use Rattle.definitions.specs.DeltaReading.{orderedKeys, orderedUpdates, deltaRead}
 use Rattle.definitions.specs.DeltaCalls.{storedDelta}
 use Rattle.laws.specs.WarningLaws.{plus-none}
 use Rattle.laws.specs.AreaLaws.{layAt-append, lay-append}
 use Rattle.laws.specs.PackLaws.{stored-fits}
 use Rattle.laws.specs.DeltaReadBack.{length-keys, length-deltaInts}
 use Rattle.delta_any_order.specs.Fronts.{Laid}
+use Rattle.delta_any_order.specs.OrderLaws.{length-orderedUpdates, length-bits, few-deleted}
 
 -- ---- the header
 
@@ -36,46 +35,6 @@ header-laid out o1 o2 o3 a b c h e1 e2 e3 = e3 ∙ rw (e2, e1) (go out h)
     go (x ∷ []) h = absurd (omega arith)
     go (x ∷ y ∷ []) h = absurd (omega arith)
     go (x ∷ y ∷ z ∷ l) h = refl
-
--- ---- in order there are no more
-
-module _ {A : Type 0} (key : A → ℕ) (weight : List A → ℕ) (one : A → ℕ) (nil-is : weight [] ≡ 0) (cons-is : (x : A) (l : List A) → weight (x ∷ l) ≡ one x + weight l) where
-  -- one more weighs no more than it does
-  put-weight : (x : A) (l : List A) → weight (put key x l) ≤ one x + weight l
-  unfolding put
-  put-weight x [] = omega (arith, cons-is x [])
-  put-weight x (y ∷ l) = go (ltb (rank (key x)) (rank (key y))) (eqb (rank (key x)) (rank (key y))) (put-weight x l)
-    where
-      go : (a b : Bool) → weight (put key x l) ≤ one x + weight l → weight (cond a (x ∷ y ∷ l) (cond b (y ∷ l) (y ∷ put key x l))) ≤ one x + weight (y ∷ l)
-      go true b h = omega (arith, cons-is x (y ∷ l))
-      go false true h = omega arith
-      go false false h = omega (arith, cons-is y (put key x l), cons-is y l)
-
-  -- all of them
-  ordered-weight : (l : List A) → weight (ordered key l) ≤ weight l
-  unfolding ordered
-  ordered-weight [] = omega arith
-  ordered-weight (x ∷ l) = omega (arith, cons-is x l, put-weight x (ordered key l), ordered-weight l)
-
--- no more keys
-length-orderedKeys : (l : List ℕ) → length (orderedKeys l) ≤ length l
-length-orderedKeys l = ordered-weight (λ (k : ℕ). k) length (λ (k : ℕ). 1) refl (λ x m. omega arith) l
-
--- no more ints of updates
-pub length-orderedUpdates : (l : List Item) → length (updatesInts [] (orderedUpdates l)) ≤ length (updatesInts [] l)
-unfolding updatesInts
-length-orderedUpdates l =
-    ordered-weight (λ (x : Item). x .key) (λ (m : List Item). length (updatesInts [] m)) (λ (x : Item). length (updateInts [] x)) refl
-    (λ x m. length-append (updateInts [] x) (updatesInts [] m)) l
-
--- as many bits as ints
-pub length-bits : (l : List ℤ) → length (map bits l) ≡ length l
-length-bits [] = refl
-length-bits (x ∷ l) = ap suc (length-bits l)
-
--- no more keys than were read
-pub few-deleted : (values : List ℤ) → length (orderedKeys (map bits values)) ≤ length values
-few-deleted values = omega (arith, length-orderedKeys (map bits values), length-bits values)
 
 -- ---- stored, or refused for want of room
 

@@ -20,7 +20,8 @@ use Rattle.delta_source.specs.Source.{Source, size}
 use Rattle.delta_entries.specs.Told.{Told}
 use Rattle.delta_any_order.specs.Fronts.{Weighs, Laid}
 use Rattle.delta_any_order.specs.declared.checked.Front.{Front}
-use Rattle.delta_any_order.proofs.Storing.{few-deleted, no-room, whole-fits, updates-laid, stored-whole}
+use Rattle.delta_any_order.proofs.Storing.{no-room, whole-fits, updates-laid, stored-whole}
+use Rattle.delta_any_order.specs.OrderLaws.{few-deleted}
 use Rattle.delta_any_order.proofs.Fronting.{same-values, same-items}
 
 module _ {s : Source} {sizes : List ℤ} {f : Front} {n room : ℕ} {t : Tally} (W : Weighs s sizes f n room t) where

@@ -33,7 +33,7 @@ use Rattle.delta_any_order.specs.KeyLaws.{walk-repeats}
 use Rattle.delta_any_order.specs.ReadLaws.{twice, otherCount, readEnding, header-refused, keys-short, delta-walked}
 use Rattle.delta_any_order.specs.Fronts.{Fronts}
 use Rattle.delta_any_order.specs.declared.checked.Front.{Front}
-use Rattle.delta_any_order.proofs.Storing.{length-bits}
+use Rattle.delta_any_order.specs.OrderLaws.{length-bits}
 use Rattle.delta_any_order.proofs.Fronting.{told}
 
 -- a refused reading leaves the area as it was

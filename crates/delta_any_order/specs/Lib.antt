@@ -3,3 +3,4 @@ pub mod Counted
 pub mod KeyLaws
 pub mod ReadLaws
 pub mod Fronts
+pub mod OrderLaws

@@ -23,7 +23,7 @@ use Rattle.storage.specs.States.{storeOf, ackOf, holdsIn, Holds}
 use Rattle.storage.specs.Answers.{settings}
 use Rattle.storage.specs.declared.Storage.{Storage}
 use Rattle.storage.specs.declared.Set.the-variants as set
-use Rattle.storage.proofs.Forms.{holds-is}
+use Rattle.storage.specs.Told.{holds-is}
 
 module _ (s : Store.Store) (a : List ℤ) (tick : ℤ) where
   -- the store is not in form

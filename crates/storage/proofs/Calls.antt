@@ -28,7 +28,7 @@ use Rattle.storage.specs.declared.Added.{Added}
 use Rattle.storage.specs.declared.Added.the-variants as added
 use Rattle.storage.specs.declared.Adding.{Adding}
 use Rattle.storage.specs.Steps.{making, addedOf, storeAfter, areaAfter, addingTo}
-use Rattle.storage.proofs.Forms.{beside-is}
+use Rattle.storage.specs.Told.{beside-is}
 use Rattle.storage.proofs.Additions.{added-by}
 
 -- ---- the call

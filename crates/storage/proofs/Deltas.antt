@@ -11,7 +11,6 @@ use borrow.Author.Tests.{le-leb, lt-leb}
 use lib.IntN.{ℤ, negsuc}
 use lib.ListN.{length, take}
 use lib.Seq.{take-all, length-take-le}
-use Rattle.definitions.specs.Ints.{signedLess}
 use Rattle.definitions.specs.Warnings.{Counts, plus}
 use Rattle.definitions.specs.Outcome.{Outcome, ok, err, after, _>>=_, _>>_}
 use Rattle.definitions.specs.Tables as Tables
@@ -37,6 +36,7 @@ use Rattle.typed_applying.specs.Answers as Applied
 use Rattle.typed_applying.specs.declared.checked.Table.{Table}
 use Rattle.typed_applying.specs.declared.checked.Table.the-variants as table
 use Rattle.typed_applying.specs.declared.checked.Typed.{Typed}
+use Rattle.storage.specs.Fewer.{few-for}
 use Rattle.storage.specs.States.{storeOf, deltaOf, holdsIn, Holds}
 use Rattle.storage.specs.Taking.{sumOf, takings, baseIn, warned, DropsFor, Applies}
 use Rattle.storage.specs.declared.Storage.{Storage}
@@ -88,21 +88,6 @@ sound-for tick l false s = sound-older tick l s
 within-for : (tick : ℤ) (l : List Store.StoredSnap) (b : Bool) → length (Store.storeInts (cond b l (Store.dropOlder tick l))) ≤ length (Store.storeInts l)
 within-for tick l true = omega arith
 within-for tick l false = older-within tick l
-
--- tables that are not older are no more than all
-fewer : (tick : ℤ) (l : List Store.StoredSnap) → length (Store.dropOlder tick l) ≤ length l
-unfolding Store.dropOlder
-fewer tick [] = omega arith
-fewer tick (x ∷ l) = by (signedLess (x .tick) tick) (fewer tick l)
-  where
-    by : (b : Bool) → length (Store.dropOlder tick l) ≤ length l → length (cond b [] (x ∷ Store.dropOlder tick l)) ≤ length (x ∷ l)
-    by true h = omega arith
-    by false h = omega arith
-
--- nor are those that are left
-few-for : (tick : ℤ) (l : List Store.StoredSnap) (b : Bool) → length (cond b l (Store.dropOlder tick l)) ≤ length l
-few-for tick l true = omega arith
-few-for tick l false = fewer tick l
 
 -- what is left
 pub record LeftFor (s : Store.Store) (a : List ℤ) (tick : ℤ) (n k : ℕ) (out : List ℤ) : Type 0 where

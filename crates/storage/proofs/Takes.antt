@@ -117,13 +117,24 @@ module _ (s : Store.Store) (a : List ℤ) (sum : Option ℤ) (base tick : ℤ) (
       unfolding Calls.heldStorage Calls.judgeDelta Calls.afterJudging
       take-41 h = rw (e, f, lt-leb 16384 n h)
 
-      module _ (k : ℕ) (h : Holds s a k) (r : 16384 ≤ n) where
-        -- the tick is old
-        pub take-30 : signedLess (Store.newestTick (snapsIn (s .count) a)) tick ≡ false → Call ≡ refusing storeOldDelta s a
-        unfolding Calls.heldStorage Calls.judgeDelta Calls.afterJudging Store.addDelta
-        take-30 g = rw (e, f, le-leb 16384 n r, g, h .held .many, ← h .held .stands .area-is)
+      -- all was judged
+      pub take-all : 16384 ≤ n → Call ≡ Calls.laidOut a (Store.addDelta (length a) sum base tick d (holdsIn s a))
+      unfolding Calls.heldStorage Calls.judgeDelta Calls.afterJudging
+      take-all r = rw (e, f, le-leb 16384 n r)
 
-        -- it is new
-        pub take-new : signedLess (Store.newestTick (snapsIn (s .count) a)) tick ≡ true → Call ≡ Calls.laidOut a (addingOn (length a) sum base tick d (holdsIn s a))
-        unfolding Calls.heldStorage Calls.judgeDelta Calls.afterJudging Store.addDelta addingOn
-        take-new g = rw (e, f, le-leb 16384 n r, g)
+-- ---- what was judged
+
+module _ (s : Store.Store) (a : List ℤ) (sum : Option ℤ) (base tick : ℤ) (d : Delta) where
+  -- the call then
+  abbrev Judged : Calls.StoreStep ℤ
+  Judged = Calls.laidOut a (Store.addDelta (length a) sum base tick d (holdsIn s a))
+
+  -- the tick is old
+  pub take-30 : (k : ℕ) → Holds s a k → signedLess (Store.newestTick (snapsIn (s .count) a)) tick ≡ false → Judged ≡ refusing storeOldDelta s a
+  unfolding Store.addDelta
+  take-30 k h g = rw (g, h .held .many, ← h .held .stands .area-is)
+
+  -- it is new
+  pub take-new : signedLess (Store.newestTick (snapsIn (s .count) a)) tick ≡ true → Judged ≡ Calls.laidOut a (addingOn (length a) sum base tick d (holdsIn s a))
+  unfolding Store.addDelta addingOn
+  take-new g = rw g

@@ -547,6 +547,26 @@ pub fn take_on(
     hold_made(with_count(s, left.count), m, made, area, left.ints, scratch)
 }
 
+// A delta for a tick, where store and delta were judged. What scratch then holds is of no account.
+pub fn take_judged(
+    s: Storage,
+    m: Sent,
+    delta: &[i32],
+    deleted: usize,
+    updated: usize,
+    area: &mut [i32],
+    ints: usize,
+    scratch: &mut [i32],
+) -> Taking
+    requires { ⌜ Holds (storeOf s) (now area) ints × HeldDelta [] (now delta) deleted updated × (16384 ≤ length (now scratch)) ⌝ }
+    ensures { λ r. ⌜ laidOut (now (area .entry)) (Store.addDelta (length (now (area .entry))) (sumOf m) (m .«delta_tick») (m .tick) (deltaIn [] (now (delta .entry))) (holdsIn (storeOf s) (now (area .entry)))) ≡ takings r (now (area .exit)) ⌝ }
+{
+    if !is_newer(area, s.count, m.tick) {
+        return not_taken(s, Error::StoreOldDelta);
+    }
+    take_on(s, m, delta, deleted, updated, area, ints, scratch)
+}
+
 // A delta for a tick. What scratch then holds is of no account.
 pub fn take(s: Storage, m: Sent, delta: &[i32], area: &mut [i32], scratch: &mut [i32]) -> Taking
     ensures { λ r. ⌜ addDeltaCall (storeOf s) (now (area .entry)) (sumOf m) (m .«delta_tick») (m .tick) (now (delta .entry)) (length (now (scratch .entry))) ≡ takings r (now (area .exit)) ⌝ }
@@ -565,8 +585,5 @@ pub fn take(s: Storage, m: Sent, delta: &[i32], area: &mut [i32], scratch: &mut 
     if scratch.len() < 16384 {
         return not_taken(s, Error::ScratchTooShort);
     }
-    if !is_newer(area, s.count, m.tick) {
-        return not_taken(s, Error::StoreOldDelta);
-    }
-    take_on(s, m, delta, deleted, updated, area, ints, scratch)
+    take_judged(s, m, delta, deleted, updated, area, ints, scratch)
 }

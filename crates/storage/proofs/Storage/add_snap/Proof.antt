@@ -3,7 +3,7 @@ use Rattle.definitions.specs.Tables.{items, tableOf}
 use Rattle.format.specs.declared.Error.the-variants as error
 use Rattle.laws.specs.TableShape.{some-is}
 use Rattle.storage.proofs.Calls.{store-47, new-47, both-held, full-44, not-added-by}
-use Rattle.storage.proofs.Forms.{not-held, told, Told}
+use Rattle.storage.specs.Told.{not-held, told, Told}
 use Rattle.storage.specs.States.{storeOf}
 use Rattle.table.specs.Forms.{formed, unformed}
 use Rattle.table.specs.Held.{formOf}

@@ -1,6 +1,6 @@
 -- `Storage::set_delta_tick` meets its contract: by the form of the store and the sign of the tick. Assumes nothing.
 use Rattle.storage.proofs.Bases.{refused-47, no-base, set-held}
-use Rattle.storage.proofs.Forms.{not-held, told, Told}
+use Rattle.storage.specs.Told.{not-held, told, Told}
 use Rattle.storage.specs.States.{storeOf, holdsIn}
 use denote.Ref.{now}
 use mathlib.Core.Path.{sym, _∙_}

@@ -5,7 +5,7 @@ use Rattle.definitions.specs.Tables.{items}
 use Rattle.laws.specs.TableShape.{some-is}
 use Rattle.storage.proofs.Additions.{made-room}
 use Rattle.storage.proofs.Calls.{room-is, adding-ends, clashes}
-use Rattle.storage.proofs.Forms.{holds-is}
+use Rattle.storage.specs.Told.{holds-is}
 use Rattle.storage.specs.Answers.{Clashing}
 use Rattle.storage.specs.States.{storeOf, holdsIn, deltaOf}
 use Rattle.storage.specs.Steps.{addedOf}

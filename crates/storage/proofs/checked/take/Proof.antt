@@ -1,20 +1,14 @@
 -- `checked::take` meets its contract: refusal by refusal. Assumes nothing.
-use Rattle.definitions.specs.Ints.{signedLess}
-use Rattle.definitions.specs.Storage as Store
 use Rattle.delta_form.specs.Forms as DeltaForms
 use Rattle.delta_form.specs.Held.{HeldDelta}
-use Rattle.storage.proofs.Forms.{not-held, told, Told}
-use Rattle.storage.proofs.Takes.{take-47, delta-47, take-41, take-30, take-new}
+use Rattle.storage.specs.Told.{not-held, told, Told}
+use Rattle.storage.proofs.Takes.{take-47, delta-47, take-41, take-all}
 use Rattle.storage.specs.States.{storeOf}
 use Rattle.storage.specs.Taking.{sumOf}
-use Rattle.store_area.specs.Held.{snapsIn}
-use borrow.Author.Tests.{not-true, not-false}
 use denote.Ref.{now}
 use lib.ListN.{length}
 use mathlib.Core.List.{[]}
-use mathlib.Core.Path.{_≡_, sym, _∙_}
-use mir.Facts.{toZ-ofZ}
-use mir.Syntax.{w32}
+use mathlib.Core.Path.{sym, _∙_}
 use borrow.Author.Needs.{needs}
 use Rattle.storage.proofs.checked.take.Statement.{statement}
 use Rattle.storage.proofs.checked.take.Tie as tie
@@ -26,10 +20,6 @@ in-form c = told _ _ _ (sym (c .ints .given .1) ∙ c .before .before .form .ens
 -- and so is the delta
 held : (c : tie.After-deleted) → HeldDelta [] (now (c .before .before .before .before .before .before .before .before .before .args .delta)) (c .deleted .given .0 .0) (c .deleted .given .0 .1 .0)
 held c = DeltaForms.formed [] (now (c .before .before .before .before .before .before .before .before .before .args .delta)) _ _ _ (sym (c .deleted .given .1) ∙ c .before .before .form2 .ensures) .0
-
--- whether the tick is new
-newer : (c : tie.After-is-newer) → c .is-newer .result ≡ signedLess (Store.newestTick (snapsIn (c .before .before .before .before .before .before .before .before .before .before .before .before .before .before .args .s .count) (now (c .before .before .before .before .before .before .before .before .before .before .before .before .before .before .args .area)))) (c .before .before .before .before .before .before .before .before .before .before .before .before .before .before .args .m .tick)
-newer c = rw (toZ-ofZ {w = w32} {z = c .before .before .before .before .before .before .before .before .before .before .before .before .before .before .args .m .tick} (record { sfits = c .before .struct-told .given .1 .1 .1 .0 .1 })) at (c .is-newer .ensures)
 
 form-requires : tie.Need-form-requires
 form-requires c κs = search needs
@@ -79,29 +69,17 @@ same-length-3 c = search needs
 returns-3 : tie.Need-returns-3
 returns-3 c = take-41 (storeOf (c .before .before .before .before .before .before .before .before .before .before .before .before .args .s)) (now (c .before .before .before .before .before .before .before .before .before .before .before .before .args .area)) (sumOf (c .before .before .before .before .before .before .before .before .before .before .before .before .args .m)) (c .before .before .before .before .before .before .before .before .before .before .before .before .args .m .«delta_tick») (c .before .before .before .before .before .before .before .before .before .before .before .before .args .m .tick) (now (c .before .before .before .before .before .before .before .before .before .before .before .before .args .delta)) (length (now (c .before .before .before .before .before .before .before .before .before .before .before .before .args .scratch))) (in-form (c .before .before .before .before .before .before .before .before) .is) _ (DeltaForms.is-held _ _ _ (held (c .before .before .before))) (c .before .if1 .taken) ∙ c .not-taken3 .ensures (now (c .before .before .before .before .before .before .before .before .before .before .before .before .args .area))
 
-is-newer-requires : tie.Need-is-newer-requires
-is-newer-requires c κs = in-form (c .before .before .before .before .before .before .before .before .before) .holds .held
-
-not-taken-requires-4 : tie.Need-not-taken-requires-4
-not-taken-requires-4 c κs = search needs
+take-judged-requires : tie.Need-take-judged-requires
+take-judged-requires c κs = (in-form (c .before .before .before .before .before .before .before .before .before) .holds, held (c .before .before .before .before), c .before .before .if1 .left)
 
 same-length-4 : tie.Need-same-length-4
 same-length-4 c = search needs
 
-returns-4 : tie.Need-returns-4
-returns-4 c = take-30 (storeOf (c .before .before .before .before .before .before .before .before .before .before .before .before .before .before .before .before .args .s)) (now (c .before .before .before .before .before .before .before .before .before .before .before .before .before .before .before .before .args .area)) (sumOf (c .before .before .before .before .before .before .before .before .before .before .before .before .before .before .before .before .args .m)) (c .before .before .before .before .before .before .before .before .before .before .before .before .before .before .before .before .args .m .«delta_tick») (c .before .before .before .before .before .before .before .before .before .before .before .before .before .before .before .before .args .m .tick) (now (c .before .before .before .before .before .before .before .before .before .before .before .before .before .before .before .before .args .delta)) (length (now (c .before .before .before .before .before .before .before .before .before .before .before .before .before .before .before .before .args .scratch))) (in-form (c .before .before .before .before .before .before .before .before .before .before .before .before) .is) _ (DeltaForms.is-held _ _ _ (held (c .before .before .before .before .before .before .before))) _ (in-form (c .before .before .before .before .before .before .before .before .before .before .before .before) .holds) (c .before .before .before .before .before .if1 .left) (sym (newer (c .before .before)) ∙ not-true _ (c .before .if2 .taken)) ∙ c .not-taken4 .ensures (now (c .before .before .before .before .before .before .before .before .before .before .before .before .before .before .before .before .args .area))
-
-take-on-requires : tie.Need-take-on-requires
-take-on-requires c κs = (in-form (c .before .before .before .before .before .before .before .before .before .before .before .before .before) .holds, held (c .before .before .before .before .before .before .before .before), c .before .before .before .before .before .before .if1 .left)
-
 same-length-5 : tie.Need-same-length-5
 same-length-5 c = search needs
 
-same-length-6 : tie.Need-same-length-6
-same-length-6 c = search needs
-
-returns-5 : tie.Need-returns-5
-returns-5 c = take-new (storeOf (c .before .before .before .before .before .before .before .before .before .before .before .before .before .before .before .before .before .before .before .before .args .s)) (now (c .before .before .before .before .before .before .before .before .before .before .before .before .before .before .before .before .before .before .before .before .args .area)) (sumOf (c .before .before .before .before .before .before .before .before .before .before .before .before .before .before .before .before .before .before .before .before .args .m)) (c .before .before .before .before .before .before .before .before .before .before .before .before .before .before .before .before .before .before .before .before .args .m .«delta_tick») (c .before .before .before .before .before .before .before .before .before .before .before .before .before .before .before .before .before .before .before .before .args .m .tick) (now (c .before .before .before .before .before .before .before .before .before .before .before .before .before .before .before .before .before .before .before .before .args .delta)) (length (now (c .before .before .before .before .before .before .before .before .before .before .before .before .before .before .before .before .before .before .before .before .args .scratch))) (in-form (c .before .before .before .before .before .before .before .before .before .before .before .before .before .before .before .before) .is) _ (DeltaForms.is-held _ _ _ (held (c .before .before .before .before .before .before .before .before .before .before .before))) _ (in-form (c .before .before .before .before .before .before .before .before .before .before .before .before .before .before .before .before) .holds) (c .before .before .before .before .before .before .before .before .before .if1 .left) (sym (newer (c .before .before .before .before .before .before)) ∙ not-false _ (c .before .before .before .before .before .if2 .left)) ∙ c .before .before .take-on .ensures
+returns-4 : tie.Need-returns-4
+returns-4 c = take-all (storeOf (c .before .before .before .before .before .before .before .before .before .before .before .before .before .before .before .before .args .s)) (now (c .before .before .before .before .before .before .before .before .before .before .before .before .before .before .before .before .args .area)) (sumOf (c .before .before .before .before .before .before .before .before .before .before .before .before .before .before .before .before .args .m)) (c .before .before .before .before .before .before .before .before .before .before .before .before .before .before .before .before .args .m .«delta_tick») (c .before .before .before .before .before .before .before .before .before .before .before .before .before .before .before .before .args .m .tick) (now (c .before .before .before .before .before .before .before .before .before .before .before .before .before .before .before .before .args .delta)) (length (now (c .before .before .before .before .before .before .before .before .before .before .before .before .before .before .before .before .args .scratch))) (in-form (c .before .before .before .before .before .before .before .before .before .before .before .before) .is) _ (DeltaForms.is-held _ _ _ (held (c .before .before .before .before .before .before .before))) (c .before .before .before .before .before .if1 .left) ∙ c .before .before .take-judged .ensures
 
 pub take-spec : {M : Type 1} → statement M
 take-spec =
@@ -123,11 +101,7 @@ take-spec =
     not-taken-requires-3
     same-length-3
     returns-3
-    is-newer-requires
-    not-taken-requires-4
+    take-judged-requires
     same-length-4
-    returns-4
-    take-on-requires
     same-length-5
-    same-length-6
-    returns-5)
+    returns-4)

@@ -1,0 +1,2 @@
+-- What C sees, from a message whose step is known. Assumes nothing.
+pub mod Calls

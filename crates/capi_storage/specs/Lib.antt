@@ -1,0 +1,2 @@
+-- How the answers of a store look from C. Assumes nothing.
+pub mod Told

@@ -1,0 +1,3 @@
+-- What the manager's answers and steps mean. Assumes nothing.
+pub mod Answers
+pub mod Steps
