@@ -1,0 +1,3 @@
+-- Lemmas of the logbook. Assumes nothing.
+pub mod Lists
+pub mod Notes

@@ -1,0 +1,2 @@
+-- What the logbook of the code holds. Assumes nothing.
+pub mod States
