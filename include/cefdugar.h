@@ -104,6 +104,27 @@ uint32_t cef_read_int(const uint8_t *src, size_t src_len, size_t at,
                       size_t warnings[CEF_WARNINGS]);
 
 /*
+ * What a reader over the packed bytes answers that stands at place `at`: the
+ * next integer, and where the reader then stands.
+ *
+ * CEF_OK: *value is the integer.
+ * CEF_UNEXPECTED_END: the bytes end inside it, or at >= src_len. *value is
+ * left.
+ *
+ * In both cases: *next is the place after the integer, or the end of the
+ * bytes where they ended; *left is how many bytes are left from there on;
+ * *empty is 1 where none are, else 0; all counts of `warnings` are set.
+ */
+uint32_t cef_unpacker_read_int(const uint8_t *src, size_t src_len, size_t at,
+                               int32_t *value, size_t *next, size_t *left,
+                               uint32_t *empty, size_t warnings[CEF_WARNINGS]);
+
+/* The same of a reader over ints, which have no warnings. */
+uint32_t cef_int_unpacker_read_int(const int32_t *src, size_t src_len,
+                                   size_t at, int32_t *value, size_t *next,
+                                   size_t *left, uint32_t *empty);
+
+/*
  * Writes `value` in its shortest form at place `at` of the `out_len` bytes at
  * `out`.
  *
@@ -147,8 +168,9 @@ uint32_t cef_unpack(const uint8_t *src, size_t src_len, int32_t *out,
  * keys read as unsigned. An item's key is its type times 65,536 and its id.
  * A table begins at the area's first int; the ints behind it are not judged
  * and are left. CEF_NOT_IN_FORM means that an area holds no table;
- * everything that was lent is then left. Only cef_table_item and
- * cef_table_walk_item give no ints in its place.
+ * everything that was lent is then left, but for scratch and the counts of
+ * warnings. Only cef_table_item, cef_table_walk_item and cef_snap_item give no
+ * ints in its place.
  *
  * CEF_CAPACITY_ERROR means that a result does not fit into the area lent for
  * it, and nothing else is wrong. *count is then left as well.
@@ -275,6 +297,171 @@ uint32_t cef_table_walk_item(const int32_t *area, size_t area_len, size_t i,
 uint32_t cef_table_add_item(int32_t *area, size_t area_len,
                             uint16_t raw_type_id, uint16_t id,
                             const int32_t *values, size_t values_len,
+                            size_t *count);
+
+/*
+ * Applies the delta in `delta`, see below, to the table in `base`, into the
+ * front of the `out_len` ints at `out`: what the delta does not delete is
+ * kept, and differences are added to what the base has. An update of a
+ * deleted key still adds to the base's data.
+ *
+ * CEF_OK: the table takes *count ints there.
+ * CEF_NOT_IN_FORM: `base` holds no table, or `delta` no delta.
+ * CEF_SCRATCH_TOO_SHORT: scratch_len < CEF_SCRATCH_INTS.
+ * CEF_TOO_MANY_ITEMS, CEF_TOO_LONG_SNAP: an update is one item too many, or
+ * too long. CEF_DELTA_DIFFERING_SIZES: it has not the length of the base's
+ * item. These are judged update by update.
+ * CEF_CAPACITY_ERROR: the table does not fit.
+ * Judged in this order. A refused call leaves `out` and *count.
+ *
+ * `scratch` is zeros afterwards, refused or not. `warnings`: all counts up to
+ * the refusal are set.
+ */
+uint32_t cef_table_read_with_delta(const int32_t *base, size_t base_len,
+                                   const int32_t *delta, size_t delta_len,
+                                   int32_t *out, size_t out_len,
+                                   int32_t *scratch, size_t scratch_len,
+                                   size_t *count,
+                                   size_t warnings[CEF_WARNINGS]);
+
+/* ---- Types ---- */
+
+/* A kind's 16 bytes are four ints, each with its highest byte first. */
+#define CEF_UUID_INTS 4
+
+/* What the type of an item is. */
+#define CEF_TYPE_NONE 0u
+#define CEF_TYPE_ORDINAL 1u
+#define CEF_TYPE_UUID 2u
+
+/*
+ * The type of an item is a number from 1 up and below 0x4000, or a kind of 16
+ * bytes. In a table both are numbers of 16 bits, raw types: a kind's is the id
+ * of the item of type 0 that names it by its first four ints. Types are sound
+ * where each item of type 0 has four ints or more, no two of them name one
+ * kind, and each type from 0x4000 up has an item of type 0 whose id it is.
+ *
+ * A type is three parameters: where is_uuid is 0 it is the number `ordinal`,
+ * and `uuid` is not looked at; else it is the kind `uuid`, and `ordinal` is
+ * not looked at.
+ *
+ * CEF_INVALID_TYPE_ID means that is_uuid is 0, and `ordinal` is 0 or from
+ * 0x4000 up. It comes behind CEF_NOT_IN_FORM; with both, everything that was
+ * lent is left.
+ */
+
+/*
+ * As cef_table_read, and the table's types must be sound: they are judged in
+ * the order of keys read as signed, with CEF_DUPLICATE_UUID_TYPE,
+ * CEF_INVALID_UUID_TYPE and CEF_MISSING_UUID_TYPE, before CEF_CAPACITY_ERROR.
+ */
+uint32_t cef_snap_read(const uint8_t *src, size_t src_len, int32_t *out,
+                       size_t out_len, int32_t *scratch, size_t scratch_len,
+                       size_t *count, size_t warnings[CEF_WARNINGS]);
+
+/*
+ * As cef_table_read_from_ints, and the types must be sound, as in
+ * cef_snap_read. First CEF_SCRATCH_TOO_SHORT is judged: scratch_len <
+ * CEF_SCRATCH_INTS. `scratch` is zeros afterwards, refused or not.
+ */
+uint32_t cef_snap_read_from_ints(const int32_t *src, size_t src_len,
+                                 int32_t *out, size_t out_len,
+                                 int32_t *scratch, size_t scratch_len,
+                                 size_t *count, size_t warnings[CEF_WARNINGS]);
+
+/*
+ * As cef_table_read_with_delta, and the types of the table that the delta
+ * makes must be sound, as in cef_snap_read.
+ */
+uint32_t cef_snap_read_with_delta(const int32_t *base, size_t base_len,
+                                  const int32_t *delta, size_t delta_len,
+                                  int32_t *out, size_t out_len,
+                                  int32_t *scratch, size_t scratch_len,
+                                  size_t *count,
+                                  size_t warnings[CEF_WARNINGS]);
+
+/*
+ * CEF_OK: *known is 1 and *raw_type_id the raw type of this type, or *known is
+ * 0 and *raw_type_id left where no item of the table names the kind. The raw
+ * type of a number is the number.
+ * CEF_NOT_IN_FORM, CEF_INVALID_TYPE_ID: *known and *raw_type_id are left.
+ */
+uint32_t cef_snap_raw_type_id(const int32_t *area, size_t area_len,
+                              uint32_t is_uuid, uint16_t ordinal,
+                              const int32_t uuid[CEF_UUID_INTS],
+                              uint32_t *known, uint16_t *raw_type_id);
+
+/*
+ * CEF_OK: *kind says what the type of this raw type is. CEF_TYPE_ORDINAL:
+ * *ordinal is the number, `uuid` is left. CEF_TYPE_UUID: `uuid` is the kind,
+ * *ordinal is left. CEF_TYPE_NONE, for 0 and where no item names a kind of
+ * this raw type: both are left.
+ * CEF_NOT_IN_FORM: *kind, *ordinal and `uuid` are left.
+ */
+uint32_t cef_snap_type_id(const int32_t *area, size_t area_len,
+                          uint16_t raw_type_id, uint32_t *kind,
+                          uint16_t *ordinal, int32_t uuid[CEF_UUID_INTS]);
+
+/*
+ * CEF_OK: *has is 1 where the table has an item of this type and id, else 0.
+ * CEF_NOT_IN_FORM, CEF_INVALID_TYPE_ID: *has is left.
+ */
+uint32_t cef_snap_has_item(const int32_t *area, size_t area_len,
+                           uint32_t is_uuid, uint16_t ordinal,
+                           const int32_t uuid[CEF_UUID_INTS], uint16_t id,
+                           uint32_t *has);
+
+/*
+ * Copies the data of the item of this type and id to the front of the
+ * `out_len` ints at `out`.
+ *
+ * CEF_OK: *count ints are written. They are none where there is no such item,
+ * where it has no data, where the type is no valid one, and where the area
+ * holds no table: cef_snap_has_item tells these apart.
+ * CEF_CAPACITY_ERROR: `out` and *count are left.
+ */
+uint32_t cef_snap_item(const int32_t *area, size_t area_len, uint32_t is_uuid,
+                       uint16_t ordinal, const int32_t uuid[CEF_UUID_INTS],
+                       uint16_t id, int32_t *out, size_t out_len,
+                       size_t *count);
+
+/* ---- The builder ---- */
+
+/*
+ * A builder makes a table item by item. The items that name its kinds have ids
+ * from 0x4000 up without a gap and four ints each, and its types are sound;
+ * CEF_NOT_IN_FORM means that an area holds no such table.
+ */
+
+/*
+ * Writes the empty table, two ints, to the front of the `out_len` ints at
+ * `out`. Answers as cef_table_empty does.
+ */
+uint32_t cef_builder_new(int32_t *out, size_t out_len, size_t *count);
+
+/*
+ * Adds an item of this type and id with the `values_len` ints at `values` to
+ * the table in `area`. Where the type is a kind that the table does not know,
+ * an item that names it is added first, with the next number.
+ *
+ * CEF_OK: the table now takes *count ints.
+ * CEF_NOT_IN_FORM, CEF_INVALID_TYPE_ID, judged in this order; then, of each
+ * item that is added, CEF_DUPLICATE_KEY, CEF_TOO_MANY_ITEMS,
+ * CEF_TOO_LONG_SNAP, CEF_CAPACITY_ERROR: *count is left, and `area` as well,
+ * but for an item that names a new kind, which stays where only the other one
+ * is refused.
+ */
+uint32_t cef_builder_add_item(int32_t *area, size_t area_len, uint32_t is_uuid,
+                              uint16_t ordinal,
+                              const int32_t uuid[CEF_UUID_INTS], uint16_t id,
+                              const int32_t *values, size_t values_len,
+                              size_t *count);
+
+/*
+ * CEF_OK: *count is how many ints the builder's table takes.
+ * CEF_NOT_IN_FORM: *count is left.
+ */
+uint32_t cef_builder_finish(const int32_t *area, size_t area_len,
                             size_t *count);
 
 /* ---- Deltas ---- */
@@ -547,6 +734,243 @@ uint32_t cef_receiver_snap_empty(int32_t ticks[4], uint32_t counts[3],
                                  int32_t delta_tick, uint32_t *kind,
                                  int32_t received[CEF_RECEIVED_NUMBERS],
                                  size_t *len, size_t warnings[CEF_WARNINGS]);
+
+/* ---- The store ---- */
+
+/* The most tables that a store holds. */
+#define CEF_STORED_TABLES 100
+
+/*
+ * A store of tables by tick, the newest first. cef_storage_new sets it;
+ * between calls a program keeps it beside its area and changes neither.
+ *
+ * ticks: the tick acknowledged last, the tick of the base that is set.
+ * counts: how many tables are held, whether a tick is acknowledged, whether a
+ * base is set. A flag that is not 0 says yes.
+ *
+ * The area holds for each table its tick, how many ints it takes and these
+ * ints, and zeros behind the last one: 2 ints and the table's own for each
+ * table held. An area of zeros goes with a new store. CEF_NOT_IN_FORM means
+ * that the counts and the area do not agree, or that more than
+ * CEF_STORED_TABLES are told; everything that was lent is then left, but for
+ * scratch and the counts of warnings. Where a call other than
+ * cef_storage_reset leaves the store as it was, the two arrays are left entry
+ * for entry.
+ *
+ * The calls take the two arrays one by one.
+ */
+typedef struct {
+    int32_t ticks[2];
+    uint32_t counts[3];
+} cef_storage;
+
+/* A store without tables. */
+void cef_storage_new(int32_t ticks[2], uint32_t counts[3]);
+
+/*
+ * Empties the store and sets its area to zeros, whatever they held. No tick
+ * is acknowledged; the base that is set stays.
+ */
+void cef_storage_reset(int32_t ticks[2], uint32_t counts[3], int32_t *area,
+                       size_t area_len);
+
+/*
+ * CEF_OK: *end is 0 and *tick the tick of table `i`, the newest being 0, or
+ * *end is 1 and *tick left where no more than `i` tables are held.
+ * CEF_NOT_IN_FORM: *tick and *end are left.
+ */
+uint32_t cef_storage_snap_tick(const int32_t ticks[2],
+                               const uint32_t counts[3], const int32_t *area,
+                               size_t area_len, size_t i, int32_t *tick,
+                               uint32_t *end);
+
+/*
+ * Copies table `i`, the newest being 0, to the front of the `out_len` ints at
+ * `out`.
+ *
+ * CEF_OK: *count ints are written. They are none where no more than `i`
+ * tables are held, and where the store is not in form: cef_storage_snap_tick
+ * tells these apart.
+ * CEF_CAPACITY_ERROR: `out` and *count are left.
+ */
+uint32_t cef_storage_snap(const int32_t ticks[2], const uint32_t counts[3],
+                          const int32_t *area, size_t area_len, size_t i,
+                          int32_t *out, size_t out_len, size_t *count);
+
+/*
+ * Sets the base of the tables that are added next. The first table older than
+ * `tick`, from the newest side, and all behind it are dropped; the base must
+ * then be the oldest. A negative tick sets none and drops nothing.
+ *
+ * CEF_OK: the base is set, or none is.
+ * CEF_NOT_IN_FORM: all is left.
+ * CEF_UNKNOWN_SNAP: no such table is held. Older tables are dropped, and no
+ * base is set.
+ *
+ * `warnings`: all counts of this call are set, refused or not.
+ */
+uint32_t cef_storage_set_delta_tick(int32_t ticks[2], uint32_t counts[3],
+                                    int32_t tick, int32_t *area,
+                                    size_t area_len,
+                                    size_t warnings[CEF_WARNINGS]);
+
+/*
+ * Adds the table in `table` as the newest, for `tick`, and makes its delta in
+ * the front of the `delta_len` ints at `delta`: against the oldest table then
+ * held, this one included, where a base is set, else against the empty table.
+ * CEF_DELTA_INTS have room for any delta between two tables.
+ *
+ * CEF_OK: *base is the tick of the delta's base, -1 for the empty table, and
+ * the delta takes *count ints. *clash is left.
+ * CEF_NOT_IN_FORM: the store is not in form, or `table` holds no table.
+ * CEF_STORE_FULL: CEF_STORED_TABLES are held.
+ * CEF_DELTA_DIFFERING_SIZES: both tables have an item with the key *clash,
+ * with data of different lengths.
+ * CEF_CAPACITY_ERROR: the store or the delta does not fit its area.
+ * Judged in this order. A refused call leaves the store, both areas and all
+ * outputs but the key of CEF_DELTA_DIFFERING_SIZES.
+ */
+uint32_t cef_storage_add_snap(int32_t ticks[2], uint32_t counts[3],
+                              int32_t tick, const int32_t *table,
+                              size_t table_len, int32_t *delta,
+                              size_t delta_len, int32_t *area,
+                              size_t area_len, int32_t *base, size_t *count,
+                              int32_t *clash);
+
+/*
+ * Takes the delta in `delta` for `tick` and applies it to the table of tick
+ * `delta_tick`, or to the empty table where that is negative. Tables older
+ * than the base are dropped, and the base must then be the oldest. The table
+ * that the delta makes is held as the newest and acknowledged; the 101st
+ * pushes out the oldest. Where has_crc is not 0, its sum must be `crc`.
+ *
+ * CEF_OK: the table is held.
+ * CEF_NOT_IN_FORM: the store is not in form, or `delta` holds no delta.
+ * CEF_SCRATCH_TOO_SHORT: scratch_len < CEF_SCRATCH_INTS.
+ * CEF_STORAGE_OLD_DELTA: `tick` is not above the newest that is held, or not
+ * above -1 where none is.
+ * These leave the store and its area.
+ * CEF_UNKNOWN_SNAP: no such base is held. No tick is acknowledged.
+ * CEF_TOO_MANY_ITEMS, CEF_TOO_LONG_SNAP, CEF_DELTA_DIFFERING_SIZES, then
+ * CEF_INVALID_UUID_TYPE, CEF_DUPLICATE_UUID_TYPE, CEF_MISSING_UUID_TYPE: the
+ * delta makes no table on this base, or one whose types are not sound.
+ * CEF_INVALID_CRC: the sum is another. No tick is acknowledged.
+ * CEF_CAPACITY_ERROR: the store does not fit its area.
+ * These have dropped the tables older than the base, and hold no new one.
+ *
+ * `scratch` is zeros afterwards, refused or not. `warnings`: all counts up to
+ * the refusal are set.
+ */
+uint32_t cef_storage_add_delta(int32_t ticks[2], uint32_t counts[3],
+                               uint32_t has_crc, int32_t crc,
+                               int32_t delta_tick, int32_t tick,
+                               const int32_t *delta, size_t delta_len,
+                               int32_t *area, size_t area_len,
+                               int32_t *scratch, size_t scratch_len,
+                               size_t warnings[CEF_WARNINGS]);
+
+/* ---- The manager ---- */
+
+/* The least scratch of a manager, in ints. */
+#define CEF_MANAGER_SCRATCH_INTS 28800
+
+/*
+ * The manager of a printer: a receiver and a store. cef_manager_new sets both;
+ * between calls a program keeps them beside the first part area and the
+ * store's area and changes nothing of them.
+ *
+ * The calls take the receiver's three arrays, here `receiver_ticks`,
+ * `receiver_counts` and `lengths`, and the store's two one by one.
+ */
+typedef struct {
+    cef_receiver receiver;
+    cef_storage storage;
+} cef_manager;
+
+/* A receiver without any tick, and a store without tables. */
+void cef_manager_new(int32_t receiver_ticks[4], uint32_t receiver_counts[3],
+                     uint16_t lengths[CEF_PARTS], int32_t ticks[2],
+                     uint32_t counts[3]);
+
+/*
+ * Forgets the receiver's ticks, and empties the store and its area as
+ * cef_storage_reset does.
+ */
+void cef_manager_reset(int32_t receiver_ticks[4], uint32_t receiver_counts[3],
+                       uint16_t lengths[CEF_PARTS], int32_t ticks[2],
+                       uint32_t counts[3], int32_t *area, size_t area_len);
+
+/*
+ * Takes a part of a delta, with the message's five numbers and its bytes. The
+ * last part missing has all of them joined in `joined`, the delta read into
+ * the front of `delta` under the known sizes, and taken by the store with its
+ * sum, as cef_receiver_snap, cef_delta_read and cef_storage_add_delta do.
+ *
+ * parts_len and joined_len are CEF_PART_AREA_BYTES or more, scratch_len
+ * CEF_MANAGER_SCRATCH_INTS or more. CEF_DELTA_INTS have room for any delta
+ * between two tables; a received one takes as many ints as it says. The
+ * store's area has room for 2 ints and the table's own for each table held.
+ *
+ * CEF_OK: *taken is 1 and *ack the tick of the table that is now held and
+ * acknowledged, or *taken is 0 and *ack left where parts are missing.
+ * CEF_NOT_IN_FORM: the receiver is none that a call leaves, or the store is
+ * not in form.
+ * CEF_SCRATCH_TOO_SHORT: scratch or a part area is too short.
+ * CEF_PART_TOO_LONG, CEF_RECEIVER_OLD_DELTA, CEF_INVALID_NUM_PARTS,
+ * CEF_INVALID_PART, CEF_DUPLICATE_PART: as cef_receiver_snap.
+ * These leave the receiver, the store and all areas but scratch.
+ * The refusals of cef_delta_read, CEF_CAPACITY_ERROR for `delta` among them:
+ * the receiver has finished the tick, and `delta`, the store and its area are
+ * left.
+ * The refusals of cef_storage_add_delta from CEF_STORAGE_OLD_DELTA on: the
+ * receiver has finished the tick, `delta` holds the delta, and the store is
+ * as there.
+ * Judged in this order. A refused call leaves *taken and *ack; what of the
+ * receiver or the store is left as it was is left entry for entry.
+ *
+ * `scratch` is zeros afterwards, refused or not. `warnings`: all counts up to
+ * the refusal are set.
+ */
+uint32_t cef_manager_snap(int32_t receiver_ticks[4],
+                          uint32_t receiver_counts[3],
+                          uint16_t lengths[CEF_PARTS], int32_t ticks[2],
+                          uint32_t counts[3], int32_t tick, int32_t delta_tick,
+                          int32_t num_parts, int32_t part, int32_t crc,
+                          const uint8_t *data, size_t data_len,
+                          const int32_t *sizes, size_t sizes_len,
+                          uint8_t *parts, size_t parts_len, uint8_t *joined,
+                          size_t joined_len, int32_t *delta, size_t delta_len,
+                          int32_t *area, size_t area_len, int32_t *scratch,
+                          size_t scratch_len, uint32_t *taken, int32_t *ack,
+                          size_t warnings[CEF_WARNINGS]);
+
+/*
+ * Takes a whole delta. Answers as cef_manager_snap does, but for
+ * CEF_INVALID_NUM_PARTS, CEF_INVALID_PART and CEF_DUPLICATE_PART.
+ */
+uint32_t cef_manager_snap_single(
+    int32_t receiver_ticks[4], uint32_t receiver_counts[3],
+    uint16_t lengths[CEF_PARTS], int32_t ticks[2], uint32_t counts[3],
+    int32_t tick, int32_t delta_tick, int32_t crc, const uint8_t *data,
+    size_t data_len, const int32_t *sizes, size_t sizes_len, uint8_t *parts,
+    size_t parts_len, uint8_t *joined, size_t joined_len, int32_t *delta,
+    size_t delta_len, int32_t *area, size_t area_len, int32_t *scratch,
+    size_t scratch_len, uint32_t *taken, int32_t *ack,
+    size_t warnings[CEF_WARNINGS]);
+
+/*
+ * Takes an empty delta: the table is its base again, and no sum is compared.
+ * `delta` then holds the empty delta, three ints. Answers as
+ * cef_manager_snap_single does, but for CEF_PART_TOO_LONG and the refusals of
+ * cef_delta_read other than CEF_CAPACITY_ERROR.
+ */
+uint32_t cef_manager_snap_empty(
+    int32_t receiver_ticks[4], uint32_t receiver_counts[3],
+    uint16_t lengths[CEF_PARTS], int32_t ticks[2], uint32_t counts[3],
+    int32_t tick, int32_t delta_tick, uint8_t *parts, size_t parts_len,
+    uint8_t *joined, size_t joined_len, int32_t *delta, size_t delta_len,
+    int32_t *area, size_t area_len, int32_t *scratch, size_t scratch_len,
+    uint32_t *taken, int32_t *ack, size_t warnings[CEF_WARNINGS]);
 
 #ifdef __cplusplus
 }

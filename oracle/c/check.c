@@ -3,25 +3,12 @@
  * cases and each refusal, by every function.
  */
 
-#include "cefdugar.h"
+#include "check.h"
 
-#include <stdio.h>
 #include <string.h>
 
-static int checks = 0;
-static int failures = 0;
-
-#define CHECK(condition)                                              \
-    do {                                                              \
-        checks++;                                                     \
-        if (!(condition)) {                                           \
-            failures++;                                               \
-            printf("check.c:%d: not so: %s\n", __LINE__, #condition); \
-        }                                                             \
-    } while (0)
-
-/* What a number holds before a call. */
-#define LEFT 77
+int checks = 0;
+int failures = 0;
 
 struct marked {
     int32_t value;
@@ -57,12 +44,6 @@ static int counted(const size_t warnings[CEF_WARNINGS], size_t overlong, size_t 
     return right;
 }
 
-static void fill_warnings(size_t warnings[CEF_WARNINGS])
-{
-    for (int i = 0; i < CEF_WARNINGS; i++)
-        warnings[i] = LEFT;
-}
-
 static void check_read(void)
 {
     int32_t value;
@@ -95,6 +76,36 @@ static void check_read(void)
     fill_warnings(warnings);
     CHECK(cef_read_int(padding, sizeof padding, 1, &value, &next, warnings) == CEF_OK);
     CHECK(value == INT32_MIN && next == 6 && counted(warnings, 0, 1));
+}
+
+static void check_readers(void)
+{
+    int32_t value;
+    size_t next;
+    size_t left;
+    uint32_t empty;
+    size_t warnings[CEF_WARNINGS];
+
+    /* 64, an overlong 0, and an integer that is cut. */
+    const uint8_t bytes[] = {0x80, 0x01, 0x80, 0x00, 0xff};
+    fill_warnings(warnings);
+    CHECK(cef_unpacker_read_int(bytes, sizeof bytes, 0, &value, &next, &left, &empty, warnings) ==
+          CEF_OK);
+    CHECK(value == 64 && next == 2 && left == 3 && empty == 0 && counted(warnings, 0, 0));
+    CHECK(cef_unpacker_read_int(bytes, sizeof bytes, next, &value, &next, &left, &empty,
+                                warnings) == CEF_OK);
+    CHECK(value == 0 && next == 4 && left == 1 && empty == 0 && counted(warnings, 1, 0));
+    value = LEFT;
+    CHECK(cef_unpacker_read_int(bytes, sizeof bytes, next, &value, &next, &left, &empty,
+                                warnings) == CEF_UNEXPECTED_END);
+    CHECK(value == LEFT && next == 5 && left == 0 && empty == 1 && counted(warnings, 0, 0));
+
+    const int32_t ints[] = {-1, INT32_MIN};
+    CHECK(cef_int_unpacker_read_int(ints, 2, 1, &value, &next, &left, &empty) == CEF_OK);
+    CHECK(value == INT32_MIN && next == 2 && left == 0 && empty == 1);
+    CHECK(cef_int_unpacker_read_int(ints, 2, SIZE_MAX, &value, &next, &left, &empty) ==
+          CEF_UNEXPECTED_END);
+    CHECK(value == INT32_MIN && next == 2 && left == 0 && empty == 1);
 }
 
 static void check_write(void)
@@ -154,21 +165,6 @@ static void check_unpack(void)
     fill_warnings(warnings);
     CHECK(cef_unpack(src, 0, out, 0, &count, &cut, warnings) == CEF_OK);
     CHECK(count == 0 && cut == 0 && counted(warnings, 0, 0));
-}
-
-/* Whether the ints from `from` on are as they were. */
-static int ints_left(const int32_t *ints, size_t from, size_t len)
-{
-    int right = 1;
-    for (size_t i = from; i < len; i++)
-        right = right && ints[i] == LEFT;
-    return right;
-}
-
-static void fill_ints(int32_t *ints, size_t len)
-{
-    for (size_t i = 0; i < len; i++)
-        ints[i] = LEFT;
 }
 
 /* Whether all counts are 0, but for this one of ExcessSnapData. */
@@ -469,15 +465,6 @@ static void check_delta_write(void)
     CHECK(count == LEFT && ints_left(out, 0, 20) && bytes[0] == 0xaa);
 }
 
-/* Whether all counts are 0, but for one of this kind. */
-static int only(const size_t warnings[CEF_WARNINGS], int kind)
-{
-    int right = 1;
-    for (int i = 0; i < CEF_WARNINGS; i++)
-        right = right && warnings[i] == (i == kind ? 1 : 0);
-    return right;
-}
-
 /* Both calls on the same ints: their answer, the delta or nothing, the kind of warning or none. */
 static void check_delta_reads(const int32_t *src, size_t src_len, const int32_t *sizes,
                               size_t sizes_len, uint32_t answer, const int32_t *delta,
@@ -600,6 +587,205 @@ static void check_item_deltas(void)
 }
 
 /* Document 01's marked cases: 0, 900 and 901 bytes. */
+/* Type 0 names the kind 1, 2, 3, 4 under 4000 hex; an item of that kind. */
+static const int32_t KINDS_INTS[] = {28, 2, 0, 20, 0x4000, 1, 2, 3, 4, 0x40000007, 5};
+static const int32_t KIND[4] = {1, 2, 3, 4};
+static const int32_t OTHER_KIND[4] = {1, 2, 3, 5};
+
+#define KINDS_LEN (sizeof KINDS_INTS / sizeof KINDS_INTS[0])
+
+/* A delta applied to the table above, with types judged and without. */
+static void check_applied(const int32_t *delta, size_t delta_len, uint32_t raw, uint32_t typed,
+                          const int32_t *table, size_t room, size_t len, int kind)
+{
+    size_t warnings[CEF_WARNINGS];
+    int32_t out[20];
+
+    for (int judged = 0; judged < 2; judged++) {
+        uint32_t answer = judged ? typed : raw;
+        size_t count = LEFT;
+        fill_ints(out, 20);
+        fill_ints(scratch, CEF_SCRATCH_INTS);
+        fill_warnings(warnings);
+        if (judged)
+            CHECK(cef_snap_read_with_delta(KINDS_INTS, KINDS_LEN, delta, delta_len, out, room,
+                                           scratch, CEF_SCRATCH_INTS, &count, warnings) == answer);
+        else
+            CHECK(cef_table_read_with_delta(KINDS_INTS, KINDS_LEN, delta, delta_len, out, room,
+                                            scratch, CEF_SCRATCH_INTS, &count, warnings) == answer);
+        size_t written = answer == CEF_OK ? len : 0;
+        CHECK(count == (answer == CEF_OK ? len : LEFT));
+        CHECK(memcmp(out, table, written * sizeof out[0]) == 0 && ints_left(out, written, 20));
+        CHECK(only(warnings, kind));
+        CHECK(scratch[0] == 0 && scratch[CEF_SCRATCH_INTS - 1] == 0);
+    }
+}
+
+static void check_read_with_delta(void)
+{
+    const int32_t empty[] = {0, 0, 0};
+    /* Key 9 is not there. The item gets INT32_MAX more. */
+    const int32_t changed[] = {1, 1, 0, 9, 0x4000, 7, 1, INT32_MAX};
+    const int32_t table[] = {28, 2, 0, 20, 0x4000, 1, 2, 3, 4, 0x40000007, INT32_MIN + 4};
+    const int32_t longer[] = {0, 1, 0, 0x4000, 7, 2, 1, 1};
+    const int32_t unnamed[] = {1, 0, 0, 0x4000};
+    const int32_t without[] = {8, 1, 0, 0x40000007, 5};
+    size_t warnings[CEF_WARNINGS];
+    size_t count = LEFT;
+
+    check_applied(empty, 3, CEF_OK, CEF_OK, KINDS_INTS, KINDS_LEN, KINDS_LEN, -1);
+    check_applied(changed, 8, CEF_OK, CEF_OK, table, 20, 11, CEF_WARN_UNKNOWN_DELETE);
+    check_applied(changed, 8, CEF_CAPACITY_ERROR, CEF_CAPACITY_ERROR, table, 10, 0,
+                  CEF_WARN_UNKNOWN_DELETE);
+    check_applied(longer, 8, CEF_DELTA_DIFFERING_SIZES, CEF_DELTA_DIFFERING_SIZES, table, 20, 0,
+                  -1);
+    check_applied(unnamed, 4, CEF_OK, CEF_MISSING_UUID_TYPE, without, 5, 5, -1);
+    check_applied(unnamed, 3, CEF_NOT_IN_FORM, CEF_NOT_IN_FORM, table, 20, 0, -1);
+    fill_warnings(warnings);
+    CHECK(cef_table_read_with_delta(KINDS_INTS, KINDS_LEN, empty, 3, area, 20, scratch,
+                                    CEF_SCRATCH_INTS - 1, &count,
+                                    warnings) == CEF_SCRATCH_TOO_SHORT);
+    CHECK(cef_snap_read_with_delta(KINDS_INTS, KINDS_LEN - 1, empty, 3, area, 20, scratch, 0,
+                                   &count, warnings) == CEF_NOT_IN_FORM);
+    CHECK(count == LEFT && only(warnings, -1));
+}
+
+static void check_snap_read(void)
+{
+    const struct {
+        size_t len;
+        int32_t ints[16];
+        uint32_t answer;
+        int kind;
+    } tables[] = {
+        {2, {0, 0}, CEF_OK, -1},
+        {8, {24, 1, 0, 3, 1, 2, 3, 4}, CEF_ITEMS_UNPACKING, -1},
+        {9, {24, 1, 0, 3, 1, 2, 3, 4, 5}, CEF_OK, CEF_WARN_EXCESS_UUID_ITEM_DATA},
+        {7, {16, 1, 0, 3, 1, 2, 3}, CEF_INVALID_UUID_TYPE, -1},
+        {14, {40, 2, 0, 20, 3, 1, 2, 3, 4, 4, 1, 2, 3, 4}, CEF_DUPLICATE_UUID_TYPE, -1},
+        {4, {4, 1, 0, 0x40000000}, CEF_MISSING_UUID_TYPE, -1},
+    };
+    size_t warnings[CEF_WARNINGS];
+    int32_t out[20];
+    uint8_t bytes[100];
+
+    for (size_t i = 0; i < sizeof tables / sizeof tables[0]; i++) {
+        const int32_t *ints = tables[i].ints;
+        const size_t len = tables[i].len;
+        size_t size = 0;
+        for (size_t j = 0; j < len; j++)
+            CHECK(cef_write_int(bytes, sizeof bytes, size, ints[j], &size) == CEF_OK);
+        for (int packed = 0; packed < 2; packed++) {
+            uint32_t answer = tables[i].answer;
+            size_t count = LEFT;
+            fill_ints(out, 20);
+            fill_ints(scratch, CEF_SCRATCH_INTS);
+            fill_warnings(warnings);
+            if (packed)
+                CHECK(cef_snap_read(bytes, size, out, len, scratch, CEF_SCRATCH_INTS, &count,
+                                    warnings) == answer);
+            else
+                CHECK(cef_snap_read_from_ints(ints, len, out, len, scratch, CEF_SCRATCH_INTS,
+                                              &count, warnings) == answer);
+            size_t written = answer == CEF_OK ? len : 0;
+            CHECK(count == (answer == CEF_OK ? len : LEFT));
+            CHECK(memcmp(out, ints, written * sizeof out[0]) == 0 && ints_left(out, written, 20));
+            CHECK(only(warnings, tables[i].kind));
+            CHECK(scratch[0] == 0 && scratch[CEF_SCRATCH_INTS - 1] == 0);
+        }
+    }
+    size_t count = LEFT;
+    CHECK(cef_snap_read_from_ints(tables[0].ints, 2, out, 1, scratch, CEF_SCRATCH_INTS, &count,
+                                  warnings) == CEF_CAPACITY_ERROR);
+    CHECK(cef_snap_read_from_ints(tables[0].ints, 2, out, 2, scratch, CEF_SCRATCH_INTS - 1, &count,
+                                  warnings) == CEF_SCRATCH_TOO_SHORT);
+    CHECK(cef_snap_read(bytes, 2, out, 2, scratch, CEF_SCRATCH_INTS - 1, &count, warnings) ==
+          CEF_SCRATCH_TOO_SHORT);
+    CHECK(count == LEFT);
+}
+
+static void check_types(void)
+{
+    const int32_t *table = KINDS_INTS;
+    const size_t len = KINDS_LEN;
+    uint32_t known = LEFT;
+    uint16_t raw = LEFT;
+    uint16_t ordinal = LEFT;
+    int32_t uuid[4] = {LEFT, LEFT, LEFT, LEFT};
+    int32_t out[4];
+    size_t count = LEFT;
+
+    CHECK(cef_snap_raw_type_id(table, len - 1, 0, 0, KIND, &known, &raw) == CEF_NOT_IN_FORM);
+    CHECK(cef_snap_raw_type_id(table, len, 0, 0, KIND, &known, &raw) == CEF_INVALID_TYPE_ID);
+    CHECK(cef_snap_raw_type_id(table, len, 0, 0x4000, KIND, &known, &raw) == CEF_INVALID_TYPE_ID);
+    CHECK(known == LEFT && raw == LEFT);
+    CHECK(cef_snap_raw_type_id(table, len, 1, 9, OTHER_KIND, &known, &raw) == CEF_OK);
+    CHECK(known == 0 && raw == LEFT);
+    CHECK(cef_snap_raw_type_id(table, len, 2, 9, KIND, &known, &raw) == CEF_OK);
+    CHECK(known == 1 && raw == 0x4000);
+    CHECK(cef_snap_raw_type_id(table, len, 0, 0x3fff, KIND, &known, &raw) == CEF_OK);
+    CHECK(known == 1 && raw == 0x3fff);
+
+    known = LEFT;
+    CHECK(cef_snap_type_id(table, len - 1, 1, &known, &ordinal, uuid) == CEF_NOT_IN_FORM);
+    CHECK(known == LEFT);
+    CHECK(cef_snap_type_id(table, len, 0, &known, &ordinal, uuid) == CEF_OK && known == 0);
+    CHECK(cef_snap_type_id(table, len, 0x4001, &known, &ordinal, uuid) == CEF_OK && known == 0);
+    CHECK(ordinal == LEFT && ints_left(uuid, 0, 4));
+    CHECK(cef_snap_type_id(table, len, 9, &known, &ordinal, uuid) == CEF_OK && known == 1);
+    CHECK(ordinal == 9 && ints_left(uuid, 0, 4));
+    CHECK(cef_snap_type_id(table, len, 0x4000, &known, &ordinal, uuid) == CEF_OK && known == 2);
+    CHECK(ordinal == 9 && memcmp(uuid, KIND, sizeof uuid) == 0);
+
+    uint32_t has = LEFT;
+    CHECK(cef_snap_has_item(table, len - 1, 1, 0, KIND, 7, &has) == CEF_NOT_IN_FORM);
+    CHECK(cef_snap_has_item(table, len, 0, 0, KIND, 7, &has) == CEF_INVALID_TYPE_ID);
+    CHECK(has == LEFT);
+    CHECK(cef_snap_has_item(table, len, 1, 0, KIND, 8, &has) == CEF_OK && has == 0);
+    CHECK(cef_snap_has_item(table, len, 1, 0, KIND, 7, &has) == CEF_OK && has == 1);
+    fill_ints(out, 4);
+    CHECK(cef_snap_item(table, len, 1, 0, KIND, 7, out, 0, &count) == CEF_CAPACITY_ERROR);
+    CHECK(count == LEFT && ints_left(out, 0, 4));
+    CHECK(cef_snap_item(table, len, 1, 0, KIND, 7, out, 4, &count) == CEF_OK && count == 1);
+    CHECK(out[0] == 5 && ints_left(out, 1, 4));
+    CHECK(cef_snap_item(table, len, 1, 0, OTHER_KIND, 7, out, 4, &count) == CEF_OK && count == 0);
+}
+
+static void check_builder(void)
+{
+    const int32_t five = 5;
+    const size_t len = KINDS_LEN;
+    size_t count = LEFT;
+
+    fill_ints(area, 40);
+    CHECK(cef_builder_new(area, 1, &count) == CEF_CAPACITY_ERROR);
+    CHECK(cef_builder_finish(area, 40, &count) == CEF_NOT_IN_FORM);
+    CHECK(count == LEFT && ints_left(area, 0, 40));
+    CHECK(cef_builder_new(area, 40, &count) == CEF_OK && count == 2 && ints_left(area, 2, 40));
+    count = LEFT;
+    CHECK(cef_builder_add_item(area, 40, 0, 0, KIND, 7, &five, 1, &count) == CEF_INVALID_TYPE_ID);
+    CHECK(cef_builder_add_item(area, 40, 0, 0x4000, KIND, 7, &five, 1, &count) ==
+          CEF_INVALID_TYPE_ID);
+    /* The item that names the kind stays, where it fits. */
+    CHECK(cef_builder_add_item(area, 7, 1, 0, KIND, 7, &five, 1, &count) == CEF_CAPACITY_ERROR);
+    CHECK(count == LEFT && area[1] == 0 && ints_left(area, 2, 40));
+    CHECK(cef_builder_add_item(area, 10, 1, 0, KIND, 7, &five, 1, &count) == CEF_CAPACITY_ERROR);
+    CHECK(count == LEFT && area[1] == 1 && area[3] == 0x4000 && ints_left(area, 8, 40));
+    CHECK(cef_builder_add_item(area, 11, 1, 0, KIND, 7, &five, 1, &count) == CEF_OK);
+    CHECK(count == len && memcmp(area, KINDS_INTS, sizeof KINDS_INTS) == 0);
+    CHECK(ints_left(area, len, 40));
+    count = LEFT;
+    CHECK(cef_builder_add_item(area, 40, 1, 0, KIND, 7, &five, 1, &count) == CEF_DUPLICATE_KEY);
+    CHECK(count == LEFT && memcmp(area, KINDS_INTS, sizeof KINDS_INTS) == 0);
+    CHECK(cef_builder_finish(area, 40, &count) == CEF_OK && count == len);
+    CHECK(cef_builder_add_item(area, 40, 0, 3, KIND, 7, &five, 1, &count) == CEF_OK);
+    CHECK(count == len + 3);
+    /* Kinds run from 4000 hex on. */
+    CHECK(cef_table_add_item(area, 40, 0, 0x4002, OTHER_KIND, 4, &count) == CEF_OK);
+    CHECK(cef_builder_finish(area, 40, &count) == CEF_NOT_IN_FORM);
+    CHECK(cef_builder_add_item(area, 40, 0, 3, KIND, 8, &five, 1, &count) == CEF_NOT_IN_FORM);
+}
+
 static void check_chunks(void)
 {
     static uint8_t data[CEF_INPUT_MOST + 1];
@@ -681,6 +867,7 @@ int main(void)
 {
     check_read();
     check_write();
+    check_readers();
     check_unpack();
     check_table_read();
     check_table_calls();
@@ -689,8 +876,14 @@ int main(void)
     check_delta_write();
     check_delta_read();
     check_item_deltas();
+    check_read_with_delta();
+    check_snap_read();
+    check_types();
+    check_builder();
     check_chunks();
     check_receiver();
+    check_storage();
+    check_manager();
     printf("C program: %d checks, %d not so\n", checks, failures);
     return failures == 0 ? 0 : 1;
 }

@@ -4,10 +4,14 @@
 //! it. [`plain`] has the same calls one to one: numbers are lent and a number
 //! is answered, so that a caller sees what was set and what was left.
 
+pub mod builder;
 pub mod delta;
+pub mod manager;
 pub mod messages;
 pub mod plain;
 pub mod receiver;
+pub mod snap;
+pub mod storage;
 mod sys;
 pub mod table;
 
@@ -88,6 +92,7 @@ impl Warnings {
     }
 }
 
+#[inline]
 fn answer<T>(number: u32, value: T) -> Result<T, Refusal> {
     match number {
         0 => Ok(value),
@@ -102,6 +107,54 @@ pub fn read_int(src: &[u8], at: usize) -> (Result<(i32, usize), Refusal>, Warnin
     let mut warnings = Warnings::default();
     let number = plain::read_int(src, at, &mut value, &mut next, &mut warnings);
     (answer(number, (value, next)), warnings)
+}
+
+/// Where a reader stands after a read.
+#[derive(Clone, Copy, Debug, Eq, PartialEq)]
+pub struct Standing {
+    /// Its place: behind the integer, or the end where there was none.
+    pub at: usize,
+    /// How many entries are left.
+    pub left: usize,
+    /// Whether none are.
+    pub empty: bool,
+}
+
+/// The next integer of a reader over packed bytes that stands at place `at`,
+/// and where it then stands. Refused: `UNEXPECTED_END` where the bytes end
+/// inside it.
+pub fn unpacker_read_int(src: &[u8], at: usize) -> (Result<i32, Refusal>, Standing, Warnings) {
+    let (mut value, mut next, mut left, mut empty) = (0, 0, 0, 0);
+    let mut warnings = Warnings::default();
+    let number = plain::unpacker_read_int(
+        src,
+        at,
+        &mut value,
+        &mut next,
+        &mut left,
+        &mut empty,
+        &mut warnings,
+    );
+    let standing = Standing {
+        at: next,
+        left,
+        empty: empty != 0,
+    };
+    (answer(number, value), standing, warnings)
+}
+
+/// The next int of a reader over ints that stands at place `at`, and where it
+/// then stands. Refused: `UNEXPECTED_END` where no int is left.
+pub fn int_unpacker_read_int(src: &[i32], at: usize) -> (Result<i32, Refusal>, Standing) {
+    let (mut value, mut next, mut left, mut empty) = (0, 0, 0, 0);
+    let number =
+        plain::int_unpacker_read_int(src, at, &mut value, &mut next, &mut left, &mut empty);
+    let standing = Standing {
+        at: next,
+        left,
+        empty: empty != 0,
+    };
+    (answer(number, value), standing)
 }
 
 /// Writes `value` in its shortest form at place `at` of `out` and gives the

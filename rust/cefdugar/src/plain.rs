@@ -7,6 +7,10 @@
 use crate::sys;
 use crate::Warnings;
 
+mod snap;
+
+pub use snap::*;
+
 /// Reads the packed integer at place `at` of `src`. Refused (1): `value` and
 /// `next` are left. `warnings` is always set.
 pub fn read_int(
@@ -17,6 +21,44 @@ pub fn read_int(
     warnings: &mut Warnings,
 ) -> u32 {
     unsafe { sys::cef_read_int(src.as_ptr(), src.len(), at, value, next, &mut warnings.0) }
+}
+
+/// What a reader over packed bytes answers that stands at place `at`: the next
+/// integer, and its place, the bytes left and whether there are none. Refused
+/// (1): `value` is left. All others are always set.
+pub fn unpacker_read_int(
+    src: &[u8],
+    at: usize,
+    value: &mut i32,
+    next: &mut usize,
+    left: &mut usize,
+    empty: &mut u32,
+    warnings: &mut Warnings,
+) -> u32 {
+    unsafe {
+        sys::cef_unpacker_read_int(
+            src.as_ptr(),
+            src.len(),
+            at,
+            value,
+            next,
+            left,
+            empty,
+            &mut warnings.0,
+        )
+    }
+}
+
+/// The same of a reader over ints.
+pub fn int_unpacker_read_int(
+    src: &[i32],
+    at: usize,
+    value: &mut i32,
+    next: &mut usize,
+    left: &mut usize,
+    empty: &mut u32,
+) -> u32 {
+    unsafe { sys::cef_int_unpacker_read_int(src.as_ptr(), src.len(), at, value, next, left, empty) }
 }
 
 /// Writes `value` at place `at` of `out`. Refused (40): `out` and `next` are

@@ -1,5 +1,7 @@
 //! The functions of `include/cefdugar.h`, as C has them.
 
+pub mod store;
+
 use crate::WARNINGS;
 
 extern "C" {
@@ -10,6 +12,25 @@ extern "C" {
         value: *mut i32,
         next: *mut usize,
         warnings: *mut [usize; WARNINGS],
+    ) -> u32;
+    pub fn cef_unpacker_read_int(
+        src: *const u8,
+        src_len: usize,
+        at: usize,
+        value: *mut i32,
+        next: *mut usize,
+        left: *mut usize,
+        empty: *mut u32,
+        warnings: *mut [usize; WARNINGS],
+    ) -> u32;
+    pub fn cef_int_unpacker_read_int(
+        src: *const i32,
+        src_len: usize,
+        at: usize,
+        value: *mut i32,
+        next: *mut usize,
+        left: *mut usize,
+        empty: *mut u32,
     ) -> u32;
     pub fn cef_write_int(
         out: *mut u8,
@@ -236,4 +257,98 @@ extern "C" {
         len: *mut usize,
         warnings: *mut [usize; WARNINGS],
     ) -> u32;
+    pub fn cef_table_read_with_delta(
+        base: *const i32,
+        base_len: usize,
+        delta: *const i32,
+        delta_len: usize,
+        out: *mut i32,
+        out_len: usize,
+        scratch: *mut i32,
+        scratch_len: usize,
+        count: *mut usize,
+        warnings: *mut [usize; WARNINGS],
+    ) -> u32;
+    pub fn cef_snap_read_with_delta(
+        base: *const i32,
+        base_len: usize,
+        delta: *const i32,
+        delta_len: usize,
+        out: *mut i32,
+        out_len: usize,
+        scratch: *mut i32,
+        scratch_len: usize,
+        count: *mut usize,
+        warnings: *mut [usize; WARNINGS],
+    ) -> u32;
+    pub fn cef_snap_read(
+        src: *const u8,
+        src_len: usize,
+        out: *mut i32,
+        out_len: usize,
+        scratch: *mut i32,
+        scratch_len: usize,
+        count: *mut usize,
+        warnings: *mut [usize; WARNINGS],
+    ) -> u32;
+    pub fn cef_snap_read_from_ints(
+        src: *const i32,
+        src_len: usize,
+        out: *mut i32,
+        out_len: usize,
+        scratch: *mut i32,
+        scratch_len: usize,
+        count: *mut usize,
+        warnings: *mut [usize; WARNINGS],
+    ) -> u32;
+    pub fn cef_snap_raw_type_id(
+        area: *const i32,
+        area_len: usize,
+        is_uuid: u32,
+        ordinal: u16,
+        uuid: *const [i32; 4],
+        known: *mut u32,
+        raw_type_id: *mut u16,
+    ) -> u32;
+    pub fn cef_snap_type_id(
+        area: *const i32,
+        area_len: usize,
+        raw_type_id: u16,
+        kind: *mut u32,
+        ordinal: *mut u16,
+        uuid: *mut [i32; 4],
+    ) -> u32;
+    pub fn cef_snap_has_item(
+        area: *const i32,
+        area_len: usize,
+        is_uuid: u32,
+        ordinal: u16,
+        uuid: *const [i32; 4],
+        id: u16,
+        has: *mut u32,
+    ) -> u32;
+    pub fn cef_snap_item(
+        area: *const i32,
+        area_len: usize,
+        is_uuid: u32,
+        ordinal: u16,
+        uuid: *const [i32; 4],
+        id: u16,
+        out: *mut i32,
+        out_len: usize,
+        count: *mut usize,
+    ) -> u32;
+    pub fn cef_builder_new(out: *mut i32, out_len: usize, count: *mut usize) -> u32;
+    pub fn cef_builder_add_item(
+        area: *mut i32,
+        area_len: usize,
+        is_uuid: u32,
+        ordinal: u16,
+        uuid: *const [i32; 4],
+        id: u16,
+        values: *const i32,
+        values_len: usize,
+        count: *mut usize,
+    ) -> u32;
+    pub fn cef_builder_finish(area: *const i32, area_len: usize, count: *mut usize) -> u32;
 }

@@ -45,6 +45,21 @@ pub fn read_from_ints(src: &[i32], out: &mut [i32]) -> (Result<usize, Refusal>, 
     (answer(number, count), warnings)
 }
 
+/// Applies the delta in `delta` to the table in `base`, into the front of
+/// `out`, and gives how many ints the result takes. A refused call leaves
+/// `out`. `scratch`, of [`SCRATCH`] ints or more, is zeros afterwards.
+pub fn read_with_delta(
+    base: &[i32],
+    delta: &[i32],
+    out: &mut [i32],
+    scratch: &mut [i32],
+) -> (Result<usize, Refusal>, Warnings) {
+    let mut count = 0;
+    let mut warnings = Warnings::default();
+    let number = plain::table_read_with_delta(base, delta, out, scratch, &mut count, &mut warnings);
+    (answer(number, count), warnings)
+}
+
 /// Packs a table into the front of `out` and gives how many bytes. Refused:
 /// `NOT_IN_FORM`, `CAPACITY_ERROR`; `out` is then left.
 pub fn write(area: &[i32], out: &mut [u8]) -> Result<usize, Refusal> {

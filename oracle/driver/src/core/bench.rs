@@ -58,6 +58,32 @@ impl Table {
     ) {
         self.race_least(1, operation, size, rust, port);
     }
+    /// The same where each call changes what is held, and what comes before it
+    /// is not timed: of each side what is held, the step before, and the call.
+    pub fn race_steps<R, P>(
+        &mut self,
+        operation: &str,
+        size: usize,
+        (mut rust, before_rust, call_rust): (R, impl Fn(&mut R), impl Fn(&mut R)),
+        (mut port, before_port, call_port): (P, impl Fn(&mut P), impl Fn(&mut P)),
+    ) {
+        let (mut best, mut passes) = ([Duration::MAX; 2], 0);
+        let start = Instant::now();
+        while passes < LEAST || start.elapsed() < PATIENCE {
+            before_rust(&mut rust);
+            best[0] = best[0].min(time(1, &mut || call_rust(&mut rust)));
+            before_port(&mut port);
+            best[1] = best[1].min(time(1, &mut || call_port(&mut port)));
+            passes += 1;
+        }
+        let [rust, port] = best.map(|best| best.as_nanos() as f64);
+        self.rows.push(Row {
+            operation: operation.to_string(),
+            size,
+            rust,
+            port,
+        });
+    }
     fn race_least(
         &mut self,
         least: usize,

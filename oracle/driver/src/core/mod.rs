@@ -8,6 +8,7 @@ pub mod oracle;
 pub mod random;
 pub mod record;
 pub mod report;
+pub mod scratch;
 pub mod shrink;
 pub mod text;
 pub mod told;

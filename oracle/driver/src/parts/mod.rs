@@ -6,8 +6,12 @@
 
 mod deltas;
 mod examples;
+mod manager;
 mod packer;
 mod receiver;
+mod snaps;
+mod sessions;
+mod storage;
 mod tables;
 
 use crate::core::bench::Table;
@@ -45,5 +49,9 @@ pub fn all() -> Vec<Part> {
         tables::part(),
         deltas::part(),
         receiver::part(),
+        snaps::part(),
+        storage::part(),
+        manager::part(),
+        sessions::part(),
     ]
 }

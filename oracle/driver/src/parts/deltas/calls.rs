@@ -13,6 +13,7 @@ use crate::core::report::Compared;
 use crate::core::report::Difference;
 use crate::core::report::Run;
 use crate::core::report::Shown;
+use crate::core::scratch::Scratch;
 use crate::core::text::hex_short;
 use crate::core::text::ints_short;
 use crate::core::told::Told;
@@ -80,27 +81,6 @@ fn compare_stored<T: Pattern>(
     Ok(())
 }
 
-/// Scratch, with a guard on both sides.
-struct Scratch(Vec<i32>);
-
-impl Scratch {
-    fn lend(&mut self, len: usize) -> &mut [i32] {
-        self.0.clear();
-        self.0.resize(len + 2, LEFT_INT);
-        &mut self.0[1..=len]
-    }
-    /// Whether all of it is zeros, and the guards are as they were.
-    fn check(&self) -> Compared {
-        let [first, lent @ .., last] = &self.0[..] else {
-            unreachable!("there are two guards")
-        };
-        if [*first, *last] != [LEFT_INT; 2] || lent.iter().any(|&int| int != 0) {
-            return Err(Shown::touched("scratch", "not zeros".to_string()));
-        }
-        Ok(())
-    }
-}
-
 /// A delta to be read, with known sizes and the length of scratch.
 #[derive(Clone, Copy)]
 struct Given<'a, T> {
@@ -141,7 +121,7 @@ impl Calls {
             ints: [Area::new(), Area::new()],
             out: Area::new(),
             bytes: Area::new(),
-            scratch: Scratch(vec![]),
+            scratch: Scratch::default(),
         }
     }
 

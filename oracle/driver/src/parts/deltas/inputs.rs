@@ -201,7 +201,7 @@ pub fn sizes(updated: &[Item], random: &mut Random) -> Vec<i32> {
 pub struct Ints(pub Vec<i32>);
 
 /// The deleted keys and the updates of a delta's ints, and the ints behind it.
-fn taken_apart(ints: &[i32]) -> Option<(Vec<i32>, Vec<Item>, Vec<i32>)> {
+pub fn taken_apart(ints: &[i32]) -> Option<(Vec<i32>, Vec<Item>, Vec<i32>)> {
     let [deleted, updated, 0, rest @ ..] = ints else {
         return None;
     };

@@ -1,11 +1,11 @@
 //! Deltas between tables: making, writing and reading; the differences of
 //! single items.
 
-mod bench;
+pub mod bench;
 mod calls;
 mod hostile;
-mod inputs;
-mod oracle;
+pub mod inputs;
+pub mod oracle;
 mod reads;
 mod record;
 

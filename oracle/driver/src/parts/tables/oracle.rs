@@ -8,6 +8,7 @@ use crate::core::told::told;
 use crate::core::told::Told;
 use cefdugar::table;
 use cefdugar::Warnings;
+use libtw2_buffer::CapacityError;
 use libtw2_packer::with_packer;
 use libtw2_snapshot::snap::RawBuilder;
 use libtw2_snapshot::snap::RawSnap;
@@ -53,15 +54,23 @@ pub fn read(src: &[u8], scratch: usize) -> (Told<RawSnap>, Warnings) {
     (said, tally.0)
 }
 
-/// The written form.
-pub fn written(snap: &RawSnap) -> Vec<i32> {
+/// All ints that `write` writes of a table.
+pub fn all_ints(write: impl FnOnce(&mut [i32]) -> Result<usize, CapacityError>) -> Vec<i32> {
     let mut out = vec![0; table::INTS];
-    let len = match snap.write_to_ints(&mut Vec::new(), &mut out) {
-        Ok(written) => written.len(),
-        Err(libtw2_buffer::CapacityError) => unreachable!("no table takes more"),
+    let len = match write(&mut out) {
+        Ok(len) => len,
+        Err(CapacityError) => unreachable!("no table takes more"),
     };
     out.truncate(len);
     out
+}
+
+/// The written form.
+pub fn written(snap: &RawSnap) -> Vec<i32> {
+    all_ints(|out| {
+        let written = snap.write_to_ints(&mut Vec::new(), out)?;
+        Ok(written.len())
+    })
 }
 
 /// The packed form.
