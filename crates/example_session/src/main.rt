@@ -1,18 +1,1006 @@
 // Runs a session of a controller and a printer over a radio that loses, doubles and reorders messages, and prints each answer beside the logbook's.
-use controller::Controller;
-use link::Link;
-use printer::Printer;
-use radio::Radio;
+use delta_chunks::Chunk;
+use delta_chunks::NumChunks;
+use delta_chunks::chunk_data;
+use delta_chunks::chunk_numbers;
+use delta_chunks::num_chunks;
+use format::Error;
+use format::Stored;
+use format::Warnings;
+use gamenet_snap::SnapMsg;
+use libc::STDOUT_FILENO;
+use logbook::Answer;
+use logbook::Logbook;
+use logbook::Note;
+use manager::Handled;
+use manager::Handling;
+use manager::Manager;
+use packer::IntWrite;
+use raw_snap::Checksum;
+use raw_snap::raw_builder;
+use replay_text::put;
+use replay_text::put_byte;
+use replay_text::put_int;
+use replay_text::put_next;
+use replay_text::put_number;
+use snap::TypeId;
+use storage::Added;
 use storage::Set;
 use storage::Storage;
 use storage::Tick;
 
-mod chance;
-mod controller;
-mod lines;
-mod link;
-mod printer;
-mod radio;
+// ---- numbers that look like chance, and are the same in every run
+
+// The number after another.
+fn next_seed(seed: u64) -> u64 {
+    seed % 2147483648 * 1103515245 + 12345
+}
+
+// One of sixteen sides.
+fn side_of(seed: u64) -> u32 {
+    (seed / 65536 % 16) as u32
+}
+
+// ---- the lines of the session's text
+
+// A word and an int; the place after them.
+fn put_named(out: &mut [u8], at: usize, name: &[u8], n: i32) -> usize {
+    let end = put(out, at, name);
+    put_int(out, end, n)
+}
+
+// A word and a number; the place after them.
+fn put_count(out: &mut [u8], at: usize, name: &[u8], n: usize) -> usize {
+    let end = put(out, at, name);
+    put_number(out, end, n)
+}
+
+// Ends a line, and writes it.
+fn write_line(out: &mut [u8], at: usize) {
+    let end = put_byte(out, at, b'\n');
+    io::write_all(STDOUT_FILENO, &out[..end]);
+}
+
+// The tick, the base and the part of a message.
+fn put_part(out: &mut [u8], tick: i32, distance: i32, part: i32, count: i32) -> usize {
+    let end = put_named(out, 0, b"tick ", tick);
+    let end = put_named(out, end, b" base ", ints::wrapping_sub(tick, distance));
+    let end = put_named(out, end, b" part ", part);
+    put_named(out, end, b" of ", count)
+}
+
+// The numbers of a message, at the front of a line.
+fn put_message(out: &mut [u8], m: SnapMsg) -> usize {
+    match m {
+        SnapMsg::Snap {
+            tick,
+            delta_tick,
+            num_parts,
+            part,
+            crc: _,
+        } => put_part(out, tick, delta_tick, part, num_parts),
+        SnapMsg::SnapSingle {
+            tick,
+            delta_tick,
+            crc: _,
+        } => put_part(out, tick, delta_tick, 0, 1),
+        SnapMsg::SnapEmpty { tick, delta_tick } => {
+            let end = put_part(out, tick, delta_tick, 0, 1);
+            put(out, end, b", empty")
+        }
+    }
+}
+
+// The number of a refusal.
+fn put_refusal(out: &mut [u8], at: usize, e: Error) -> usize {
+    let end = put(out, at, b"refused");
+    put_next(out, end, format::error_number(e) as usize)
+}
+
+// What the manager answered.
+fn put_handled(out: &mut [u8], at: usize, a: Handled) -> usize {
+    match a {
+        Handled::Tick(t) => put_named(out, at, b"acknowledged ", t),
+        Handled::NotYet => put(out, at, b"not yet"),
+        Handled::Refused(e) => put_refusal(out, at, e),
+    }
+}
+
+// What the logbook answered.
+fn put_answer(out: &mut [u8], at: usize, a: Answer) -> usize {
+    match a {
+        Answer::Acknowledges(t) => put_named(out, at, b"acknowledged ", t),
+        Answer::NotYet => put(out, at, b"not yet"),
+        Answer::Refused(e) => put_refusal(out, at, e),
+    }
+}
+
+// A message that came, with the manager's answer and the logbook's.
+fn print_delivered(m: SnapMsg, a: Handled, b: Answer, agree: bool) {
+    let mut out = [0u8; 160];
+    let end = put_message(&mut out, m);
+    let end = put(&mut out, end, b": ");
+    let end = put_handled(&mut out, end, a);
+    let end = put(&mut out, end, b", logbook ");
+    let end = put_answer(&mut out, end, b);
+    if agree {
+        write_line(&mut out, end);
+        return;
+    }
+    let end = put(&mut out, end, b", DIFFERS");
+    write_line(&mut out, end);
+}
+
+// A message, and what became of it on the way.
+fn print_on_the_way(m: SnapMsg, what: &[u8]) {
+    let mut out = [0u8; 160];
+    let end = put_message(&mut out, m);
+    let end = put(&mut out, end, what);
+    write_line(&mut out, end);
+}
+
+// A table that was added: its tick, its base, and the length of its delta in ints and in packed bytes.
+fn print_added(tick: i32, base: i32, ints: usize, bytes: usize) {
+    let mut out = [0u8; 160];
+    let end = put_named(&mut out, 0, b"table at tick ", tick);
+    let end = put_named(&mut out, end, b": base ", base);
+    let end = put_count(&mut out, end, b", delta of ", ints);
+    let end = put_count(&mut out, end, b" ints, sent in ", bytes);
+    let end = put(&mut out, end, b" bytes");
+    write_line(&mut out, end);
+}
+
+// A table that was not added.
+fn print_not_added(tick: i32) {
+    let mut out = [0u8; 160];
+    let end = put_named(&mut out, 0, b"table at tick ", tick);
+    let end = put(&mut out, end, b" REFUSED");
+    write_line(&mut out, end);
+}
+
+// An acknowledgement, and what became of it on the way.
+fn print_acknowledgement(tick: i32, what: &[u8]) {
+    let mut out = [0u8; 160];
+    let end = put_named(&mut out, 0, b"acknowledgement ", tick);
+    let end = put(&mut out, end, what);
+    write_line(&mut out, end);
+}
+
+// An acknowledgement that the controller set its base by.
+fn print_base_set(tick: i32) {
+    if ints::signed_less(tick, 0) {
+        print_acknowledgement(tick, b": no base");
+        return;
+    }
+    print_acknowledgement(tick, b": base set");
+}
+
+// An acknowledgement that the controller refused as a base.
+fn print_base_refused(tick: i32, e: Error) {
+    let mut out = [0u8; 160];
+    let end = put_named(&mut out, 0, b"acknowledgement ", tick);
+    let end = put(&mut out, end, b": base ");
+    let end = put_refusal(&mut out, end, e);
+    write_line(&mut out, end);
+}
+
+// Whether both ends hold the same table, at the front of a line.
+fn put_verdict(out: &mut [u8], equal: bool) -> usize {
+    if equal {
+        return put(out, 0, b"tables equal");
+    }
+    put(out, 0, b"tables DIFFER")
+}
+
+// The last line: whether both ends hold the same table, and how often what happened.
+fn print_last(equal: bool, tick: i32, messages: usize, acknowledged: usize, differing: usize) {
+    let mut out = [0u8; 160];
+    let end = put_verdict(&mut out, equal);
+    let end = put_named(&mut out, end, b" at tick ", tick);
+    let end = put_count(&mut out, end, b", ", messages);
+    let end = put_count(&mut out, end, b" messages, ", acknowledged);
+    let end = put_count(&mut out, end, b" acknowledgements, ", differing);
+    let end = put(&mut out, end, b" answers differ from the logbook");
+    write_line(&mut out, end);
+}
+
+// ---- the radio: messages are lost, doubled, or held back and come later
+
+// What becomes of a message.
+enum Fate {
+    Lost,
+    Late,
+    Twice,
+    Through,
+}
+
+// A message that is held back, where there is one, and how many bytes it has.
+struct Letter {
+    full: bool,
+    message: SnapMsg,
+    len: usize,
+}
+
+// The chance so far, and eight places for messages that are held back. The bytes of the k-th stand from 900 k on in an area.
+struct Radio {
+    seed: u64,
+    letters: [Letter; 8],
+}
+
+// No message.
+fn none() -> Letter {
+    let message = SnapMsg::SnapEmpty {
+        tick: 0,
+        delta_tick: 0,
+    };
+    Letter {
+        full: false,
+        message,
+        len: 0,
+    }
+}
+
+impl Radio {
+    // Nothing is held back.
+    fn new(seed: u64) -> Radio {
+        let letter = none();
+        let letters = [letter; 8];
+        Radio { seed, letters }
+    }
+
+    // The next chance.
+    fn roll(self) -> Radio {
+        let letters = self.letters;
+        Radio {
+            seed: next_seed(self.seed),
+            letters,
+        }
+    }
+
+    // What becomes of a message now.
+    fn fate(self) -> Fate {
+        let side = side_of(self.seed);
+        if side < 3 {
+            return Fate::Lost;
+        }
+        if side < 6 {
+            return Fate::Late;
+        }
+        if side < 8 {
+            return Fate::Twice;
+        }
+        Fate::Through
+    }
+
+    // Whether what is held back comes now.
+    fn comes(self) -> bool {
+        side_of(self.seed) < 10
+    }
+
+    // The k-th place.
+    fn letter(self, k: usize) -> Letter {
+        if k < 8 {
+            return self.letters[k];
+        }
+        none()
+    }
+
+    // A place without a message, or 8 where there is none.
+    fn free(self) -> usize {
+        let mut k: usize = 0;
+        while k < 8 {
+            let letter = self.letters[k];
+            if !letter.full {
+                return k;
+            }
+            k += 1;
+        }
+        8
+    }
+
+    // A message at the k-th place.
+    fn hold(self, k: usize, message: SnapMsg, len: usize) -> Radio {
+        let letter = Letter {
+            full: true,
+            message,
+            len,
+        };
+        self.with(k, letter)
+    }
+
+    // None at the k-th place.
+    fn release(self, k: usize) -> Radio {
+        self.with(k, none())
+    }
+
+    // The k-th place filled anew.
+    fn with(self, k: usize, letter: Letter) -> Radio {
+        let mut letters = self.letters;
+        if k < 8 {
+            letters[k] = letter;
+        }
+        Radio {
+            seed: self.seed,
+            letters,
+        }
+    }
+}
+
+// ---- the printer: a manager with the logbook beside it
+
+// The manager and the logbook; how many messages came, how many of them were acknowledged, and how often the two answered unlike.
+struct Printer {
+    manager: Manager,
+    logbook: Logbook,
+    messages: usize,
+    acknowledged: usize,
+    differing: usize,
+}
+
+// Whether two ticks are the same.
+fn same(a: i32, b: i32) -> bool {
+    ints::to_bits(a) == ints::to_bits(b)
+}
+
+// Whether the manager's answer is the logbook's.
+fn agree(a: Handled, b: Answer) -> bool {
+    match a {
+        Handled::Tick(t) => match b {
+            Answer::Acknowledges(u) => same(t, u),
+            Answer::NotYet => false,
+            Answer::Refused(_) => false,
+        },
+        Handled::NotYet => match b {
+            Answer::Acknowledges(_) => false,
+            Answer::NotYet => true,
+            Answer::Refused(_) => false,
+        },
+        Handled::Refused(e) => match b {
+            Answer::Acknowledges(_) => false,
+            Answer::NotYet => false,
+            Answer::Refused(f) => format::error_number(e) == format::error_number(f),
+        },
+    }
+}
+
+// Whether a tick is acknowledged.
+fn is_tick(a: Handled) -> bool {
+    match a {
+        Handled::Tick(_) => true,
+        Handled::NotYet => false,
+        Handled::Refused(_) => false,
+    }
+}
+
+// One more where something holds.
+fn count(n: usize, b: bool) -> usize {
+    std::num::wrapping_add_usize(n, ints::one_if(b))
+}
+
+// The manager is given no message.
+fn quiet(manager: Manager) -> Handling {
+    let warnings = Warnings::none();
+    Handling {
+        answer: Handled::NotYet,
+        warnings,
+        manager,
+    }
+}
+
+// The manager is given an empty message.
+fn hand_empty(
+    manager: Manager,
+    m: SnapMsg,
+    parts: &mut [u8],
+    joined: &mut [u8],
+    delta: &mut [i32],
+    area: &mut [i32],
+    scratch: &mut [i32],
+) -> Handling {
+    let SnapMsg::SnapEmpty { tick, delta_tick } = m else {
+        return quiet(manager);
+    };
+    manager.snap_empty(tick, delta_tick, parts, joined, delta, area, scratch)
+}
+
+// The manager is given a single or an empty message; no size is known.
+fn hand_whole(
+    manager: Manager,
+    m: SnapMsg,
+    data: &[u8],
+    parts: &mut [u8],
+    joined: &mut [u8],
+    delta: &mut [i32],
+    area: &mut [i32],
+    scratch: &mut [i32],
+) -> Handling {
+    let SnapMsg::SnapSingle {
+        tick,
+        delta_tick,
+        crc,
+    } = m
+    else {
+        return hand_empty(manager, m, parts, joined, delta, area, scratch);
+    };
+    let sizes = [0i32; 1];
+    manager.snap_single(
+        tick,
+        delta_tick,
+        crc,
+        data,
+        &sizes[..0],
+        parts,
+        joined,
+        delta,
+        area,
+        scratch,
+    )
+}
+
+// The manager is given a message; no size is known.
+fn hand(
+    manager: Manager,
+    m: SnapMsg,
+    data: &[u8],
+    parts: &mut [u8],
+    joined: &mut [u8],
+    delta: &mut [i32],
+    area: &mut [i32],
+    scratch: &mut [i32],
+) -> Handling {
+    let SnapMsg::Snap {
+        tick,
+        delta_tick,
+        num_parts,
+        part,
+        crc,
+    } = m
+    else {
+        return hand_whole(manager, m, data, parts, joined, delta, area, scratch);
+    };
+    let sizes = [0i32; 1];
+    manager.snap(
+        tick,
+        delta_tick,
+        num_parts,
+        part,
+        crc,
+        data,
+        &sizes[..0],
+        parts,
+        joined,
+        delta,
+        area,
+        scratch,
+    )
+}
+
+// The logbook is given a message; where its areas are full it refuses.
+fn note(g: Logbook, m: SnapMsg, came: &mut [usize], held: &mut [i32]) -> Note {
+    if g.parts < came.len() {
+        if g.ticks < held.len() {
+            return logbook::checked::note_message(g, m, came, held);
+        }
+    }
+    Note {
+        answer: Answer::Refused(Error::CapacityError),
+        logbook: g,
+    }
+}
+
+impl Printer {
+    // A printer that nothing came to.
+    fn new() -> Printer {
+        let manager = Manager::new();
+        let logbook = Logbook::new();
+        Printer {
+            manager,
+            logbook,
+            messages: 0,
+            acknowledged: 0,
+            differing: 0,
+        }
+    }
+
+    // A message comes: both answers are printed.
+    fn deliver(
+        self,
+        m: SnapMsg,
+        data: &[u8],
+        parts: &mut [u8],
+        joined: &mut [u8],
+        delta: &mut [i32],
+        area: &mut [i32],
+        scratch: &mut [i32],
+        came: &mut [usize],
+        held: &mut [i32],
+    ) -> Printer {
+        let handling = hand(self.manager, m, data, parts, joined, delta, area, scratch);
+        let noted = note(self.logbook, m, came, held);
+        let a = handling.answer;
+        let b = noted.answer;
+        let alike = agree(a, b);
+        print_delivered(m, a, b, alike);
+        let manager = handling.manager;
+        let logbook = noted.logbook;
+        Printer {
+            manager,
+            logbook,
+            messages: count(self.messages, true),
+            acknowledged: count(self.acknowledged, is_tick(a)),
+            differing: count(self.differing, !alike),
+        }
+    }
+}
+
+// ---- the radio with the printer behind it
+
+// How many bytes a message has at most.
+const PART: usize = 900;
+
+// The radio and the printer.
+struct Link {
+    radio: Radio,
+    printer: Printer,
+}
+
+// The tick of a delta, the tick of its base, and its table's sum.
+struct Sent {
+    tick: i32,
+    base: i32,
+    crc: i32,
+}
+
+// Where the bytes of the k-th place of the radio stand.
+fn place(k: usize) -> usize {
+    k % 8 * PART
+}
+
+// A part of some bytes; none where they end before it does.
+fn cut(src: &[u8], from: usize, len: usize) -> &[u8] {
+    if from <= src.len() {
+        if len <= src.len() - from {
+            return &src[from..from + len];
+        }
+    }
+    &src[..0]
+}
+
+impl Link {
+    // The next chance.
+    fn roll(self) -> Link {
+        let radio = self.radio;
+        let radio = radio.roll();
+        let printer = self.printer;
+        Link { radio, printer }
+    }
+
+    // A message is held back, or lost where there is no place for it.
+    fn hold(self, m: SnapMsg, data: &[u8], bytes: &mut [u8]) -> Link {
+        let radio = self.radio;
+        let printer = self.printer;
+        let k = radio.free();
+        if 8 <= k {
+            print_on_the_way(m, b": lost");
+            return Link { radio, printer };
+        }
+        print_on_the_way(m, b": held back");
+        replay_text::put(bytes, place(k), data);
+        let radio = radio.hold(k, m, data.len());
+        Link { radio, printer }
+    }
+
+    // A message comes to the printer.
+    fn deliver(
+        self,
+        m: SnapMsg,
+        data: &[u8],
+        parts: &mut [u8; 28800],
+        joined: &mut [u8; 28800],
+        delta: &mut [i32; 16384],
+        area: &mut [i32; 65536],
+        scratch: &mut [i32; 28800],
+        came: &mut [usize; 33],
+        held: &mut [i32; 101],
+    ) -> Link {
+        let radio = self.radio;
+        let printer = self.printer;
+        let printer = printer.deliver(m, data, parts, joined, delta, area, scratch, came, held);
+        Link { radio, printer }
+    }
+
+    // A message is sent; a sure one is not lost, nor held back, nor doubled.
+    fn send(
+        self,
+        m: SnapMsg,
+        data: &[u8],
+        sure: bool,
+        bytes: &mut [u8; 7200],
+        parts: &mut [u8; 28800],
+        joined: &mut [u8; 28800],
+        delta: &mut [i32; 16384],
+        area: &mut [i32; 65536],
+        scratch: &mut [i32; 28800],
+        came: &mut [usize; 33],
+        held: &mut [i32; 101],
+    ) -> Link {
+        if sure {
+            return self.deliver(m, data, parts, joined, delta, area, scratch, came, held);
+        }
+        let h = self.roll();
+        let radio = h.radio;
+        let fate = radio.fate();
+        match fate {
+            Fate::Lost => {
+                print_on_the_way(m, b": lost");
+                h
+            }
+            Fate::Late => h.hold(m, data, bytes),
+            Fate::Twice => {
+                let h = h.deliver(m, data, parts, joined, delta, area, scratch, came, held);
+                h.deliver(m, data, parts, joined, delta, area, scratch, came, held)
+            }
+            Fate::Through => h.deliver(m, data, parts, joined, delta, area, scratch, came, held),
+        }
+    }
+
+    // The i-th message of a delta is sent.
+    fn send_chunk(
+        self,
+        sent: Sent,
+        i: usize,
+        data: &[u8],
+        sure: bool,
+        bytes: &mut [u8; 7200],
+        parts: &mut [u8; 28800],
+        joined: &mut [u8; 28800],
+        delta: &mut [i32; 16384],
+        area: &mut [i32; 65536],
+        scratch: &mut [i32; 28800],
+        came: &mut [usize; 33],
+        held: &mut [i32; 101],
+    ) -> Link {
+        let chunk = chunk_numbers(sent.tick, sent.base, data, sent.crc, i);
+        let Chunk::Message(m) = chunk else {
+            return self;
+        };
+        let part = chunk_data(data, i);
+        self.send(
+            m,
+            part,
+            sure,
+            bytes,
+            parts,
+            joined,
+            delta,
+            area,
+            scratch,
+            came,
+            held,
+        )
+    }
+
+    // The messages of a delta are sent.
+    fn send_all(
+        self,
+        sent: Sent,
+        data: &[u8],
+        sure: bool,
+        bytes: &mut [u8; 7200],
+        parts: &mut [u8; 28800],
+        joined: &mut [u8; 28800],
+        delta: &mut [i32; 16384],
+        area: &mut [i32; 65536],
+        scratch: &mut [i32; 28800],
+        came: &mut [usize; 33],
+        held: &mut [i32; 101],
+    ) -> Link {
+        let count = num_chunks(data);
+        let NumChunks::Messages(n) = count else {
+            return self;
+        };
+        let mut h = self;
+        let mut i: usize = 0;
+        while i < n {
+            h = h.send_chunk(
+                sent,
+                i,
+                data,
+                sure,
+                bytes,
+                parts,
+                joined,
+                delta,
+                area,
+                scratch,
+                came,
+                held,
+            );
+            i += 1;
+        }
+        h
+    }
+
+    // What is held back at the k-th place comes, or waits on.
+    fn come(
+        self,
+        k: usize,
+        bytes: &[u8],
+        parts: &mut [u8; 28800],
+        joined: &mut [u8; 28800],
+        delta: &mut [i32; 16384],
+        area: &mut [i32; 65536],
+        scratch: &mut [i32; 28800],
+        came: &mut [usize; 33],
+        held: &mut [i32; 101],
+    ) -> Link {
+        let h = self.roll();
+        let radio = h.radio;
+        let letter = radio.letter(k);
+        if !letter.full {
+            return h;
+        }
+        if !radio.comes() {
+            return h;
+        }
+        let m = letter.message;
+        let data = cut(bytes, place(k), letter.len);
+        let h = h.deliver(m, data, parts, joined, delta, area, scratch, came, held);
+        let radio = h.radio;
+        let radio = radio.release(k);
+        let printer = h.printer;
+        Link { radio, printer }
+    }
+
+    // Of what is held back some comes.
+    fn come_late(
+        self,
+        bytes: &[u8],
+        parts: &mut [u8; 28800],
+        joined: &mut [u8; 28800],
+        delta: &mut [i32; 16384],
+        area: &mut [i32; 65536],
+        scratch: &mut [i32; 28800],
+        came: &mut [usize; 33],
+        held: &mut [i32; 101],
+    ) -> Link {
+        let mut h = self;
+        let mut k: usize = 0;
+        while k < 8 {
+            h = h.come(k, bytes, parts, joined, delta, area, scratch, came, held);
+            k += 1;
+        }
+        h
+    }
+}
+
+// ---- the controller: a table for each tick, added to its store, and its delta packed
+
+// The types of items: a number, a kind that the builder numbers, and one that has 8000 hex as its number.
+enum Sort {
+    Number,
+    Kind,
+    High,
+}
+
+// The controller's store, and the chance so far.
+struct Controller {
+    storage: Storage,
+    seed: u64,
+}
+
+// How a table was made: the chance afterwards, and whether it is its base's once more.
+struct Prepared {
+    seed: u64,
+    repeated: bool,
+}
+
+// What is sent of a table, in how many bytes, and the controller afterwards.
+struct Told {
+    controller: Controller,
+    sent: Sent,
+    len: usize,
+}
+
+// An int: of all sizes, or a small one.
+fn value(seed: u64, wide: bool) -> i32 {
+    if wide {
+        return ints::from_bits((seed % 4294967296) as u32);
+    }
+    ints::from_bits(side_of(seed))
+}
+
+// Fills an item's ints; the chance afterwards.
+fn fill(data: &mut [i32; 24], seed: u64, wide: bool) -> u64 {
+    let mut s = seed;
+    let mut i: usize = 0;
+    while i < 24 {
+        s = next_seed(s);
+        data[i] = value(s, wide);
+        i += 1;
+    }
+    s
+}
+
+// The first n ints; all where there are fewer.
+fn front(data: &[i32], n: usize) -> &[i32] {
+    if n <= data.len() {
+        return &data[0..n];
+    }
+    data
+}
+
+// Adds an item of a type; all items of one type have equally many ints.
+fn add(table: &mut [i32], sort: Sort, id: u16, data: &[i32; 24]) -> Stored {
+    match sort {
+        Sort::Number => builder::add_item(table, TypeId::Ordinal(5), id, front(data, 24)),
+        Sort::Kind => builder::add_item(table, TypeId::Uuid(7, 8, 9, -10), id, front(data, 9)),
+        Sort::High => raw_builder::add_item(table, 32768, id, front(data, 16)),
+    }
+}
+
+// Adds an item with an id, or leaves it out; the chance afterwards.
+fn add_or_not(table: &mut [i32], sort: Sort, id: u16, seed: u64, wide: bool) -> u64 {
+    let seed = next_seed(seed);
+    if side_of(seed) < 5 {
+        return seed;
+    }
+    let mut data = [0i32; 24];
+    let seed = fill(&mut data, seed, wide);
+    add(table, sort, id, &data);
+    seed
+}
+
+// Adds items of a type, with ids below a number; the chance afterwards.
+fn add_some(table: &mut [i32; 16384], sort: Sort, ids: u16, seed: u64, wide: bool) -> u64 {
+    let mut s = seed;
+    let mut id: u16 = 0;
+    while id < ids {
+        s = add_or_not(table, sort, id, s, wide);
+        id += 1;
+    }
+    s
+}
+
+// A table of items of all three types; the chance afterwards.
+fn build(table: &mut [i32; 16384], seed: u64) -> u64 {
+    let seed = next_seed(seed);
+    let wide = side_of(seed) < 7;
+    builder::new(table);
+    let seed = add_some(table, Sort::Number, 28, seed, wide);
+    let seed = add_some(table, Sort::Kind, 6, seed, wide);
+    let kind = [1i32, -2, 3, -4];
+    raw_builder::add_item(table, 0, 32768, &kind);
+    add_some(table, Sort::High, 8, seed, wide)
+}
+
+// The table of the base again, where one is set; whether that was so.
+fn repeat(s: Storage, area: &[i32], table: &mut [i32]) -> bool {
+    if !s.has_delta {
+        return false;
+    }
+    let count = s.count;
+    if count == 0 {
+        return false;
+    }
+    let stored = raw_snap::write_to_ints(s.snap(area, count - 1), table);
+    match stored {
+        Stored::Ints(_) => true,
+        Stored::Refused(_) => false,
+    }
+}
+
+// The sum of a table.
+fn sum(table: &[i32]) -> i32 {
+    let checksum = raw_snap::crc(table);
+    match checksum {
+        Checksum::Sum(n) => n,
+        Checksum::Refused(_) => 0,
+    }
+}
+
+// The delta packed, under no known sizes; how many bytes.
+fn pack(delta: &[i32], packed: &mut [u8]) -> usize {
+    let sizes = [0i32; 1];
+    let written = delta::write(delta, &sizes[..0], packed);
+    match written {
+        IntWrite::Next(len) => len,
+        IntWrite::Refused(_) => 0,
+    }
+}
+
+// Prints what was added; the tick of its base.
+fn report(tick: i32, answer: Added, len: usize) -> i32 {
+    match answer {
+        Added::Delta { base, ints } => {
+            print_added(tick, base, ints, len);
+            base
+        }
+        Added::DifferingSizes(_) => {
+            print_not_added(tick);
+            -1
+        }
+        Added::Refused(_) => {
+            print_not_added(tick);
+            -1
+        }
+    }
+}
+
+// The table of a tick: the base's once more where again is asked for and a base is set, else a new one.
+fn prepare(c: Controller, again: bool, area: &[i32], table: &mut [i32; 16384]) -> Prepared {
+    if again {
+        if repeat(c.storage, area, table) {
+            return Prepared {
+                seed: c.seed,
+                repeated: true,
+            };
+        }
+    }
+    Prepared {
+        seed: build(table, c.seed),
+        repeated: false,
+    }
+}
+
+// A delta packed; nothing is sent of a table that is its base's once more.
+fn pack_new(repeated: bool, delta: &[i32], packed: &mut [u8]) -> usize {
+    if repeated {
+        return 0;
+    }
+    pack(delta, packed)
+}
+
+impl Controller {
+    // A controller without tables.
+    fn new(seed: u64) -> Controller {
+        let storage = Storage::new();
+        Controller { storage, seed }
+    }
+
+    // A table is added, and its delta packed.
+    fn add(
+        self,
+        made: Prepared,
+        tick: i32,
+        table: &[i32; 16384],
+        delta: &mut [i32; 16384],
+        packed: &mut [u8; 28800],
+        area: &mut [i32; 65536],
+    ) -> Told {
+        let storage = self.storage;
+        let adding = storage.add_snap(tick, table, delta, area);
+        let len = pack_new(made.repeated, delta, packed);
+        let storage = adding.storage;
+        let answer = adding.answer;
+        let base = report(tick, answer, len);
+        let crc = sum(table);
+        let seed = made.seed;
+        let controller = Controller { storage, seed };
+        let sent = Sent { tick, base, crc };
+        Told {
+            controller,
+            sent,
+            len,
+        }
+    }
+
+    // A table is added at a tick. Where again is asked for, and a base is set, it is the base's table once more, and no bytes are sent.
+    fn tell(
+        self,
+        tick: i32,
+        again: bool,
+        delta: &mut [i32; 16384],
+        packed: &mut [u8; 28800],
+        area: &mut [i32; 65536],
+    ) -> Told {
+        let mut table = [0i32; 16384];
+        let made = prepare(self, again, area, &mut table);
+        self.add(made, tick, &table, delta, packed, area)
+    }
+}
+
+// ---- the session
 
 // The last tick, which is sent without loss.
 const LAST: u32 = 39;
@@ -40,8 +1028,8 @@ fn set_base(s: Storage, tick: i32, control: &mut [i32]) -> Storage {
     let setting = s.set_delta_tick(tick, control);
     let answer = setting.answer;
     match answer {
-        Set::Done => lines::base_set(tick),
-        Set::Refused(e) => lines::base_refused(tick, e),
+        Set::Done => print_base_set(tick),
+        Set::Refused(e) => print_base_refused(tick, e),
     }
     setting.storage
 }
@@ -50,14 +1038,14 @@ fn set_base(s: Storage, tick: i32, control: &mut [i32]) -> Storage {
 fn acknowledge(controller: Controller, link: Link, late: i32, control: &mut [i32]) -> Session {
     let link = link.roll();
     let radio = link.radio;
-    let side = chance::side(radio.seed);
+    let side = side_of(radio.seed);
     let tick = acknowledged(link);
     let mut storage = controller.storage;
     let mut ack_tick = late;
     if side < 4 {
-        lines::acknowledgement(tick, b": lost");
+        print_acknowledgement(tick, b": lost");
     } else if side < 7 {
-        lines::acknowledgement(tick, b": held back");
+        print_acknowledgement(tick, b": held back");
         storage = set_base(storage, late, control);
         ack_tick = tick;
     } else {
@@ -92,7 +1080,7 @@ fn turn(
     let link = link.come_late(bytes, parts, joined, delta, area, scratch, came, held);
     let controller = s.controller;
     let told = controller.tell(ints::from_bits(tick), tick % 8 == 5, made, packed, control);
-    let data = link::cut(packed, 0, told.len);
+    let data = cut(packed, 0, told.len);
     let sent = told.sent;
     let link = link.send_all(
         sent,
@@ -135,7 +1123,7 @@ fn finish(s: Session, control: &[i32], area: &[i32]) {
     let ours = controller.storage;
     let theirs = manager.storage;
     let same = equal(ours.snap(control, 0), theirs.snap(area, 0));
-    lines::last(
+    print_last(
         same,
         acknowledged(link),
         printer.messages,

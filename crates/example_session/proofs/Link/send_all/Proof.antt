@@ -1,8 +1,8 @@
--- `link::Link::send_all` is safe and ends. Assumes nothing.
+-- `Link::send_all` is safe and ends. Assumes nothing.
 use Prim.Native.Nat.{_-_}
 use borrow.Author.Needs.{needs}
-use Rattle.example_session.proofs.link.Link.send_all.Statement.{statement}
-use Rattle.example_session.proofs.link.Link.send_all.Tie as tie
+use Rattle.example_session.proofs.Link.send_all.Statement.{statement}
+use Rattle.example_session.proofs.Link.send_all.Tie as tie
 
 abbrev Inv-loop : tie.InvT-loop
 Inv-loop sent «data» sure bytes₀ parts₀ joined₀ delta₀ area₀ scratch₀ came₀ held₀ n h₀ i₀ bytes parts joined delta area scratch came held h i =

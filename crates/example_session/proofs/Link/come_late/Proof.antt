@@ -1,8 +1,8 @@
--- `link::Link::come_late` is safe and ends. Assumes nothing.
+-- `Link::come_late` is safe and ends. Assumes nothing.
 use Prim.Native.Nat.{_-_}
 use borrow.Author.Needs.{needs}
-use Rattle.example_session.proofs.link.Link.come_late.Statement.{statement}
-use Rattle.example_session.proofs.link.Link.come_late.Tie as tie
+use Rattle.example_session.proofs.Link.come_late.Statement.{statement}
+use Rattle.example_session.proofs.Link.come_late.Tie as tie
 
 abbrev Inv-loop : tie.InvT-loop
 Inv-loop bytes parts₀ joined₀ delta₀ area₀ scratch₀ came₀ held₀ h₀ k₀ parts joined delta area scratch came held h k =

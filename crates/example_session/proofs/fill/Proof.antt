@@ -1,8 +1,8 @@
--- `controller::fill` is safe and ends. Assumes nothing.
+-- `fill` is safe and ends. Assumes nothing.
 use Prim.Native.Nat.{_-_}
 use borrow.Author.Needs.{needs}
-use Rattle.example_session.proofs.controller.fill.Statement.{statement}
-use Rattle.example_session.proofs.controller.fill.Tie as tie
+use Rattle.example_session.proofs.fill.Statement.{statement}
+use Rattle.example_session.proofs.fill.Tie as tie
 
 abbrev Inv-loop : tie.InvT-loop
 Inv-loop data₀ seed wide s₀ i₀ «data» s i = Unit {0}
@@ -13,8 +13,8 @@ abbrev μ-loop : tie.MeasureT-loop
 loop-holds : tie.Need-loop-holds Inv-loop μ-loop
 loop-holds c = search needs
 
-next-requires : tie.Need-next-requires Inv-loop μ-loop
-next-requires c κs = search needs
+next-seed-requires : tie.Need-next-seed-requires Inv-loop μ-loop
+next-seed-requires c κs = search needs
 
 value-requires : tie.Need-value-requires Inv-loop μ-loop
 value-requires c κs = search needs
@@ -44,7 +44,7 @@ fill-spec =
     Inv-loop
     μ-loop
     loop-holds
-    next-requires
+    next-seed-requires
     value-requires
     mul-t8
     element-set-from-data
