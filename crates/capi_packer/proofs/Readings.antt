@@ -13,12 +13,12 @@ use Rattle.definitions.specs.Packed.{warned}
 use Rattle.definitions.specs.Packer.{IntAt}
 use Rattle.packer.specs.Answers.{intRead}
 use Rattle.packer.specs.declared.IntRead.the-variants.{Int, End}
-use Rattle.unpacker.specs.Readers.{Answered}
-use Rattle.unpacker.specs.declared.Reading.{Reading}
+use Rattle.packer.specs.ReaderAnswers.{Answered}
+use Rattle.packer.specs.declared.readers.ReaderAnswer.{ReaderAnswer}
 use Rattle.boundary.specs.Boundary.{flag, status, warningsOf, output}
 use Rattle.capi_packer.specs.Standing.{Stands}
 
-module _ {A : Type 0} (o : Outcome IntAt) (entries : List A) (a : Reading) (h : Answered o entries a) (m k f : ℕ) (set : (m ≡ a .at) × ((k ≡ a .left) × (f ≡ flag (a .empty)))) where
+module _ {A : Type 0} (o : Outcome IntAt) (entries : List A) (a : ReaderAnswer) (h : Answered o entries a) (m k f : ℕ) (set : (m ≡ a .at) × ((k ≡ a .left) × (f ≡ flag (a .empty)))) where
   pub stands : Stands o entries m k f
   stands = record {
     next-is = set .0 ∙ h .at-is;

@@ -6,7 +6,7 @@ use lib.Dec.{leb}
 use lib.ListN.{length, drop}
 use Rattle.definitions.specs.Outcome.{Outcome}
 use Rattle.definitions.specs.Packer.{IntAt}
-use Rattle.unpacker.specs.Readers.{placeAfter}
+use Rattle.definitions.specs.Readers.{placeAfter}
 use Rattle.boundary.specs.Boundary.{flag}
 
 -- the place of a reader of some entries that read an outcome, how many are left, and whether none are

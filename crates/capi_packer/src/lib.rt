@@ -2,7 +2,7 @@
 ghost use mathlib.Core.Path.{_≡_};
 ghost use Rattle.definitions.specs.Packed.{warned};
 ghost use Rattle.definitions.specs.Packer.{readIntAt, writeIntAt, unpackInto};
-ghost use Rattle.unpacker.specs.Readers.{plainIntAt};
+ghost use Rattle.definitions.specs.Readers.{plainIntAt};
 ghost use Rattle.capi_packer.specs.Standing.{Stands};
 ghost use Rattle.boundary.specs.Boundary as Boundary;
 ghost use Rattle.boundary.specs.Boundary.{status, warningsOf, output, flag};
@@ -12,7 +12,7 @@ use format::Warnings;
 use packer::IntRead;
 use packer::IntWrite;
 use packer::IntsRead;
-use unpacker::Reading;
+use packer::ReaderAnswer;
 
 // The counts of an integer's warnings in a row.
 fn warned_row(overlong: bool, padding: bool) -> [usize; 13]
@@ -104,7 +104,7 @@ pub extern "C" fn cef_unpack(
 }
 
 // Where a reader stands, in the outputs that say so.
-fn put_standing(r: Reading, next: &mut usize, left: &mut usize, empty: &mut u32)
+fn put_standing(r: ReaderAnswer, next: &mut usize, left: &mut usize, empty: &mut u32)
     ensures { λ _. ⌜ (now (next .exit) ≡ r .at) × ((now (left .exit) ≡ r .left) × (now (empty .exit) ≡ flag (r .empty))) ⌝ }
 {
     *next = r.at;
@@ -128,7 +128,7 @@ pub extern "C" fn cef_unpacker_read_int(
     ensures { λ _. ⌜ Stands (readIntAt (now (src .entry)) at) (now (src .entry)) (now (next .exit)) (now (left .exit)) (now (empty .exit)) ⌝ }
     ensures { λ _. ⌜ now (warnings .exit) ≡ Boundary.row (warningsOf (readIntAt (now (src .entry)) at)) ⌝ }
 {
-    let r = unpacker::read_bytes(src, at);
+    let r = packer::read_bytes(src, at);
     put_standing(r, next, left, empty);
     let read = r.read;
     let IntRead::Int {
@@ -160,7 +160,7 @@ pub extern "C" fn cef_int_unpacker_read_int(
     ensures { λ _. ⌜ now (value .exit) ≡ output (λ x. x .value) (now (value .entry)) (plainIntAt (now (src .entry)) at) ⌝ }
     ensures { λ _. ⌜ Stands (plainIntAt (now (src .entry)) at) (now (src .entry)) (now (next .exit)) (now (left .exit)) (now (empty .exit)) ⌝ }
 {
-    let r = unpacker::read_ints(src, at);
+    let r = packer::read_ints(src, at);
     put_standing(r, next, left, empty);
     let read = r.read;
     let IntRead::Int { value: v, .. } = read else {

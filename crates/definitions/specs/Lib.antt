@@ -14,6 +14,7 @@ pub mod TableCalls
 pub mod Deltas
 pub mod DeltaMaking
 pub mod DeltaReading
+pub mod Readers
 pub mod DeltaCalls
 pub mod Applying
 pub mod Types

@@ -4,3 +4,5 @@ pub mod Writes
 pub mod Answers
 pub mod Scanning
 pub mod Packing
+pub mod PlaceLaws
+pub mod Lending

@@ -24,6 +24,14 @@ use format::Error;
 use format::Warnings;
 
 pub mod checked;
+pub mod places;
+mod readers;
+
+pub use readers::IntUnpacker;
+pub use readers::ReaderAnswer;
+pub use readers::Unpacker;
+pub use readers::read_bytes;
+pub use readers::read_ints;
 
 // What stands at a place: an int with the place after it and whether it has each warning; or the bytes end inside it.
 pub enum IntRead {

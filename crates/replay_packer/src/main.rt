@@ -11,6 +11,7 @@ use libc::STDOUT_FILENO;
 use packer::IntRead;
 use packer::IntWrite;
 use packer::IntsRead;
+use packer::ReaderAnswer;
 use replay_text::put_byte;
 use replay_text::put_hex;
 use replay_text::put_int;
@@ -20,7 +21,6 @@ use replay_text::put_number;
 use replay_text::put_odd;
 use replay_text::put_refused;
 use replay_text::word;
-use unpacker::Reading;
 
 // The counts of the packer's two warnings.
 fn put_warnings(out: &mut [u8], at: usize, w: Warnings) -> usize {
@@ -49,14 +49,14 @@ fn read_case(line: &[u8], out: &mut [u8]) -> usize {
 }
 
 // Where a reader stands after a read: its place, how many entries are left, and whether none are.
-fn put_standing(out: &mut [u8], at: usize, r: Reading) -> usize {
+fn put_standing(out: &mut [u8], at: usize, r: ReaderAnswer) -> usize {
     let end = put_next(out, at, r.at);
     let end = put_next(out, end, r.left);
     put_next(out, end, ints::one_if(r.empty))
 }
 
 // What a reader answered.
-fn put_reading(out: &mut [u8], r: Reading) -> usize {
+fn put_reading(out: &mut [u8], r: ReaderAnswer) -> usize {
     let read = r.read;
     let IntRead::Int {
         value,
@@ -79,7 +79,7 @@ fn bytes_case(line: &[u8], out: &mut [u8]) -> usize {
     let mut src = [0u8; 64];
     let len = replay_text::bytes(word(line, 2), &mut src);
     let at = replay_text::number(word(line, 1));
-    put_reading(out, unpacker::read_bytes(&src[..len], at))
+    put_reading(out, packer::read_bytes(&src[..len], at))
 }
 
 // The answer of i AT INT..; the place is the first of the line's ints.
@@ -90,7 +90,7 @@ fn ints_case(line: &[u8], out: &mut [u8]) -> usize {
     if len == 0 {
         return put_odd(out);
     }
-    put_reading(out, unpacker::read_ints(&src[1..len], at))
+    put_reading(out, packer::read_ints(&src[1..len], at))
 }
 
 // The answer of w ROOM AT INT.

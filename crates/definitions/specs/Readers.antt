@@ -1,0 +1,24 @@
+-- A reader, which stands at a place of some entries: the int that it reads from ints, and where it then stands. Assumes nothing.
+use mathlib.Core.List.{List}
+use Prim.Native.Nat.{ℕ, _-_}
+use lib.IntN.{ℤ}
+use lib.ListN.{length, drop}
+use Rattle.definitions.specs.Refusals.{unexpectedEnd}
+use Rattle.definitions.specs.Outcome.{Outcome, ok, err}
+use Rattle.definitions.specs.Packer.{IntAt}
+use Rattle.definitions.specs.Stream.{ints}
+use Rattle.definitions.specs.DeltaReading.{Got, intStream, next}
+
+-- what was read from the end of n ints: the rest begins at the next place
+abbrev pub placedInt : ℕ → Outcome (Got ℤ) → Outcome IntAt
+placedInt n (ok g w) = ok (record { value = g .value; next = n - length (ints (g .rest)) }) w
+placedInt n (err e w) = err e w
+
+-- the int at a place, as the next one of the stream from there on
+unfoldable pub plainIntAt : List ℤ → ℕ → Outcome IntAt
+plainIntAt xs at = placedInt (length xs) (next unexpectedEnd (intStream (drop at xs)))
+
+-- where a reader of n entries stands after what it read: behind the integer, or at the end
+abbrev pub placeAfter : ℕ → Outcome IntAt → ℕ
+placeAfter n (ok x w) = x .next
+placeAfter n (err e w) = n

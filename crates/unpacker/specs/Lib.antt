@@ -1,2 +1,0 @@
--- What the readers' answers mean. Assumes nothing.
-pub mod Readers
