@@ -1,6 +1,6 @@
 -- The integer at a place, and whether nothing is left. Assumes nothing.
 use mathlib.Core.Path.{_≡_, refl, sym, ap, _∙_}
-use mathlib.Core.Bool.{Bool, true, false}
+use mathlib.Core.Bool.{Bool, true, false, true≢false}
 use mathlib.Core.List.{List}
 use mathlib.Core.Logic.{⊎-elim}
 use Prim.Native.Nat.{ℕ, _+_, _≤_, _<_}
@@ -13,14 +13,16 @@ use lib.ListN.{length, drop, getD, length-drop, drop-of-length-le}
 use lib.Seq.{drop-cons}
 use Rattle.definitions.specs.Refusals.{unexpectedEnd}
 use Rattle.definitions.specs.Warnings as Warnings
-use Rattle.definitions.specs.Outcome.{Outcome, ok, err}
+use Rattle.definitions.specs.Outcome.{Outcome, ok, err, refuse}
 use Rattle.definitions.specs.Packed.{Read, warned, readInt}
-use Rattle.definitions.specs.Packer.{readIntAt}
-use Rattle.definitions.specs.Stream.{int, end, andThen, stream}
+use Rattle.definitions.specs.Packer.{IntAt, readIntAt}
+use Rattle.definitions.specs.Stream.{Stream, int, end, andThen, stream}
 use Rattle.definitions.specs.DeltaReading.{intStream, isEnd}
+use Rattle.definitions.specs.Readers.{plainIntAt}
 use Rattle.laws.specs.Tests.{below}
 use Rattle.laws.specs.StreamLaws.{stream-end, stream-step, ended}
 use Rattle.laws.specs.StreamLaws as StreamLaws
+use Rattle.laws.specs.ReaderLaws.{int-end, int-found}
 use Rattle.packer.specs.Answers.{intRead}
 use Rattle.packer.specs.declared.IntRead.{IntRead}
 use Rattle.packer.specs.declared.IntRead.the-variants as read
@@ -66,13 +68,27 @@ module _ (src : List ℕ) (l : List ℤ) (at : ℕ) where
   int-past : length l ≤ at → intStream (drop at l) ≡ end
   int-past h = ap intStream (drop-of-length-le l h)
 
-  pub int-next : at < length l → Next (source false src l) at (read.Int (getD l at (pos 0)) (at + 1) false false)
-  unfolding from behind
-  int-next h = found {x = getD l at (pos 0)} {next = at + 1} {o = false} {p = false} (int-step h) refl (omega arith) (omega arith)
+  -- the stream from the place of what was read
+  abbrev onward : Outcome IntAt → Stream
+  onward (ok r w) = int (r .value) w (intStream (drop (r .next) l))
+  onward (err n w) = end
 
-  pub no-int : length l ≤ at → Next (source false src l) at read.End
+  int-next : (r : IntRead) → at < length l → ok (record { value = getD l at (pos 0); next = at + 1 }) (warned false false) ≡ intRead r → Next (source false src l) at r
+  unfolding from behind
+  int-next (read.Int x next o p) h e = let q = ap placeOf e in found (int-step h ∙ ap onward e) (sym q) (omega arith) (omega arith)
+  int-next read.End h e = absurd (true≢false (ap (λ (o : Outcome IntAt). isEnd (onward o)) (sym e)))
+
+  no-int : (r : IntRead) → length l ≤ at → refuse unexpectedEnd ≡ intRead r → Next (source false src l) at r
   unfolding from
-  no-int h = nothing (λ refusal. rw (int-past h))
+  no-int (read.Int x next o p) h e = absurd (true≢false (ap (λ (o : Outcome IntAt). isEnd (onward o)) e))
+  no-int read.End h e = nothing (λ refusal. rw (int-past h))
+
+  pub plain-next : (r : IntRead) → plainIntAt l at ≡ intRead r → Next (source false src l) at r
+  plain-next r e =
+      ⊎-elim
+      (λ (h : at < length l). int-next r h (sym (int-found l at h) ∙ e))
+      (λ (h : length l ≤ at). no-int r h (sym (int-end l at h) ∙ e))
+      (below at (length l))
 
   pub ints-end : leb (length l) at ≡ isEnd (from (source false src l) at)
   unfolding from

@@ -27,15 +27,7 @@ pub fn next_int(bytes: &[u8], ints: &[i32], packed: bool, at: usize) -> IntRead
     if packed {
         return packer::read_int(bytes, at);
     }
-    if ints.len() <= at {
-        return IntRead::End;
-    }
-    IntRead::Int {
-        value: ints[at],
-        next: at + 1,
-        overlong: false,
-        padding: false,
-    }
+    packer::places::read_plain_int(ints, at)
 }
 
 // Whether nothing is left.

@@ -29,6 +29,7 @@ pub mod DeltaRestores
 pub mod DeltaWriting
 pub mod DeltaStream
 pub mod DeltaReadBack
+pub mod ReaderLaws
 pub mod DeltaForm
 pub mod DeltaLaws
 pub mod DeltaMakingLaws

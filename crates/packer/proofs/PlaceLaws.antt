@@ -1,22 +1,18 @@
--- What stands at a place of a list, and from there on. Assumes nothing.
+-- What stands from a place of a list on, and what a reader there answers. Assumes nothing.
 use mathlib.Core.Path.{_≡_, refl, sym, _∙_}
 use mathlib.Core.List.{List}
-use mathlib.Core.Bool.{Bool, false}
-use Prim.Native.Nat.{ℕ, suc, _+_, _-_, _≤_, _<_}
+use mathlib.Core.Bool.{Bool}
+use Prim.Native.Nat.{ℕ, _-_, _≤_}
 use native.Mathlib.Omega.{arith}
 use lib.Dec.{leb}
-use lib.IntN.{ℤ, pos}
-use lib.ListN.{length, drop, take, getD, drop-of-length-le, length-drop}
-use lib.Seq.{take-all, drop-cons}
-use Rattle.definitions.specs.Refusals.{unexpectedEnd}
-use Rattle.definitions.specs.Outcome.{Outcome, ok, refuse}
-use Rattle.definitions.specs.Packed.{warned}
+use lib.ListN.{length, drop, take, drop-of-length-le, length-drop}
+use lib.Seq.{take-all}
+use Rattle.definitions.specs.Outcome.{Outcome}
 use Rattle.definitions.specs.Packer.{IntAt}
-use Rattle.laws.specs.DeltaReadBack.{ints-intStream}
+use Rattle.definitions.specs.Readers.{placeAfter}
 use Rattle.packer.specs.Answers.{intRead}
-use Rattle.packer.specs.declared.IntRead.{IntRead}
-use Rattle.definitions.specs.Readers.{plainIntAt, placeAfter}
 use Rattle.packer.specs.ReaderAnswers.{Answered}
+use Rattle.packer.specs.declared.IntRead.{IntRead}
 use Rattle.packer.specs.declared.readers.ReaderAnswer.{ReaderAnswer}
 
 -- the part of a list from a place on
@@ -26,18 +22,6 @@ module _ {A : Type 0} (xs : List A) where
 
   pub part-past : (at : ℕ) → length xs ≤ at → take (length xs - length xs) (drop (length xs) xs) ≡ drop at xs
   part-past at h = part-from (length xs) ∙ drop-of-length-le xs {i = length xs} (omega arith) ∙ sym (drop-of-length-le xs h)
-
-module _ (xs : List ℤ) (at : ℕ) where
-  pub int-end : length xs ≤ at → plainIntAt xs at ≡ refuse unexpectedEnd
-  unfolding plainIntAt
-  int-end h = rw (drop-of-length-le xs h)
-
-  behind : at < length xs → length xs - length (drop (suc at) xs) ≡ at + 1
-  behind h = simp length-drop (omega arith)
-
-  pub int-found : at < length xs → plainIntAt xs at ≡ ok (record { value = getD xs at (pos 0); next = at + 1 }) (warned false false)
-  unfolding plainIntAt
-  int-found h = rw (drop-cons xs at (pos 0) h, ints-intStream (drop (suc at) xs), behind h)
 
 -- what a reader of xs answers, from what each of its methods did; left are the entries that are left
 pub answered : {A : Type 0} (o : Outcome IntAt) (xs left : List A) (r : IntRead) (n : ℕ) (t : Bool) (a : ReaderAnswer) → o ≡ intRead r → n ≡ placeAfter (length xs) (intRead r)

@@ -27,6 +27,7 @@ pub mod checked;
 pub mod places;
 mod readers;
 
+// The readers, and what they answer to callers that hold none.
 pub use readers::IntUnpacker;
 pub use readers::ReaderAnswer;
 pub use readers::Unpacker;

@@ -1,7 +1,7 @@
 -- `places::read_plain_int` meets its contract: the int, or the end. Assumes nothing.
 use mir.Facts.{toZ-ofZ}
 use native.Mathlib.Omega.{arith}
-use Rattle.packer.proofs.PlaceLaws.{int-end, int-found}
+use Rattle.laws.specs.ReaderLaws.{int-end, int-found}
 use borrow.Author.Needs.{needs}
 use Rattle.packer.proofs.places.read_plain_int.Statement.{statement}
 use Rattle.packer.proofs.places.read_plain_int.Tie as tie
