@@ -447,9 +447,9 @@ uint32_t cef_builder_new(int32_t *out, size_t out_len, size_t *count);
  * CEF_OK: the table now takes *count ints.
  * CEF_NOT_IN_FORM, CEF_INVALID_TYPE_ID, judged in this order; then, of each
  * item that is added, CEF_DUPLICATE_KEY, CEF_TOO_MANY_ITEMS,
- * CEF_TOO_LONG_SNAP, CEF_CAPACITY_ERROR: *count is left, and `area` as well,
- * but for an item that names a new kind, which stays where only the other one
- * is refused.
+ * CEF_TOO_LONG_SNAP; then CEF_CAPACITY_ERROR: *count is left, and `area` as
+ * well, but for an item that names a new kind, which stays where it fits and
+ * only the other one is refused.
  */
 uint32_t cef_builder_add_item(int32_t *area, size_t area_len, uint32_t is_uuid,
                               uint16_t ordinal,

@@ -18,13 +18,14 @@ use Rattle.definitions.specs.Tables.{Item, Table, written, sound, insert, table
 use Rattle.definitions.specs.TableReading.{addItem}
 use Rattle.definitions.specs.TableCalls.{storedTable}
 use Rattle.definitions.specs.Types.{TypeId, Ordinal, Uuid, kindNumber, judgeTypeId}
-use Rattle.definitions.specs.Builder.{heldBuilder, addTo, andThen, nextKind, withKind, addOfKind, addTyped, addWhere, builderAddItemCall}
+use Rattle.definitions.specs.Builder.{heldBuilder, addTo, stepOn, nextKind, withKind, addOfKind, addTyped, addWhere, builderAddItemCall}
 use Rattle.laws.specs.OutcomeLaws.{ok-not-err, ok-value, return-bind}
 use Rattle.laws.specs.TableShape.{Shape}
 use Rattle.laws.specs.TableForm.{length-items, length-form}
 use Rattle.laws.specs.TableRoundTrip.{items-sound}
 use Rattle.laws.specs.TableReadBack.{holds}
 use Rattle.laws.specs.TableReadSound.{added-sound, length-insert}
+use Rattle.laws.specs.BuilderForm.{itemOf}
 use Rattle.laws.specs.BuilderCalls.{laid-held, adds-or-not}
 use Rattle.table.specs.Held.{Held}
 use Rattle.snap.specs.Answers.{numberIn}
@@ -33,17 +34,17 @@ use Rattle.builder.specs.Building.{Built-as, addedAs}
 -- ---- what is stored
 
 -- a refusal stores nothing
-refused-is : (a : List ℤ) (n : ℕ) → storedTable a (refuse n) ≡ record { answer = refuse n; out = a }
+pub refused-is : (a : List ℤ) (n : ℕ) → storedTable a (refuse n) ≡ record { answer = refuse n; out = a }
 unfolding stored
 refused-is a n = refl
 
 -- a table that fits
-room-is : (a : List ℤ) (u : Table) → leb (length (written u)) (length a) ≡ true → storedTable a (return u) ≡ record { answer = return (length (written u)); out = lay (written u) a }
+pub room-is : (a : List ℤ) (u : Table) → leb (length (written u)) (length a) ≡ true → storedTable a (return u) ≡ record { answer = return (length (written u)); out = lay (written u) a }
 unfolding stored
 room-is a u q = rw q
 
 -- one that does not
-no-room-is : (a : List ℤ) (u : Table) → leb (length (written u)) (length a) ≡ false → storedTable a (return u) ≡ record { answer = refuse capacityError; out = a }
+pub no-room-is : (a : List ℤ) (u : Table) → leb (length (written u)) (length a) ≡ false → storedTable a (return u) ≡ record { answer = refuse capacityError; out = a }
 unfolding stored
 no-room-is a u q = rw q
 
@@ -119,14 +120,23 @@ module _ (a : List ℤ) (id : ℕ) (v : List ℤ) where
     unfolding addWhere addTyped judgeTypeId
     kind-new h = rw (e, le-ltb r 65536 h)
 
-  module _ (t : Table) (k l : List ℤ) where
-    -- the item that names the kind is refused
-    pub first-refused : (e : ℕ) → addTo a t 0 (nextKind t) k ≡ record { answer = refuse e; out = l } → addOfKind a t none k id v ≡ record { answer = refuse e; out = l }
-    first-refused e q = ap (λ (w : Wrote ℕ ℤ). andThen w (λ b. addTo b (withKind t (nextKind t) k) (nextKind t) id v)) q
+  module _ (t : Table) (k : List ℤ) where
+    -- the item that names a kind
+    abbrev named : Outcome Table
+    named = addItem (itemOf 0 (nextKind t) k) t
 
-    -- it stays, whatever becomes of the other
-    pub first-stays : (m : ℕ) → addTo a t 0 (nextKind t) k ≡ record { answer = return m; out = l } → addOfKind a t none k id v ≡ addTo l (withKind t (nextKind t) k) (nextKind t) id v
-    first-stays m q = ap (λ (w : Wrote ℕ ℤ). andThen w (λ b. addTo b (withKind t (nextKind t) k) (nextKind t) id v)) q
+    -- what then becomes of the other
+    abbrev other : List ℤ → Wrote ℕ ℤ
+    other c = addTo c (withKind t (nextKind t) k) (nextKind t) id v
+
+    module _ (l : List ℤ) where
+      -- the first is refused
+      pub first-refused : (e : ℕ) → named ≡ refuse e → addTo a t 0 (nextKind t) k ≡ record { answer = refuse e; out = l } → addOfKind a t none k id v ≡ record { answer = refuse e; out = l }
+      first-refused e f q = ap (λ (o : Outcome Table). stepOn o (addTo a t 0 (nextKind t) k) other) f ∙ q
+
+      -- it is not: what it leaves of the area goes to the other
+      pub first-stays : (r : Outcome ℕ) → named ≡ return (withKind t (nextKind t) k) → addTo a t 0 (nextKind t) k ≡ record { answer = r; out = l } → addOfKind a t none k id v ≡ other l
+      first-stays r f q = ap (λ (o : Outcome Table). stepOn o (addTo a t 0 (nextKind t) k) other) f ∙ ap (λ (w : Wrote ℕ ℤ). other (w .out)) q
 
   -- ---- the call
 

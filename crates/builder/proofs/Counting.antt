@@ -148,7 +148,7 @@ module _ (a : List ℤ) where
 
       pub builds : (k : ℕ) (w : Counts) → k ≡ 2 + count a + size a / 4 → typed (items a) ≡ ok (items a) w → Built-as a n k r
       builds k w t e =
-          record { builder = unfold heldBuilder builderForm in rw (is-held, x .run l .0, e); held = h; takes = t; kinds = x .run l .1; few = l }
+          record { builder = unfold heldBuilder builderForm in rw (is-held, x .run l .0, e); held = h; takes = t; kinds = x .run l .1; few = l; types = rw e }
 
 -- ---- finishing
 

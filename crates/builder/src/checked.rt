@@ -3,12 +3,13 @@ ghost use mathlib.Core.Path.{_≡_};
 ghost use mathlib.Core.List.{_∷_, []};
 ghost use mathlib.Core.Option.{none};
 ghost use Prim.Native.Nat.{_+_, _/_, _≤_};
+ghost use lib.ListN.{length};
 ghost use Rattle.definitions.specs.Tables.{items, count, size};
 ghost use Rattle.definitions.specs.Types.{Ordinal, Uuid};
-ghost use Rattle.definitions.specs.Builder.{numKinds, addOfKind};
+ghost use Rattle.definitions.specs.Builder.{addOfKind};
 ghost use Rattle.format.specs.Answers.{storedInts};
 ghost use Rattle.table.specs.Held.{Held};
-ghost use Rattle.builder.specs.Building.{Runs, Built, addedAs};
+ghost use Rattle.builder.specs.Building.{Runs, Built, Built-as, addedAs, RefusesAs};
 use format::Error;
 use format::Stored;
 use snap::checked::kind_number;
@@ -92,7 +93,22 @@ pub fn add_ordinal(
     add(area, n, ints, format::key(number, id), data)
 }
 
-// Adds the item that names a kind, which has no number yet, and then an item of that kind.
+// Why an item is refused in a table of n items and so many ints, where the area has no room for it.
+pub fn refuse_without_room(n: usize, ints: usize, data: &[i32]) -> Error
+    requires { ⌜ ints ≤ 16384 ⌝ }
+    ensures { λ r. ⌜ RefusesAs n ints (length (now («data» .entry))) r ⌝ }
+{
+    if 1024 <= n {
+        return Error::TooManyItems;
+    }
+    if 16384 < ints + (data.len() + 2) {
+        return Error::TooLongSnap;
+    }
+    Error::CapacityError
+}
+
+// Adds the item that names a kind, which has no number yet, and then an item of that kind; where the first lacks room, the other is judged
+// all the same, and nothing is written.
 pub fn add_with_kind(
     area: &mut [i32],
     n: usize,
@@ -102,14 +118,19 @@ pub fn add_with_kind(
     id: u16,
     data: &[i32],
 ) -> Stored
-    requires { ⌜ Held (now area) n × (ints ≡ 2 + count (now area) + size (now area) / 4) × (numKinds (items (now area)) ≡ kinds) × (kinds ≤ 1024) ⌝ }
+    requires { ⌜ Built-as (now area) n ints kinds ⌝ }
     ensures { λ r. ⌜ addOfKind (now (area .entry)) (items (now (area .entry))) none (now (kind .entry)) id (now («data» .entry)) ≡ record { answer = storedInts r; out = now (area .exit) } ⌝ }
 {
     let number = (16384 + kinds) as u16;
     let first = add(area, n, ints, format::key(0, number), kind);
     match first {
-        Stored::Refused(e) => Stored::Refused(e),
         Stored::Ints(total) => add(area, n + 1, total, format::key(number, id), data),
+        Stored::Refused(e) => match e {
+            Error::CapacityError => {
+                Stored::Refused(refuse_without_room(n + 1, ints + (kind.len() + 2), data))
+            }
+            _ => Stored::Refused(e),
+        },
     }
 }
 
@@ -126,7 +147,7 @@ pub fn add_of_kind(
     id: u16,
     data: &[i32],
 ) -> Stored
-    requires { ⌜ Held (now area) n × (ints ≡ 2 + count (now area) + size (now area) / 4) × (numKinds (items (now area)) ≡ kinds) × (kinds ≤ 1024) ⌝ }
+    requires { ⌜ Built-as (now area) n ints kinds ⌝ }
     ensures { λ r. ⌜ addedAs (now (area .entry)) (Uuid (a ∷ b ∷ c ∷ d ∷ [])) id (now («data» .entry)) ≡ record { answer = storedInts r; out = now (area .exit) } ⌝ }
 {
     let found = kind_number(area, n, a, b, c, d);

@@ -17,8 +17,8 @@ pub fn new(out: &mut [i32]) -> Stored
     raw_snap::empty(out)
 }
 
-// Adds an item in its place by key. An item of a kind that is new to the table comes with the item that names the kind, which stays where
-// the other is refused; else a refused call leaves the area as it was.
+// Adds an item in its place by key. An item of a kind that is new to the table comes with the item that names the kind, which stays, if it
+// fits, where the other is refused; else a refused call leaves the area as it was.
 pub fn add_item(area: &mut [i32], type_id: TypeId, id: u16, data: &[i32]) -> Stored
     ensures { λ r. ⌜ builderAddItemCall (now (area .entry)) (typeOf «type_id») id (now («data» .entry)) ≡ record { answer = storedInts r; out = now (area .exit) } ⌝ }
 {

@@ -47,13 +47,10 @@ abbrev pub addTo : List ℤ → Table → ℕ → ℕ → List ℤ → Wrote ℕ
 addTo area t type id values =
     storedTable area (addItem (record { key = keyOf type id; values = values }) t)
 
--- what a first call left, and what a second one makes of its area; a refusal ends both
-abbrev pub stepOn : Outcome ℕ → Wrote ℕ ℤ → (List ℤ → Wrote ℕ ℤ) → Wrote ℕ ℤ
-stepOn (ok n c) w f = f (w .out)
+-- what a second call makes of the area that a first one left, unless the first one's item is refused
+abbrev pub stepOn : Outcome Table → Wrote ℕ ℤ → (List ℤ → Wrote ℕ ℤ) → Wrote ℕ ℤ
+stepOn (ok t c) w f = f (w .out)
 stepOn (err n c) w f = w
-
-abbrev pub andThen : Wrote ℕ ℤ → (List ℤ → Wrote ℕ ℤ) → Wrote ℕ ℤ
-andThen w f = stepOn (w .answer) w f
 
 -- the number of the next kind
 abbrev pub nextKind : Table → ℕ
@@ -63,11 +60,12 @@ nextKind t = 16384 + numKinds t
 abbrev pub withKind : Table → ℕ → List ℤ → Table
 withKind t n kind = insert (record { key = keyOf 0 n; values = kind }) t
 
--- an item of a kind that has a number, or of a new kind: then the item that names it goes first, and stays where the other is refused
+-- an item of a kind that has a number, or of a new kind: the item that names it goes first, stays where it fits, and counts where it does not
 abbrev pub addOfKind : List ℤ → Table → Option ℕ → List ℤ → ℕ → List ℤ → Wrote ℕ ℤ
 addOfKind area t (some n) kind id values = addTo area t n id values
 addOfKind area t none kind id values =
-    andThen (addTo area t 0 (nextKind t) kind)
+    stepOn (addItem (record { key = keyOf 0 (nextKind t); values = kind }) t)
+    (addTo area t 0 (nextKind t) kind)
     (λ a. addTo a (withKind t (nextKind t) kind) (nextKind t) id values)
 
 unfoldable pub addTyped : List ℤ → Table → TypeId → ℕ → List ℤ → Wrote ℕ ℤ

@@ -20,10 +20,10 @@ use Rattle.definitions.specs.Tables.{Item, Table, body, offsets, written, sound
 use Rattle.definitions.specs.TableReading.{addItem}
 use Rattle.definitions.specs.TableCalls.{held, storedTable}
 use Rattle.definitions.specs.Types.{TypeId, Ordinal, Uuid, kindNumber, judgeTypeId}
-use Rattle.definitions.specs.Builder.{heldBuilder, addTo, andThen, nextKind, withKind, addOfKind, addTyped, addWhere, newCall, builderAddItemCall}
+use Rattle.definitions.specs.Builder.{heldBuilder, addTo, stepOn, nextKind, withKind, addOfKind, addTyped, addWhere, newCall, builderAddItemCall}
 use Rattle.laws.specs.AreaLaws.{length-lay, lay-append}
 use Rattle.laws.specs.TableRoundTrip.{back}
-use Rattle.laws.specs.TableReadSound.{empty-sound}
+use Rattle.laws.specs.TableReadSound.{empty-sound, length-written-insert}
 use Rattle.laws.specs.DeltaMade.{facts}
 use Rattle.laws.specs.BuilderForm.{itemOf, of-number, of-kind, of-new-kind, kind-alone, Given, Built, nothing, more, built-sound, built-form}
 
@@ -122,11 +122,18 @@ module _ (a : List ℤ) (t : Table) (e : tableOf a ≡ some t) (b : Built t) whe
 
   -- where the item that names a new kind goes first
   two-items : (k : List ℤ) (id : ℕ) (values : List ℤ) → Given (Uuid k) id values → kindNumber k t ≡ none → (w : Wrote ℕ ℤ) → Left a (itemOf 0 (nextKind t) k) t w
-      → Leaves a (afterKind none k id values t) (andThen w (λ c. addTo c (withKind t (nextKind t) k) (nextKind t) id values) .out)
-  two-items k id values g o w (refused f) = leaves e b refl (λ l. rw f)
+      → Leaves a (afterKind none k id values t) (stepOn (addItem (itemOf 0 (nextKind t) k) t) w (λ c. addTo c (withKind t (nextKind t) k) (nextKind t) id values) .out)
+  two-items k id values g o w (refused f) = rw f (leaves e b refl (λ l. refl))
   two-items k id values g o w (no-room f m) =
-      let first : Built (withKind t (nextKind t) k) = more b g (unfold judgeTypeId in refl) (kind-alone o f) in
-      leaves e b refl (λ l. absurd (omega (arith, facts _ (built-sound first) .short)))
+      let s = withKind t (nextKind t) k in
+      let first : Built s = more b g (unfold judgeTypeId in refl) (kind-alone o f) in
+      rw f (leaves-it s first m (addTo a s (nextKind t) id values) (left a (itemOf (nextKind t) id values) s))
+    where
+      -- what lacks room for the first lacks it for both
+      leaves-it : (s : Table) → Built s → length a < length (written s) → (v : Wrote ℕ ℤ) → Left a (itemOf (nextKind t) id values) s v → Leaves a (afterItem (nextKind t) id values s) (v .out)
+      leaves-it s first m v (refused d) = leaves e b refl (λ l. absurd (omega (arith, facts s (built-sound first) .short)))
+      leaves-it s first m v (no-room d r) = leaves e b refl (λ l. absurd (omega (arith, facts s (built-sound first) .short)))
+      leaves-it s first m v (with-it d r) = absurd (omega (arith, length-written-insert (itemOf (nextKind t) id values) s))
   two-items k id values g o w (with-it f m) =
       let s = withKind t (nextKind t) k in
       let first : Built s = more b g (unfold judgeTypeId in refl) (kind-alone o f) in

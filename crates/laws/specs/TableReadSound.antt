@@ -10,7 +10,7 @@ use native.Mathlib.Omega.{arith}
 use borrow.Author.Tests.{lt-ltb, le-ltb, le-leb, ltb-true, leb-false, eq-eqb}
 use lib.Dec.{ltb, leb, eqb}
 use lib.IntN.{ℤ, pos}
-use lib.ListN.{length, getD}
+use lib.ListN.{length, getD, length-append}
 use mir.Syntax.{w32}
 use mir.Val.{SFits}
 use mir.Facts.{sfits-lit}
@@ -24,6 +24,7 @@ use Rattle.definitions.specs.TableReading.{addItem, headerInt, readItems, readT
 use Rattle.laws.specs.IntLaws.{bits-lt, fromBits-fits}
 use Rattle.laws.specs.PackLaws.{Whole, nil, cons}
 use Rattle.laws.specs.TableShape.{both}
+use Rattle.laws.specs.TableForm.{length-written}
 use Rattle.laws.specs.Tests.{below}
 
 -- ---- the ints of a stream fit 32 bits
@@ -121,6 +122,21 @@ length-insert i (x ∷ t) = go (ltb (i .key) (x .key)) (length-insert i t)
     go : (b : Bool) → length (insert i t) ≡ suc (length t) → length (cond b (i ∷ x ∷ t) (x ∷ insert i t)) ≡ suc (suc (length t))
     go true e = refl
     go false e = ap suc e
+
+-- its key and its data more
+length-body-insert : (i : Item) (t : Table) → length (body (insert i t)) ≡ length (body t) + (length (i .values) + 1)
+unfolding body insert
+length-body-insert i [] = omega (arith, length-append (i .values) [])
+length-body-insert i (x ∷ t) = go (ltb (i .key) (x .key)) (length-body-insert i t)
+  where
+    go : (p : Bool) → length (body (insert i t)) ≡ length (body t) + (length (i .values) + 1) → length (body (cond p (i ∷ x ∷ t) (x ∷ insert i t))) ≡ length (body (x ∷ t)) + (length (i .values) + 1)
+    go true e = omega (arith, length-append (i .values) (body (x ∷ t)))
+    go false e = omega (arith, length-append (x .values) (body t), length-append (x .values) (body (insert i t)))
+
+-- and its offset
+pub length-written-insert : (i : Item) (t : Table) → length (written (insert i t)) ≡ length (written t) + (length (i .values) + 2)
+length-written-insert i t =
+    omega (arith, length-written (insert i t), length-written t, length-insert i t, length-body-insert i t)
 
 -- ---- what reading comes to is sound
 

@@ -1,20 +1,23 @@
 -- Tables whose types are sound: each kind is named once, by four ints, and each type from 4000 hex on has its item. Assumes nothing.
-use Prim.Native.Nat.{ℕ}
+use Prim.Native.Nat.{ℕ, _<_, _≤_}
 use mathlib.Core.Path.{_≡_, refl, sym, ap, _∙_, subst}
-use mathlib.Core.Bool.{Bool, true, false, cond, _||_, true≢false}
+use mathlib.Core.Bool.{Bool, true, false, cond, not, _||_, true≢false}
 use mathlib.Core.List.{List, [], _∷_, _++_}
 use mathlib.Core.Option.{some}
 use native.Mathlib.Omega.{arith}
 use lib.IntN.{ℤ}
 use lib.ListN.{length, take}
 use lib.Dec.{ltb, eqb}
-use borrow.Author.Tests.{le-ltb, le-leb}
-use Rattle.definitions.specs.Outcome.{return}
+use borrow.Author.Tests.{le-ltb, le-leb, ne-eqb}
+use Rattle.definitions.specs.Refusals.{duplicateUuidType, missingUuidType}
+use Rattle.definitions.specs.Warnings.{Counts}
+use Rattle.definitions.specs.Outcome.{Outcome, ok, err, return, require, after, _>>=_, _>>_}
 use Rattle.definitions.specs.Tables.{Item, Table, keyOf, find, isSome, insert, walk}
 use Rattle.definitions.specs.Types.{typeOf, hasKind, kindNamed, judgeTypes, typed}
+use Rattle.definitions.specs.Builder.{isOk}
 use Rattle.laws.specs.TableChanged.{find-insert}
-use Rattle.laws.specs.TableEach.{Each, no-more, one, each-walk}
-use Rattle.laws.specs.KindLaws.{sameInts-swap, namesKind, kindsIn, kindsIn-walk, Unlike}
+use Rattle.laws.specs.TableEach.{Each, no-more, one, each-walk, elem-found, elem-walk}
+use Rattle.laws.specs.KindLaws.{sameInts-swap, namesKind, kind-below, kindsIn, kindsIn-walk, Unlike}
 
 -- ---- what sound types are
 
@@ -90,3 +93,55 @@ pub distinct-more : (kinds l : List (List ℤ)) (k : List ℤ) → take 4 k ≡ 
 distinct-more kinds [] k e d h u = (rw e h, tt)
 distinct-more kinds (x ∷ l) k e d h u =
     (d .0, distinct-more (take 4 x ∷ kinds) l k e (d .1) (unfold hasKind in rw (sameInts-swap k (take 4 x), u .0) h) (u .1))
+
+-- ---- a type that no item names
+
+module _ {B : Type 0} where
+  -- earlier warnings refuse nothing
+  still-ok : (w : Counts) (o : Outcome B) → isOk (after w o) ≡ isOk o
+  still-ok w (ok b v) = refl
+  still-ok w (err n v) = refl
+
+  -- of two steps that are not refused, neither is
+  both-ok : {A : Type 0} (o : Outcome A) (p : Outcome B) → isOk (o >> p) ≡ true → (isOk o ≡ true) × (isOk p ≡ true)
+  both-ok (ok a w) p e = (refl, sym (still-ok w p) ∙ e)
+  both-ok (err n w) p e = absurd (true≢false (sym e))
+
+  -- nor is the second, where it takes what the first gives
+  next-ok : {A : Type 0} (o : Outcome A) (f : A → Outcome B) → isOk (o >>= f) ≡ true → (a : A) × (isOk (f a) ≡ true)
+  next-ok (ok a w) f e = (a, sym (still-ok w (f a)) ∙ e)
+  next-ok (err n w) f e = absurd (true≢false (sym e))
+
+module _ (t : Table) (n id : ℕ) (l : 16384 ≤ n) (b : id < 65536) (u : isSome (find (keyOf 0 n) t) ≡ false) where
+  -- then none of some items that were judged is of the type
+  none-judged : (kinds : List (List ℤ)) (xs : List Item) → isOk (judgeTypes t kinds xs) ≡ true → isSome (find (keyOf n id) xs) ≡ false
+  unfolding judgeTypes find
+  none-judged kinds [] e = refl
+  none-judged kinds (x ∷ xs) e = go (namesKind x) refl e (λ ks d. none-judged ks xs d)
+    where
+      other : isOk (require (ltb (typeOf x) 16384 || isSome (find (keyOf 0 (typeOf x)) t)) missingUuidType) ≡ true → x .key ≡ keyOf n id → ⊥
+      other g z =
+          let y : typeOf x ≡ n = omega arith in
+          let f : false ≡ true = rw (y, le-ltb n 16384 l, u) at g in
+          true≢false (sym f)
+
+      go : (p : Bool) → namesKind x ≡ p
+          → isOk (cond p
+          (kindNamed (x .values) >>= λ k. require (not (hasKind k kinds)) duplicateUuidType >> judgeTypes t (k ∷ kinds) xs)
+          (require (ltb (typeOf x) 16384 || isSome (find (keyOf 0 (typeOf x)) t)) missingUuidType >> judgeTypes t kinds xs)) ≡ true
+          → ((ks : List (List ℤ)) → isOk (judgeTypes t ks xs) ≡ true → isSome (find (keyOf n id) xs) ≡ false)
+          → isSome (cond (eqb (x .key) (keyOf n id)) (some (x .values)) (find (keyOf n id) xs)) ≡ false
+      go true f d h =
+          let r = next-ok (kindNamed (x .values)) (λ k. require (not (hasKind k kinds)) duplicateUuidType >> judgeTypes t (k ∷ kinds) xs) d in
+          let q = both-ok (require (not (hasKind (r .0) kinds)) duplicateUuidType) (judgeTypes t (r .0 ∷ kinds) xs) (r .1) in
+          rw (ne-eqb (x .key) (keyOf n id) (λ z. omega (arith, kind-below x f))) (h (r .0 ∷ kinds) (q .1))
+      go false f d h =
+          let q = both-ok (require (ltb (typeOf x) 16384 || isSome (find (keyOf 0 (typeOf x)) t)) missingUuidType) (judgeTypes t kinds xs) d in
+          rw (ne-eqb (x .key) (keyOf n id) (other (q .0))) (h kinds (q .1))
+
+  -- nor any of a table whose types are sound
+  pub none-of-type : isOk (typed t) ≡ true → isSome (find (keyOf n id) t) ≡ false
+  unfolding typed
+  none-of-type e =
+      sym (sym (elem-found (keyOf n id) (walk t)) ∙ elem-walk (keyOf n id) t ∙ elem-found (keyOf n id) t)
+      ∙ none-judged [] (walk t) (both-ok (judgeTypes t [] (walk t)) (return t) e .0)

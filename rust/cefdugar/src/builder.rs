@@ -16,7 +16,8 @@ pub fn new(out: &mut [i32]) -> Result<usize, Refusal> {
 
 /// Adds an item to the builder's table in `area` and gives how many ints that
 /// takes then. An item of a new kind comes with the item that names the kind,
-/// which stays where the other is refused; else a refused call leaves `area`.
+/// which stays, if it fits, where the other is refused; else a refused call
+/// leaves `area`.
 pub fn add_item(
     area: &mut [i32],
     type_id: TypeId,

@@ -41,7 +41,7 @@ enum-known-type-id-2 : tie.Need-enum-known-type-id-2
 enum-known-type-id-2 c = search needs
 
 add-of-kind-requires : tie.Need-add-of-kind-requires
-add-of-kind-requires c κs = let b = built (c .before .before .before .before .before) in (b .held, b .takes, b .kinds, b .few)
+add-of-kind-requires c κs = built (c .before .before .before .before .before)
 
 same-length-2 : tie.Need-same-length-2
 same-length-2 c = search needs

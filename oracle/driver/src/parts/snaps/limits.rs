@@ -117,7 +117,8 @@ fn at_limit(
     Ok(())
 }
 
-/// Builders at the most items and the most ints.
+/// Builders at the most items and the most ints, also in areas where the item
+/// that names a new kind has no room: 9 and 8 of the other come before 40.
 pub fn built(run: &mut Run, calls: &mut Calls) -> Result {
     for count in [1_020, 1_022, 1_023, 1_024] {
         for ints in [

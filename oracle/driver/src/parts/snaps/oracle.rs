@@ -272,8 +272,7 @@ pub fn added(area: &[i32], type_id: TypeId, id: u16, data: &[i32]) -> (Counted, 
             (Counted::fits(ints.len(), area.len()), ints)
         }
         Told::Value(()) => (Counted::refused(40), with_kind(area, type_id)),
-        // The item that names a new kind has no room: that comes first.
-        Told::Refused(_) if ints.len() > area.len() => (Counted::refused(40), vec![]),
+        // An item that names a new kind is left behind where it has room.
         Told::Refused(number) => (Counted::refused(number), ints),
         Told::Panicked => (Counted::refused(panicked(type_id)), ints),
     };
