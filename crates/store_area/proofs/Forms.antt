@@ -1,6 +1,6 @@
 -- The test of a store's form: table by table, and then zeros. Assumes nothing.
 use mathlib.Core.Path.{_≡_, refl, sym, ap, _∙_}
-use mathlib.Core.Bool.{Bool, true, false, cond}
+use mathlib.Core.Bool.{Bool, true, false, cond, _&&_, and-assoc, and-true}
 use mathlib.Core.List.{List, [], _∷_, _++_, append-assoc, append-nil}
 use mathlib.Core.Option.{Option, some, none}
 use Prim.Native.Nat.{ℕ, suc, _+_, _-_, _<_, _≤_}
@@ -99,22 +99,17 @@ module _ (a : List ℤ) (p : ℕ) (h : p + 2 ≤ length a) where
 
 -- ---- zeros
 
--- an int is passed
-pub zero-passed : (a : List ℤ) (from i : ℕ) → i < length a → nat a i ≡ 0 → allZero (drop from a) ≡ allZero (drop i a) → allZero (drop from a) ≡ allZero (drop (i + 1) a)
+-- one int more was looked at
+pub zero-passed : (all : Bool) (n : ℕ) (a : List ℤ) (from i : ℕ) → i < length a → n ≡ nat a i → (all && allZero (drop i a)) ≡ allZero (drop from a) → ((all && eqb n 0) && allZero (drop (i + 1) a)) ≡ allZero (drop from a)
 unfolding allZero nat
-zero-passed a from i h z e =
+zero-passed all n a from i h z e =
     let d : drop (i + 1) a ≡ drop (suc i) a = ap (λ (j : ℕ). drop j a) (add-one i) in
-    e ∙ rw (d, drop-cons a i (pos 0) h, eq-eqb (num (getD a i (pos 0))) 0 z)
-
--- an int that is not 0
-pub not-zero : (a : List ℤ) (from i : ℕ) → i < length a → (nat a i ≡ 0 → ⊥) → allZero (drop from a) ≡ allZero (drop i a) → false ≡ allZero (drop from a)
-unfolding allZero nat
-not-zero a from i h z e = sym (e ∙ rw (drop-cons a i (pos 0) h, ne-eqb (num (getD a i (pos 0))) 0 z))
+    rw (d, z) (and-assoc all (eqb (num (getD a i (pos 0))) 0) (allZero (drop (suc i) a)) ∙ ap (λ (l : List ℤ). all && allZero l) (sym (drop-cons a i (pos 0) h)) ∙ e)
 
 -- the end
-pub all-zeros : (a : List ℤ) (from i : ℕ) → length a ≤ i → allZero (drop from a) ≡ allZero (drop i a) → true ≡ allZero (drop from a)
+pub all-zeros : (all : Bool) (a : List ℤ) (from i : ℕ) → length a ≤ i → (all && allZero (drop i a)) ≡ allZero (drop from a) → all ≡ allZero (drop from a)
 unfolding allZero
-all-zeros a from i h e = sym (e ∙ rw (drop-of-length-le a h))
+all-zeros all a from i h e = sym (and-true all) ∙ ap (λ (l : List ℤ). all && allZero l) (sym (drop-of-length-le a h)) ∙ e
 
 -- ---- table by table
 

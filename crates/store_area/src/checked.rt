@@ -1,7 +1,9 @@
 // Store areas: the test of their form, the tables in them, and how tables go and come.
 ghost use mathlib.Core.Path.{_≡_};
+ghost use mathlib.Core.Bool.{_&&_};
 ghost use mathlib.Core.List.{_∷_};
 ghost use Prim.Native.Nat.{_+_, _<_, _≤_, _^_};
+ghost use lib.Dec.{eqb};
 ghost use lib.ListN.{length, take, drop};
 ghost use Rattle.definitions.specs.Tables.{Table, written};
 ghost use Rattle.definitions.specs.Storage.{snapsOf, storeInts, storeArea, dropOlder, allZero};
@@ -42,18 +44,27 @@ pub fn table_size(area: &[i32], p: usize) -> usize
     0
 }
 
-// Whether the ints from a place on are all 0.
+// Whether a count is 0, and so were all before it.
+fn still_zero(all: bool, n: usize) -> bool
+    ensures { λ r. ⌜ r ≡ (all && eqb n 0) ⌝ }
+{
+    if n == 0 {
+        return all;
+    }
+    false
+}
+
+// Whether the ints from a place on are all 0. Each is looked at, so that many can be at once.
 pub fn zeros(area: &[i32], from: usize) -> bool
     ensures { λ r. ⌜ r ≡ allZero (drop from (now (area .entry))) ⌝ }
 {
+    let mut all = true;
     let mut i = from;
     while i < area.len() {
-        if table::checked::nat_at(area, i) != 0 {
-            return false;
-        }
+        all = still_zero(all, table::checked::nat_at(area, i));
         i += 1;
     }
-    true
+    all
 }
 
 // The form of an area with so many tables.

@@ -1,3 +1,4 @@
 -- Facts that the proofs of `table` share. Assumes nothing.
 pub mod Nums
 pub mod Places
+pub mod OffsetLaws

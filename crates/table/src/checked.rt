@@ -1,17 +1,18 @@
 // Table areas: the test of their form, and what may be asked of an area that passed it.
 ghost use mathlib.Core.Path.{_≡_};
-ghost use mathlib.Core.Bool.{Bool};
+ghost use mathlib.Core.Bool.{Bool, true, cond};
 ghost use mathlib.Core.Option.{some};
 ghost use Prim.Native.Nat.{ℕ, _+_, _-_, _/_, _<_, _≤_, _^_};
 ghost use lib.IntN.{pos};
 ghost use lib.ListN.{length, getD, take, drop, set};
 ghost use lib.Signed.{mag};
 ghost use Rattle.definitions.specs.Ints.{bits};
-ghost use Rattle.definitions.specs.Tables.{tableOf, items, all, fits, count, start, keyAt, valuesAt, itemAt, walk, nat};
+ghost use Rattle.definitions.specs.Tables.{tableOf, items, all, ends, fits, count, start, keyAt, valuesAt, itemAt, walk, nat};
 ghost use Rattle.definitions.specs.Tables as Tables;
 ghost use Rattle.definitions.specs.TableCalls.{nth};
 ghost use Rattle.laws.specs.TableFind.{Place};
 ghost use Rattle.table.specs.Held.{Head, Held, formOf, dataIn};
+ghost use Rattle.table.specs.Offsets.{isBehind, behindAt, tally};
 
 // Whether an area begins with a written table: how many items it has, and how many ints it takes.
 pub enum TableForm {
@@ -47,34 +48,80 @@ pub fn edge(area: &[i32], n: usize, i: usize) -> usize
     }
 }
 
-// Whether the items' offsets and keys are as a written table has them.
-pub fn all_fit(area: &[i32], n: usize, size: usize) -> bool
+// 1 where an item begins at a whole int and behind the one before it, given both offsets; else 0.
+fn begins_behind(before: usize, here: usize) -> u32
+    ensures { λ r. ⌜ (r ≡ cond (isBehind before here) 1 0) × (r ≤ 1) ⌝ }
+{
+    if before < here {
+        if here % 4 == 0 {
+            return 1;
+        }
+    }
+    0
+}
+
+// How many of the n items begin at a whole int and behind the one before. Each is counted, so that many can be at once.
+fn count_behind(area: &[i32], n: usize) -> u32
+    requires { ⌜ (2 + n ≤ length (now area)) × (n ≤ 1024) ⌝ }
+    ensures { λ r. ⌜ r ≡ tally (behindAt (now (area .entry))) (n - 1) ⌝ }
+{
+    let mut good: u32 = 0;
+    let mut i: usize = 0;
+    while i + 1 < n {
+        good += begins_behind(bits_at(area, 2 + i), bits_at(area, 3 + i));
+        i += 1;
+    }
+    good
+}
+
+// Whether the items' offsets are as a written table has them.
+fn ends_fit(area: &[i32], n: usize, size: usize) -> bool
     requires { ⌜ Head (now area) n size ⌝ }
+    ensures { λ r. ⌜ r ≡ all (ends (now (area .entry))) n ⌝ }
+{
+    if n == 0 {
+        return true;
+    }
+    if size % 4 != 0 {
+        return false;
+    }
+    if size <= bits_at(area, 1 + n) {
+        return false;
+    }
+    if count_behind(area, n) as usize + 1 != n {
+        return false;
+    }
+    true
+}
+
+// Whether the items' keys are as a written table has them, where the offsets are.
+fn keys_fit(area: &[i32], n: usize, size: usize) -> bool
+    requires { ⌜ Head (now area) n size × (all (ends (now area)) n ≡ true) ⌝ }
     ensures { λ r. ⌜ r ≡ all (fits (now (area .entry))) n ⌝ }
 {
-    let mut i = 0;
-    let mut here: usize = 0;
+    let mut i: usize = 0;
     let mut low: usize = 0;
     while i < n {
-        let next = edge(area, n, i + 1);
-        if next % 4 != 0 {
-            return false;
-        }
-        if next <= here {
-            return false;
-        }
-        if size < next {
-            return false;
-        }
+        let here = bits_at(area, 2 + i);
         let key = bits_at(area, 2 + n + here / 4);
         if key < low {
             return false;
         }
         low = key + 1;
-        here = next;
         i += 1;
     }
     true
+}
+
+// Whether the items' offsets and keys are as a written table has them.
+pub fn all_fit(area: &[i32], n: usize, size: usize) -> bool
+    requires { ⌜ Head (now area) n size ⌝ }
+    ensures { λ r. ⌜ r ≡ all (fits (now (area .entry))) n ⌝ }
+{
+    if ends_fit(area, n, size) {
+        return keys_fit(area, n, size);
+    }
+    false
 }
 
 // The form of an area.
