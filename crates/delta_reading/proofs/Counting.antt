@@ -2,14 +2,14 @@
 use Prim.Native.Nat.{ℕ, zero, suc, _+_, _-_, _<_, _≤_}
 use mathlib.Core.Path.{_≡_, refl, sym, ap, _∙_}
 use mathlib.Core.Bool.{Bool, true, false, cond, _&&_}
-use mathlib.Core.List.{List}
+use mathlib.Core.List.{List, [], _∷_}
 use native.Mathlib.Omega.{arith}
 use lib.IntN.{ℤ}
 use lib.Dec.{ltb, eqb}
 use Rattle.definitions.specs.Warnings.{Counts, DeleteUpdate, one, plus}
 use Rattle.definitions.specs.Warnings as Warnings
-use Rattle.definitions.specs.Tables.{list}
-use Rattle.definitions.specs.Deltas.{rank, deletedAt, updateKey, updateEnd, updates, deltaIn, updateFits, updatesFit}
+use Rattle.definitions.specs.Tables.{Item, list}
+use Rattle.definitions.specs.Deltas.{rank, numDeleted, deletedAt, updateKey, updateEnd, updates, deltaIn, updateFits, updatesFit}
 use Rattle.definitions.specs.DeltaReading.{elem}
 use Rattle.laws.specs.Tests.{at-most-one}
 use Rattle.laws.specs.TableShape.{both}
@@ -99,3 +99,16 @@ module _ (sizes a : List ℤ) (k u : ℕ) where
     all-counted h l =
         let e : counted (3 + k) u ≡ deletedCounts total = sym (c .sum) ∙ (ap (plus (deletedCounts total)) (none-counted n l) ∙ plus-none (deletedCounts total)) in
         (rw (h .deleted-is, h .updated-is) at e, omega (arith, c .small))
+
+-- without deleted keys no update is of one
+pub none-deleted : (l : List Item) → deleteUpdates [] l ≡ deletedCounts 0
+unfolding deleteUpdates
+none-deleted [] = refl
+none-deleted (x ∷ l) = rw (none-deleted l)
+
+-- of a delta that has none
+pub no-crossings : (sizes a : List ℤ) (k u : ℕ) → HeldDelta sizes a k u → k ≡ 0 → (deleteUpdates (deltaIn sizes a .deleted) (deltaIn sizes a .updated) ≡ deletedCounts 0) × (0 ≤ u)
+unfolding list
+no-crossings sizes a k u h z =
+    let e : numDeleted a ≡ 0 = sym (h .deleted-is) ∙ z in
+    (ap (λ (n : ℕ). deleteUpdates (list (deletedAt a) n) (deltaIn sizes a .updated)) e ∙ none-deleted (deltaIn sizes a .updated), omega arith)

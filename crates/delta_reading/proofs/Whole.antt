@@ -2,20 +2,21 @@
 use Prim.Native.Nat.{ℕ, _+_, _*_, _<_, _≤_}
 use mathlib.Core.Path.{_≡_, refl, sym, ap, _∙_}
 use mathlib.Core.Bool.{Bool}
-use mathlib.Core.List.{List, [], _++_}
+use mathlib.Core.List.{List, [], _∷_, _++_}
 use native.Mathlib.Omega.{arith}
 use lib.IntN.{ℤ}
 use lib.ListN.{length, take, length-append}
-use lib.Seq.{length-take-le}
+use lib.Seq.{length-take-le, take-all}
 use Rattle.definitions.specs.Areas.{layAt}
 use Rattle.definitions.specs.Refusals.{capacityError}
 use Rattle.definitions.specs.Warnings.{none}
-use Rattle.definitions.specs.Outcome.{return, refuse}
+use Rattle.definitions.specs.Outcome.{return, refuse, Wrote}
 use Rattle.definitions.specs.Stored.{stored}
-use Rattle.definitions.specs.Deltas.{writtenDelta, deltaIn}
+use Rattle.definitions.specs.Deltas.{numDeleted, numUpdated, writtenDelta, deltaIn}
 use Rattle.laws.specs.AreaLaws.{layAt-append}
 use Rattle.laws.specs.PackLaws.{stored-fits, stored-full}
-use Rattle.laws.specs.DeltaRestores.{delta-front}
+use Rattle.laws.specs.DeltaShape.{updatesEnd}
+use Rattle.laws.specs.DeltaRestores.{delta-front, delta-stands}
 use Rattle.ints.specs.Copies.{copyAt, copied}
 use Rattle.delta_form.specs.Held.{HeldDelta}
 use Rattle.delta_reading.proofs.Turns.{sized, sized-short}
@@ -54,3 +55,14 @@ module _ (sizes a : List ℤ) (k u : ℕ) (h : HeldDelta sizes a k u) where
       let laid : o2 ≡ layAt 0 whole out = e2 ∙ rw (e1, whole-is, layAt-append 0 front ups out, z) in
       stored-fits whole out none (omega (arith, whole-length))
       ∙ rw (whole-length, er, laid)
+
+-- where no size is known and the delta is all of the ints, it is what stands there
+pub all-stands : (sizes a : List ℤ) (k u : ℕ) → HeldDelta sizes a k u → length a ≡ updatesEnd sizes a (3 + numDeleted a) (numUpdated a) → length sizes ≡ 0 → a ≡ writtenDelta (deltaIn sizes a)
+all-stands [] a k u h e z =
+    sym (take-all (updatesEnd [] a (3 + numDeleted a) (numUpdated a)) a (omega (arith, e))) ∙ delta-stands [] a (h .shape)
+all-stands (x ∷ sizes) a k u h e z = absurd (omega (arith, z))
+
+-- so a copy of it is stored
+pub whole-stands : (sizes a : List ℤ) (k u : ℕ) → HeldDelta sizes a k u → length a ≡ updatesEnd sizes a (3 + numDeleted a) (numUpdated a) → length sizes ≡ 0
+    → (out : List ℤ) (w : Wrote ℕ ℤ) → stored out (return a) ≡ w → stored out (return (writtenDelta (deltaIn sizes a))) ≡ w
+whole-stands sizes a k u h e z out w q = ap (λ (l : List ℤ). stored out (return l)) (sym (all-stands sizes a k u h e z)) ∙ q

@@ -11,7 +11,7 @@ ghost use Rattle.definitions.specs.Outcome.{return};
 ghost use Rattle.definitions.specs.Stored.{stored};
 ghost use Rattle.definitions.specs.Deltas.{deletedAt, sizeAt, updateInts, updatesInts, writtenDelta, updateAt, updates, deltaIn};
 ghost use Rattle.definitions.specs.Deltas as Deltas;
-ghost use Rattle.laws.specs.DeltaShape.{Update, Updates};
+ghost use Rattle.laws.specs.DeltaShape.{updatesEnd, Update, Updates};
 ghost use Rattle.laws.specs.DeltaReadBack.{deleteUpdates};
 ghost use Rattle.format.specs.Answers.{storedInts};
 ghost use Rattle.delta_form.specs.Held.{HeldDelta};
@@ -124,6 +124,33 @@ pub fn write_area(
     Stored::Ints(write_updates(src, sizes, front, updated, out, front))
 }
 
+// Ints copied to the front of out; where they do not fit, out is left as it was.
+fn copy_whole(src: &[i32], out: &mut [i32]) -> Stored
+    ensures { λ r. ⌜ stored (now (out .entry)) (return (now (src .entry))) ≡ record { answer = storedInts r; out = now (out .exit) } ⌝ }
+{
+    if ints::copy_into(out, 0, src) {
+        return Stored::Ints(src.len());
+    }
+    Stored::Refused(Error::CapacityError)
+}
+
+// A delta that is all of the ints, with its sizes written, into the front of out. Where no size is known, it stands there so already.
+fn write_whole(
+    src: &[i32],
+    sizes: &[i32],
+    deleted: usize,
+    updated: usize,
+    out: &mut [i32],
+) -> Stored
+    requires { ⌜ HeldDelta (now sizes) (now src) deleted updated × (length (now src) ≡ updatesEnd (now sizes) (now src) (3 + Deltas.numDeleted (now src)) (Deltas.numUpdated (now src))) ⌝ }
+    ensures { λ r. ⌜ stored (now (out .entry)) (return (writtenDelta (deltaIn (now (sizes .entry)) (now (src .entry))))) ≡ record { answer = storedInts r; out = now (out .exit) } ⌝ }
+{
+    if sizes.len() == 0 {
+        return copy_whole(src, out);
+    }
+    write_area(src, sizes, deleted, updated, out)
+}
+
 // The place of the first deleted key of a rank or above, from a place on before which all are below it.
 pub fn deleted_from(src: &[i32], deleted: usize, start: usize, low: usize) -> usize
     requires { ⌜ (3 + deleted ≤ length (now src)) × (start ≤ deleted) × Under (now src) start low ⌝ }
@@ -169,6 +196,17 @@ pub fn count_delete_updates(src: &[i32], sizes: &[i32], deleted: usize, updated:
     total
 }
 
+// The same, where there may be no deleted keys.
+fn num_delete_updates(src: &[i32], sizes: &[i32], deleted: usize, updated: usize) -> usize
+    requires { ⌜ HeldDelta (now sizes) (now src) deleted updated ⌝ }
+    ensures { λ r. ⌜ (deleteUpdates (deltaIn (now (sizes .entry)) (now (src .entry)) .deleted) (deltaIn (now (sizes .entry)) (now (src .entry)) .updated) ≡ deletedCounts r) × (r ≤ updated) ⌝ }
+{
+    if deleted == 0 {
+        return 0;
+    }
+    count_delete_updates(src, sizes, deleted, updated)
+}
+
 // A delta of ints that rise already, read into the front of out; of other ints nothing is read, and out is left as it was.
 pub fn read_ordered(src: &[i32], sizes: &[i32], out: &mut [i32]) -> Ordered
     ensures { λ r. ⌜ OrderedRead (now (sizes .entry)) (now (src .entry)) (now (out .entry)) (now (out .exit)) r ⌝ }
@@ -184,8 +222,8 @@ pub fn read_ordered(src: &[i32], sizes: &[i32], out: &mut [i32]) -> Ordered
     if ints != src.len() {
         return Ordered::Other;
     }
-    let answer = write_area(src, sizes, deleted, updated, out);
-    let delete_updates = count_delete_updates(src, sizes, deleted, updated);
+    let answer = write_whole(src, sizes, deleted, updated, out);
+    let delete_updates = num_delete_updates(src, sizes, deleted, updated);
     Ordered::Read {
         answer,
         delete_updates,

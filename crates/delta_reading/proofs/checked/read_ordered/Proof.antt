@@ -36,11 +36,11 @@ in-form c = formed _ _ _ _ _ (sym (c .before .before .deleted .given .1) ∙ c .
 ends : (c : tie.Else1) → let s = c .before .before .before .before .before .args in length (now (s .src)) ≡ updatesEnd (now (s .sizes)) (now (s .src)) (3 + numDeleted (now (s .src))) (numUpdated (now (s .src)))
 ends c = omega (arith, c .if1 .left, in-form c .1)
 
-write-area-requires : tie.Need-write-area-requires
-write-area-requires c κs = in-form (c .before) .0
+write-whole-requires : tie.Need-write-whole-requires
+write-whole-requires c κs = (in-form (c .before) .0, ends (c .before))
 
-count-delete-updates-requires : tie.Need-count-delete-updates-requires
-count-delete-updates-requires c κs = in-form (c .before .before .before) .0
+num-delete-updates-requires : tie.Need-num-delete-updates-requires
+num-delete-updates-requires c κs = in-form (c .before .before .before) .0
 
 same-length : tie.Need-same-length
 same-length c = search needs
@@ -48,7 +48,7 @@ same-length c = search needs
 returns-3 : tie.Need-returns-3
 returns-3 c =
     let t = c .before .before .before .before in
-    ordered-read _ _ _ _ _ (in-form t .0) (ends t) _ _ (c .before .before .write-area .result) (c .before .before .write-area .ensures) (c .count-delete-updates .ensures .0)
+    ordered-read _ _ _ _ _ (in-form t .0) (ends t) _ _ (c .before .before .write-whole .result) (c .before .before .write-whole .ensures) (c .num-delete-updates .ensures .0)
 
 pub read-ordered-spec : {M : Type 1} → statement M
 read-ordered-spec =
@@ -59,7 +59,7 @@ read-ordered-spec =
     enum-told
     returns
     returns-2
-    write-area-requires
-    count-delete-updates-requires
+    write-whole-requires
+    num-delete-updates-requires
     same-length
     returns-3)
