@@ -1,5 +1,5 @@
 -- One turn of the walk along the updates, and one of the walk along the base. Assumes nothing.
-use Prim.Native.Nat.{ℕ, suc, _+_, _-_, _<_, _≤_}
+use Prim.Native.Nat.{ℕ, suc, _+_, _-_, _/_, _<_, _≤_}
 use mathlib.Core.Path.{_≡_, refl, sym, ap, _∙_, subst}
 use mathlib.Core.Bool.{true, false, not}
 use mathlib.Core.List.{List, [], _∷_, _++_, append-nil}
@@ -8,13 +8,14 @@ use native.Mathlib.Omega.{arith}
 use lib.IntN.{ℤ}
 use lib.Dec.{eqb}
 use lib.ListN.{length, length-append}
-use Rattle.definitions.specs.Tables.{Table, body, written, list, items, itemAt, valuesAt, count}
+use Rattle.definitions.specs.Tables.{Table, body, written, list, items, itemAt, valuesAt, count, size}
 use Rattle.definitions.specs.Deltas.{deletedAt, updateEnd, updateAt, updates, deltaIn}
 use Rattle.definitions.specs.DeltaReading.{elem}
 use Rattle.definitions.specs.Applying.{kept}
 use Rattle.laws.specs.TableShape.{start-within}
 use Rattle.laws.specs.TableForm.{length-list, length-body, length-items, length-items-body, length-written, body-append}
 use Rattle.laws.specs.DeltaShape.{Update, Updates, first-update, other-updates}
+use Rattle.laws.specs.ApplyEmpty as Empty
 use Rattle.laws.specs.ApplyFound.{kept-append, kept-less}
 use Rattle.laws.specs.ApplyJudging.{Judged, bad, good, andThen, judgeUpdate, judgeUpdates, judgeDelta, hasUnknown}
 use Rattle.table.specs.Held.{Held}
@@ -134,3 +135,11 @@ module _ (a : List ℤ) (nb : ℕ) (h : Held a nb) (d : List ℤ) (k u : ℕ) (f
   -- a deleted key is unknown where not so many were found
   pub unknown-told : not (eqb (n + k) nb) ≡ hasUnknown (items a) (deltaIn [] d)
   unknown-told = rw (← (f .deleted-is), length-list (deletedAt d) k, ← en, length-items a (h .shape), ← (h .count-is))
+
+-- without deleted keys all of the base is kept
+pub keeps-all : (a : List ℤ) (n : ℕ) → Held a n → (d : List ℤ) (k s : ℕ) → k ≡ 0 → s ≡ size a → (n ≡ length (kept (deletedOf d k) (items a))) × (s / 4 ≡ length (body (kept (deletedOf d k) (items a))))
+unfolding list
+keeps-all a n h d k s z e =
+    let f : kept (deletedOf d k) (items a) ≡ items a = ap (λ (m : ℕ). kept (deletedOf d m) (items a)) z ∙ Empty.all-kept (items a) in
+    let w : s / 4 ≡ length (body (items a)) = ap (λ (x : ℕ). x / 4) e ∙ sym (length-items-body a (h .shape)) in
+    (h .count-is ∙ sym (length-items a (h .shape)) ∙ sym (ap length f), w ∙ sym (ap (λ (t : Table). length (body t)) f))

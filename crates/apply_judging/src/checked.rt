@@ -217,7 +217,7 @@ fn judge_updates(
 }
 
 // What the base keeps: how many items, and how many ints their keys and data take.
-fn kept_sizes(base: &[i32], nb: usize, delta: &[i32], deleted: usize) -> Sizes
+fn count_kept(base: &[i32], nb: usize, delta: &[i32], deleted: usize) -> Sizes
     requires { ⌜ Held (now base) nb × DeletedKeys (now delta) deleted ⌝ }
     ensures { λ r. ⌜ (r .items ≡ length (kept (deletedOf (now (delta .entry)) deleted) (Tables.items (now (base .entry)))))
         × (r .ints ≡ length (body (kept (deletedOf (now (delta .entry)) deleted) (Tables.items (now (base .entry)))))) ⌝ }
@@ -238,6 +238,21 @@ fn kept_sizes(base: &[i32], nb: usize, delta: &[i32], deleted: usize) -> Sizes
         i += 1;
     }
     Sizes { items: n, ints: w }
+}
+
+// The same, where there may be no deleted keys: then it keeps all.
+fn kept_sizes(base: &[i32], nb: usize, delta: &[i32], deleted: usize) -> Sizes
+    requires { ⌜ Held (now base) nb × DeletedKeys (now delta) deleted ⌝ }
+    ensures { λ r. ⌜ (r .items ≡ length (kept (deletedOf (now (delta .entry)) deleted) (Tables.items (now (base .entry)))))
+        × (r .ints ≡ length (body (kept (deletedOf (now (delta .entry)) deleted) (Tables.items (now (base .entry)))))) ⌝ }
+{
+    if deleted == 0 {
+        return Sizes {
+            items: nb,
+            ints: nat_at(base, 0) / 4,
+        };
+    }
+    count_kept(base, nb, delta, deleted)
 }
 
 // The judgement of a delta of so many deleted keys and updates, and whether the base lacks a deleted key.
