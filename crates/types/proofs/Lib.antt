@@ -8,3 +8,4 @@ pub mod Walking
 pub mod Naming
 pub mod Judging
 pub mod InForm
+pub mod Ordinals

@@ -5,6 +5,7 @@ ghost use mathlib.Core.Bool.{true};
 ghost use mathlib.Core.List.{[]};
 ghost use Prim.Native.Nat.{ℕ, _+_, _-_, _*_, _/_, _<_, _≤_, _^_};
 ghost use lib.ListN.{length, getD};
+ghost use Rattle.definitions.specs.Outcome.{return};
 ghost use Rattle.definitions.specs.Tables.{find, isSome, count, size, items};
 ghost use Rattle.definitions.specs.Types.{typed, judgeTypes};
 ghost use Rattle.table.specs.Held.{Held};
@@ -18,6 +19,7 @@ use sorting::checked::put_pair;
 use sorting::checked::sort;
 use table::checked::bits_at;
 use table::checked::edge;
+use table::checked::key_at;
 use table_reading::checked::Placed;
 use table_reading::checked::place_items;
 
@@ -330,8 +332,8 @@ pub fn judge(src: &[i32], n: usize, index: &[u16]) -> Judged
     }
 }
 
-// Whether the types of a table in form are sound, which has n items and takes so many ints.
-pub fn judge_form(area: &[i32], n: usize, ints: usize) -> Judged
+// The same of a table in form, which has n items and takes so many ints.
+fn judge_index(area: &[i32], n: usize, ints: usize) -> Judged
     requires { ⌜ Held (now area) n × (ints ≡ 2 + count (now area) + size (now area) / 4) ⌝ }
     ensures { λ r. ⌜ typed (items (now (area .entry))) ≡ judgedTable (items (now (area .entry))) r ⌝ }
 {
@@ -344,4 +346,32 @@ pub fn judge_form(area: &[i32], n: usize, ints: usize) -> Judged
         };
     }
     judge(area, n, &index)
+}
+
+// Whether all types of a table in form are numbers, by its first key and its last.
+fn all_ordinal(area: &[i32], n: usize) -> bool
+    requires { ⌜ Held (now area) n ⌝ }
+    ensures { λ r. ⌜ (r ≡ true → typed (items (now (area .entry))) ≡ return (items (now (area .entry)))) ⌝ }
+{
+    if n == 0 {
+        return true;
+    }
+    if ints::to_bits(key_at(area, n, 0)) < 65536 {
+        return false;
+    }
+    ints::to_bits(key_at(area, n, n - 1)) < 1073741824
+}
+
+// Whether the types of a table in form are sound, which has n items and takes so many ints.
+pub fn judge_form(area: &[i32], n: usize, ints: usize) -> Judged
+    requires { ⌜ Held (now area) n × (ints ≡ 2 + count (now area) + size (now area) / 4) ⌝ }
+    ensures { λ r. ⌜ typed (items (now (area .entry))) ≡ judgedTable (items (now (area .entry))) r ⌝ }
+{
+    if all_ordinal(area, n) {
+        return Judged {
+            types: Types::Sound,
+            excess: 0,
+        };
+    }
+    judge_index(area, n, ints)
 }
