@@ -9,8 +9,8 @@ mod examples;
 mod manager;
 mod packer;
 mod receiver;
-mod snaps;
 mod sessions;
+mod snaps;
 mod storage;
 mod tables;
 

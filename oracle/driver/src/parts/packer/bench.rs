@@ -32,8 +32,7 @@ fn lists(size: usize) -> [(&'static str, Vec<i32>); 2] {
 }
 
 pub fn bench(table: &mut Table) {
-    const OPERATIONS: [fn(&mut Table, &str, &[i32]); 4] =
-        [read_calls, unpack, write, write_calls];
+    const OPERATIONS: [fn(&mut Table, &str, &[i32]); 4] = [read_calls, unpack, write, write_calls];
     for index in 0..2 {
         for operation in OPERATIONS {
             for size in SIZES {

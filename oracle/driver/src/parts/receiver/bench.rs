@@ -2,7 +2,9 @@
 //!
 //! The plain rows hold the port's safe calls against the Rust as its users call
 //! it. `each call`: the Rust behind the same C boundary as the port, with the
-//! same outputs filled: kind, numbers, length and the 13 counts.
+//! same outputs filled: kind, numbers, length and the 13 counts. `copies alone`:
+//! in the port's place only what document 01 has it copy, each part into the first
+//! part area and the whole into the second.
 
 use super::oracle;
 use super::oracle::Call;
@@ -20,6 +22,9 @@ use libtw2_snapshot::snap;
 use libtw2_snapshot::DeltaReceiver;
 use std::hint::black_box;
 
+/// The bytes of a part that is full.
+const PART_BYTES: usize = 900;
+
 pub fn bench(table: &mut Table) {
     let mut random = Random::new(1, "receiver", 0);
     for len in [14_400, 28_800] {
@@ -29,9 +34,16 @@ pub fn bench(table: &mut Table) {
         let mut parts = super::inputs::messages(&mut random, 10, 4, len);
         receive(table, "parts received in order", len, &parts);
         receive_calls(table, "parts received in order, each call", len, &parts);
+        copies(table, "parts received in order, copies alone", len, &parts);
         parts.reverse();
         receive(table, "parts received in reverse", len, &parts);
         receive_calls(table, "parts received in reverse, each call", len, &parts);
+        copies(
+            table,
+            "parts received in reverse, copies alone",
+            len,
+            &parts,
+        );
     }
 }
 
@@ -202,34 +214,51 @@ extern "C" fn rust_snap(
     0
 }
 
+/// What a call of the Rust's side leaves beside its receiver.
+struct Left {
+    outputs: Outputs,
+    warnings: Warnings,
+}
+
+impl Left {
+    fn new() -> Left {
+        Left {
+            outputs: Outputs::NONE,
+            warnings: Warnings::default(),
+        }
+    }
+}
+
+/// All parts of a delta to the Rust's receiver, each by a call.
+fn rust_snaps(rust: &mut DeltaReceiver, parts: &[([i32; 5], &[u8])], left: &mut Left) {
+    rust.reset();
+    for ([tick, delta_tick, num_parts, part, crc], data) in parts {
+        let data = black_box(data);
+        black_box(rust_snap(
+            rust,
+            *tick,
+            *delta_tick,
+            *num_parts,
+            *part,
+            *crc,
+            data.as_ptr(),
+            data.len(),
+            &mut left.outputs,
+            &mut left.warnings.0,
+        ));
+    }
+}
+
 /// Each part by a call; both sides behind the same C boundary.
 fn receive_calls(table: &mut Table, name: &str, len: usize, list: &[Call]) {
     let parts = parts_of(list);
     let (mut rust, mut port) = (DeltaReceiver::new(), Receiver::new());
     let (mut area, mut joined) = (vec![0; AREA_BYTES], vec![0; AREA_BYTES]);
-    let (mut rust_outputs, mut outputs) = (Outputs::NONE, Outputs::NONE);
-    let (mut rust_warnings, mut warnings) = (Warnings::default(), Warnings::default());
+    let (mut rust_left, mut left) = (Left::new(), Left::new());
     table.race(
         name,
         len,
-        &mut || {
-            rust.reset();
-            for ([tick, delta_tick, num_parts, part, crc], data) in &parts {
-                let data = black_box(data);
-                black_box(rust_snap(
-                    &mut rust,
-                    *tick,
-                    *delta_tick,
-                    *num_parts,
-                    *part,
-                    *crc,
-                    data.as_ptr(),
-                    data.len(),
-                    &mut rust_outputs,
-                    &mut rust_warnings.0,
-                ));
-            }
-        },
+        &mut || rust_snaps(&mut rust, &parts, &mut rust_left),
         &mut || {
             port.reset();
             for (numbers, data) in &parts {
@@ -238,11 +267,31 @@ fn receive_calls(table: &mut Table, name: &str, len: usize, list: &[Call]) {
                     black_box(data),
                     &mut area,
                     &mut joined,
-                    &mut outputs,
-                    &mut warnings,
+                    &mut left.outputs,
+                    &mut left.warnings,
                 ));
             }
         },
     );
-    assert!((outputs, warnings) == (rust_outputs, rust_warnings));
+    assert!((left.outputs, left.warnings) == (rust_left.outputs, rust_left.warnings));
+}
+
+/// What those calls have to copy and nothing else, beside the Rust's calls.
+fn copies(table: &mut Table, name: &str, len: usize, list: &[Call]) {
+    let parts = parts_of(list);
+    let mut rust = DeltaReceiver::new();
+    let (mut area, mut joined) = (vec![0; AREA_BYTES], vec![0; AREA_BYTES]);
+    let mut left = Left::new();
+    table.race(
+        name,
+        len,
+        &mut || rust_snaps(&mut rust, &parts, &mut left),
+        &mut || {
+            for ([_, _, _, part, _], data) in &parts {
+                let (at, data) = (PART_BYTES * *part as usize, black_box(data));
+                black_box(&mut area)[at..at + data.len()].copy_from_slice(data);
+            }
+            black_box(&mut joined)[..len].copy_from_slice(&black_box(&area)[..len]);
+        },
+    );
 }

@@ -33,7 +33,10 @@ impl Shape {
         Shape {
             name: "fullest table",
             size: table::ITEMS,
-            items: sorted(&inputs::many(table::ITEMS, table::INTS - 2 - 2 * table::ITEMS)),
+            items: sorted(&inputs::many(
+                table::ITEMS,
+                table::INTS - 2 - 2 * table::ITEMS,
+            )),
         }
     }
     fn row(&self, operation: &str) -> String {
@@ -82,7 +85,10 @@ fn read(rows: &mut Table, shape: &Shape) {
     let ints = shape.ints();
     let bytes = packed(&ints);
     let (mut snap, mut buffer) = (RawSnap::empty(), vec![]);
-    let (mut out, mut scratch) = (vec![0; table::INTS], vec![0; table::SCRATCH.max(bytes.len())]);
+    let (mut out, mut scratch) = (
+        vec![0; table::INTS],
+        vec![0; table::SCRATCH.max(bytes.len())],
+    );
     rows.race(
         &shape.row("read"),
         shape.size,
