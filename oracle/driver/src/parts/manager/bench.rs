@@ -1,4 +1,6 @@
-//! Times of all the messages of a delta, one item in twenty changed.
+//! Times of all the messages of a delta, one item in twenty changed. `all old`: the
+//! same messages again, which are refused, so that only what each message costs
+//! anyway is timed; beside them the Rust's time for the delta.
 
 use crate::core::bench::Table;
 use crate::core::random::Random;
@@ -195,14 +197,34 @@ fn race(rows: &mut Table, name: &str, size: usize, tables: &[Vec<i32>]) {
         port.before(&round);
         port.step(take_port);
     }
+    let name = format!("{name}, {} parts", round.lists[0].len());
     rows.race_steps(
-        &format!("{name}, {} parts", round.lists[0].len()),
+        &name,
         size,
-        (rust, |side| side.before(&round), |side| side.step(take)),
         (
-            port,
+            &mut rust,
+            |side| side.before(&round),
+            |side| side.step(take),
+        ),
+        (
+            &mut port,
             |side| side.before(&round),
             |side| side.step(take_port),
+        ),
+    );
+    let old = port.next.clone();
+    rows.race_steps(
+        &format!("{name}, all old"),
+        size,
+        (
+            &mut rust,
+            |side| side.before(&round),
+            |side| side.step(take),
+        ),
+        (
+            &mut port,
+            |_| (),
+            |side| assert!(side.manager.take(black_box(&old)).is_none()),
         ),
     );
 }
