@@ -17,6 +17,7 @@ ghost use Rattle.laws.specs.ApplyJudging.{good, judgeDelta, appliedTable};
 ghost use Rattle.laws.specs.ApplyMerge.{Ahead, merged};
 ghost use Rattle.laws.specs.ApplyHalves.{HighBefore, NextLow};
 ghost use Rattle.laws.specs.ApplyWriting.{Room, wrote};
+ghost use Rattle.format.specs.declared.Stored.the-variants as stored;
 ghost use Rattle.table.specs.Held.{Held};
 ghost use Rattle.delta_form.specs.Held.{HeldDelta};
 ghost use Rattle.apply_judging.specs.Judging.{DeletedKeys};
@@ -305,6 +306,16 @@ fn write_table(
     merge_part(base, nb, nb, delta, deleted, n, out, rest);
 }
 
+// Nothing is made.
+fn refused(error: Error, unknown_delete: bool) -> Applied
+    ensures { λ r. ⌜ r ≡ record { answer = stored.Refused error; «unknown_delete» = «unknown_delete» } ⌝ }
+{
+    Applied {
+        answer: Stored::Refused(error),
+        unknown_delete,
+    }
+}
+
 // A delta of so many deleted keys and updates applied to a base of nb items, into the front of out; a refused call leaves out as it was.
 pub fn apply(
     base: &[i32],
@@ -321,16 +332,10 @@ pub fn apply(
     let unknown_delete = all.unknown_delete;
     let judged = all.judged;
     match judged {
-        Judged::Refused(e) => Applied {
-            answer: Stored::Refused(e),
-            unknown_delete,
-        },
+        Judged::Refused(e) => refused(e, unknown_delete),
         Judged::Fine { items, ints } => {
             if out.len() < ints {
-                return Applied {
-                    answer: Stored::Refused(Error::CapacityError),
-                    unknown_delete,
-                };
+                return refused(Error::CapacityError, unknown_delete);
             }
             write_table(base, nb, delta, deleted, updated, items, ints, out);
             Applied {

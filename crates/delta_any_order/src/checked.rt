@@ -204,6 +204,29 @@ fn read_behind(
     }
 }
 
+// What is known of a delta before its updates.
+fn front_of(
+    deleted: usize,
+    updated: usize,
+    odd: bool,
+    keys: usize,
+    first: usize,
+    overlong: usize,
+    padding: usize,
+) -> Front
+    ensures { λ r. ⌜ r ≡ record { deleted = deleted; updated = updated; odd = odd; keys = keys; first = first; overlong = overlong; padding = padding } ⌝ }
+{
+    Front {
+        deleted,
+        updated,
+        odd,
+        keys,
+        first,
+        overlong,
+        padding,
+    }
+}
+
 // A delta in any order of keys, into the front of out; a refused one leaves out as it was. The index may hold anything, before and after.
 pub fn read_any(
     bytes: &[u8],
@@ -239,16 +262,16 @@ pub fn read_any(
                 overlong: o,
                 padding: p,
             } => {
-                let front = Front {
+                let known = front_of(
                     deleted,
                     updated,
                     odd,
                     keys,
                     first,
-                    overlong: overlong + o,
-                    padding: padding + p,
-                };
-                read_behind(bytes, ints, packed, sizes, front, index, out)
+                    overlong + o,
+                    padding + p,
+                );
+                read_behind(bytes, ints, packed, sizes, known, index, out)
             }
         },
     }

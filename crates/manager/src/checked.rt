@@ -156,6 +156,18 @@ pub fn handled(taken: Taken) -> Handled
     }
 }
 
+// What a message comes to, with the manager of this receiver and store.
+fn told(answer: Handled, warnings: Warnings, receiver: DeltaReceiver, storage: Storage) -> Handling
+    ensures { λ r. ⌜ r ≡ record { answer = answer; warnings = warnings; manager = record { receiver = receiver; storage = storage } } ⌝ }
+{
+    let manager = Manager { receiver, storage };
+    Handling {
+        answer,
+        warnings,
+        manager,
+    }
+}
+
 // A delta that was read goes into the store; where it was refused, the store stays.
 pub fn add(
     a: Receiving,
@@ -175,24 +187,17 @@ pub fn add(
     let receiver = a.receiver;
     let answer = read.answer;
     match answer {
-        Stored::Refused(error) => Handling {
-            answer: Handled::Refused(error),
-            warnings: merged(warnings, read_warnings, Warnings::none()),
-            manager: Manager {
-                receiver,
-                storage: s,
-            },
-        },
+        Stored::Refused(error) => {
+            let none = merged(warnings, read_warnings, Warnings::none());
+            told(Handled::Refused(error), none, receiver, s)
+        }
         Stored::Ints(_) => {
             let taking = take(s, m, delta, area, ints, scratch);
             let taken = taking.answer;
             let storage = taking.storage;
             let store_warnings = taking.warnings;
-            Handling {
-                answer: handled(taken),
-                warnings: merged(warnings, read_warnings, store_warnings),
-                manager: Manager { receiver, storage },
-            }
+            let all = merged(warnings, read_warnings, store_warnings);
+            told(handled(taken), all, receiver, storage)
         }
     }
 }

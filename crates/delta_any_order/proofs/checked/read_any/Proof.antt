@@ -36,14 +36,19 @@ refused-requires-2 c κs = search needs
 enum-known-first : tie.Need-enum-known-first
 enum-known-first c = search needs
 
-add-t29 : tie.Need-add-t29
-add-t29 c = let m = fronting (rw (c .before .before .before .before .before .deleted .given .1) at (c .before .before .before .before .before .before .before .read-header .ensures)) (rw (c .before .first .given .1) at (c .before .before .before .skip-ints .ensures)) in omega (arith, m .few-overlong, c .before .before .before .before .before .before .before .before .before .pre)
+add-front-of : tie.Need-add-front-of
+add-front-of c = let m = fronting (rw (c .before .before .before .before .before .deleted .given .1) at (c .before .before .before .before .before .before .before .read-header .ensures)) (rw (c .before .first .given .1) at (c .before .before .before .skip-ints .ensures)) in omega (arith, m .few-overlong, c .before .before .before .before .before .before .before .before .before .pre)
 
-add-t30 : tie.Need-add-t30
-add-t30 c = let m = fronting (rw (c .before .before .before .before .before .deleted .given .1) at (c .before .before .before .before .before .before .before .read-header .ensures)) (rw (c .before .first .given .1) at (c .before .before .before .skip-ints .ensures)) in omega (arith, m .few-padding, c .before .before .before .before .before .before .before .before .before .pre)
+add-front-of-2 : tie.Need-add-front-of-2
+add-front-of-2 c = let m = fronting (rw (c .before .before .before .before .before .deleted .given .1) at (c .before .before .before .before .before .before .before .read-header .ensures)) (rw (c .before .first .given .1) at (c .before .before .before .skip-ints .ensures)) in omega (arith, m .few-padding, c .before .before .before .before .before .before .before .before .before .pre)
+
+front-of-requires : tie.Need-front-of-requires
+front-of-requires c κs = search needs
 
 read-behind-requires : tie.Need-read-behind-requires
-read-behind-requires c κs = (c .before .before .before .before .before .before .before .before .before .before .before .pre, fronting (rw (c .before .before .before .before .before .before .before .deleted .given .1) at (c .before .before .before .before .before .before .before .before .before .read-header .ensures)) (rw (c .before .before .before .first .given .1) at (c .before .before .before .before .before .skip-ints .ensures)))
+read-behind-requires c κs =
+    let d = c .before .before .before .before in
+    (d .before .before .before .before .before .before .before .before .pre, rw (c .before .before .front-of .ensures) (fronting (rw (d .before .before .before .before .deleted .given .1) at (d .before .before .before .before .before .before .read-header .ensures)) (rw (d .first .given .1) at (d .before .before .skip-ints .ensures))))
 
 returns : tie.Need-returns
 returns c = any-header _ _ (c .before .before .before .before .before .before .args .out .now) (rw (c .before .before .error .given .1) at (c .before .before .before .before .read-header .ensures)) (c .refused .ensures)
@@ -74,8 +79,9 @@ read-any-spec =
     add-refused-2
     refused-requires-2
     enum-known-first
-    add-t29
-    add-t30
+    add-front-of
+    add-front-of-2
+    front-of-requires
     read-behind-requires
     returns
     returns-2
