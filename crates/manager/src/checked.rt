@@ -188,8 +188,8 @@ pub fn add(
     let answer = read.answer;
     match answer {
         Stored::Refused(error) => {
-            let none = merged(warnings, read_warnings, Warnings::none());
-            told(Handled::Refused(error), none, receiver, s)
+            let all = merged(warnings, read_warnings, Warnings::none());
+            told(Handled::Refused(error), all, receiver, s)
         }
         Stored::Ints(_) => {
             let taking = take(s, m, delta, area, ints, scratch);

@@ -11,7 +11,7 @@ use lib.Dec.{ltb, eqb}
 use lib.IntN.{ℤ, pos, negsuc}
 use lib.ListN.{length, getD}
 use lib.Signed.{mag}
-use borrow.Author.Tests.{ltb-true, eqb-true, lt-ltb, le-ltb, eq-eqb}
+use borrow.Author.Tests.{ltb-true, eqb-true, lt-ltb, le-ltb, eq-eqb, ne-eqb}
 use Rattle.definitions.specs.Ints.{bits}
 use Rattle.definitions.specs.Tables.{num, nat, size, count, edge, ends, fits, all}
 use Rattle.laws.specs.TableShape.{both, fails, all-holds, all-more, Ends, ends-well, well-ends, edge-end}
@@ -58,6 +58,18 @@ pub all-of : (p : ℕ → Bool) (k : ℕ) → ((i : ℕ) → i < k → p i ≡ t
 unfolding all
 all-of p zero h = refl
 all-of p (suc k) h = rw (all-of p k (λ i l. h i (omega arith)), h k (omega arith))
+
+-- ---- one offset behind another
+
+-- it is counted where it is above the other and that of a whole int
+pub is-counted : (x y : ℕ) → x < y → y % 4 ≡ 0 → _≡_ {A = ℕ} 1 (cond (isBehind x y) 1 0)
+is-counted x y l e = rw (lt-ltb x y l, eq-eqb (y % 4) 0 e)
+
+pub not-whole : (x y : ℕ) → x < y → (y % 4 ≡ 0 → ⊥) → _≡_ {A = ℕ} 0 (cond (isBehind x y) 1 0)
+not-whole x y l e = rw (lt-ltb x y l, ne-eqb (y % 4) 0 e)
+
+pub not-above : (x y : ℕ) → y ≤ x → _≡_ {A = ℕ} 0 (cond (isBehind x y) 1 0)
+not-above x y l = rw (le-ltb x y l)
 
 -- ---- an offset by its bits
 
