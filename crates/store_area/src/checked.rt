@@ -54,7 +54,7 @@ fn still_zero(all: bool, n: usize) -> bool
     false
 }
 
-// Whether the ints from a place on are all 0. Each is looked at, so that many can be at once.
+// Whether the ints from a place on are all 0. No turn leaves the loop, so that the compiler can take several at once.
 pub fn zeros(area: &[i32], from: usize) -> bool
     ensures { λ r. ⌜ r ≡ allZero (drop from (now (area .entry))) ⌝ }
 {

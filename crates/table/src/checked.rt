@@ -60,7 +60,8 @@ fn begins_behind(before: usize, here: usize) -> u32
     0
 }
 
-// How many of the n items begin at a whole int and behind the one before. Each is counted, so that many can be at once.
+// How many of the n items begin at a whole int and behind the one before. No turn leaves the loop, so that the compiler can take several at
+// once.
 fn count_behind(area: &[i32], n: usize) -> u32
     requires { ⌜ (2 + n ≤ length (now area)) × (n ≤ 1024) ⌝ }
     ensures { λ r. ⌜ r ≡ tally (behindAt (now (area .entry))) (n - 1) ⌝ }
