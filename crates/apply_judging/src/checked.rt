@@ -216,7 +216,7 @@ fn judge_updates(
     }
 }
 
-// What the base keeps: how many items, and how many ints their keys and data take.
+// How many items the base keeps, and how many ints their keys and data take, by one walk along it.
 fn count_kept(base: &[i32], nb: usize, delta: &[i32], deleted: usize) -> Sizes
     requires { ⌜ Held (now base) nb × DeletedKeys (now delta) deleted ⌝ }
     ensures { λ r. ⌜ (r .items ≡ length (kept (deletedOf (now (delta .entry)) deleted) (Tables.items (now (base .entry)))))
@@ -240,7 +240,7 @@ fn count_kept(base: &[i32], nb: usize, delta: &[i32], deleted: usize) -> Sizes
     Sizes { items: n, ints: w }
 }
 
-// The same, where there may be no deleted keys: then it keeps all.
+// What the base keeps: how many items, and how many ints their keys and data take. Where no key is deleted, that is all.
 fn kept_sizes(base: &[i32], nb: usize, delta: &[i32], deleted: usize) -> Sizes
     requires { ⌜ Held (now base) nb × DeletedKeys (now delta) deleted ⌝ }
     ensures { λ r. ⌜ (r .items ≡ length (kept (deletedOf (now (delta .entry)) deleted) (Tables.items (now (base .entry)))))

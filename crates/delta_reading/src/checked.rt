@@ -177,7 +177,7 @@ pub fn has_rank(src: &[i32], deleted: usize, i: usize, here: usize) -> bool
     false
 }
 
-// How many updates are of deleted keys: one walk along both lists, which rise as signed.
+// How many updates are of deleted keys, by one walk along both lists, which rise as signed.
 pub fn count_delete_updates(src: &[i32], sizes: &[i32], deleted: usize, updated: usize) -> usize
     requires { ⌜ HeldDelta (now sizes) (now src) deleted updated ⌝ }
     ensures { λ r. ⌜ (deleteUpdates (deltaIn (now (sizes .entry)) (now (src .entry)) .deleted) (deltaIn (now (sizes .entry)) (now (src .entry)) .updated) ≡ deletedCounts r) × (r ≤ updated) ⌝ }
@@ -196,7 +196,7 @@ pub fn count_delete_updates(src: &[i32], sizes: &[i32], deleted: usize, updated:
     total
 }
 
-// The same, where there may be no deleted keys.
+// How many updates are of deleted keys: none where no key is deleted.
 fn num_delete_updates(src: &[i32], sizes: &[i32], deleted: usize, updated: usize) -> usize
     requires { ⌜ HeldDelta (now sizes) (now src) deleted updated ⌝ }
     ensures { λ r. ⌜ (deleteUpdates (deltaIn (now (sizes .entry)) (now (src .entry)) .deleted) (deltaIn (now (sizes .entry)) (now (src .entry)) .updated) ≡ deletedCounts r) × (r ≤ updated) ⌝ }

@@ -332,7 +332,7 @@ pub fn judge(src: &[i32], n: usize, index: &[u16]) -> Judged
     }
 }
 
-// The same of a table in form, which has n items and takes so many ints.
+// The same of a table in form, which has n items and takes so many ints, by an index of its items.
 fn judge_index(area: &[i32], n: usize, ints: usize) -> Judged
     requires { ⌜ Held (now area) n × (ints ≡ 2 + count (now area) + size (now area) / 4) ⌝ }
     ensures { λ r. ⌜ typed (items (now (area .entry))) ≡ judgedTable (items (now (area .entry))) r ⌝ }
