@@ -2,3 +2,4 @@
 pub mod Nums
 pub mod Places
 pub mod OffsetLaws
+pub mod KeyLaws

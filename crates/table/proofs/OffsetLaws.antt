@@ -1,22 +1,21 @@
 -- Offsets that are counted: when all are behind the one before, and what that says of where items end. Assumes nothing.
-use Prim.Native.Nat.{ℕ, zero, suc, _+_, _-_, _/_, _%_, _<_, _≤_, _^_}
-use mathlib.Core.Path.{_≡_, refl, sym, ap, ap₂, _∙_, subst}
+use Prim.Native.Nat.{ℕ, zero, suc, _+_, _-_, _*_, _%_, _<_, _≤_, _^_}
+use mathlib.Core.Path.{_≡_, refl, sym, ap, _∙_}
 use mathlib.Core.Logic.{⊎-elim}
 use mathlib.Core.Bool.{Bool, true, false, cond, _&&_, false≢true}
 use mathlib.Core.List.{List}
-use native.Mathlib.Nat.{eq-or-lt-of-le, le-of-suc-le-suc}
+use native.Mathlib.Nat.{eq-or-lt-of-le}
 use native.Mathlib.Numerals.{add-one}
 use native.Mathlib.Omega.{arith}
-use lib.Dec.{ltb, eqb}
 use lib.IntN.{ℤ, pos, negsuc}
-use lib.ListN.{length, getD}
-use lib.Signed.{mag}
-use borrow.Author.Tests.{ltb-true, eqb-true, lt-ltb, le-ltb, eq-eqb, ne-eqb}
-use Rattle.definitions.specs.Ints.{bits}
-use Rattle.definitions.specs.Tables.{num, nat, size, count, edge, ends, fits, all}
-use Rattle.laws.specs.TableShape.{both, fails, all-holds, all-more, Ends, ends-well, well-ends, edge-end}
-use Rattle.table.specs.Held.{Head}
-use Rattle.table.specs.Offsets.{isBehind, offsetBits, behindAt, tally}
+use lib.ListN.{getD}
+use borrow.Author.Tests.{ltb-true, eqb-true, lt-ltb, eq-eqb}
+use Rattle.definitions.specs.Ints.{bits, signedLess}
+use Rattle.definitions.specs.Tables.{num, nat, edge, ends, fits, all}
+use Rattle.laws.specs.TableShape.{both, fails, all-holds, Ends, ends-well, well-ends, edge-end, edge-within}
+use Rattle.laws.specs.TableForm as Form
+use Rattle.table.specs.Held.{Head, Held}
+use Rattle.table.specs.Offsets.{behindAt, wholeAt, tally}
 
 -- ---- counting
 
@@ -59,66 +58,39 @@ unfolding all
 all-of p zero h = refl
 all-of p (suc k) h = rw (all-of p k (λ i l. h i (omega arith)), h k (omega arith))
 
--- ---- one offset behind another
+-- both counts have all
+pub both-all : (p q : ℕ → Bool) (k : ℕ) → tally p k + tally q k ≡ 2 * k → (all p k ≡ true) × (all q k ≡ true)
+both-all p q k e =
+    (tally-all p k (omega (arith, tally-most p k, tally-most q k)), tally-all q k (omega (arith, tally-most p k, tally-most q k)))
 
--- it is counted where it is above the other and that of a whole int
-pub is-counted : (x y : ℕ) → x < y → y % 4 ≡ 0 → _≡_ {A = ℕ} 1 (cond (isBehind x y) 1 0)
-is-counted x y l e = rw (lt-ltb x y l, eq-eqb (y % 4) 0 e)
+-- one more is counted of both
+pub both-more : (p q : ℕ → Bool) (k good x y : ℕ) → good ≡ tally p k + tally q k → x ≡ cond (p k) 1 0 → y ≡ cond (q k) 1 0 → good + (x + y) ≡ tally p (k + 1) + tally q (k + 1)
+both-more p q k good x y g e f = omega (arith, tally-more p k, tally-more q k)
 
-pub not-whole : (x y : ℕ) → x < y → (y % 4 ≡ 0 → ⊥) → _≡_ {A = ℕ} 0 (cond (isBehind x y) 1 0)
-not-whole x y l e = rw (lt-ltb x y l, ne-eqb (y % 4) 0 e)
+-- ---- offsets as ints
 
-pub not-above : (x y : ℕ) → y ≤ x → _≡_ {A = ℕ} 0 (cond (isBehind x y) 1 0)
-not-above x y l = rw (le-ltb x y l)
+-- a count is its int, where this is not negative
+pub count-is-int : (z : ℤ) → num z < 2 ^ 32 → z ≡ pos (num z)
+unfolding num
+count-is-int (pos n) l = refl
+count-is-int (negsuc n) l = absurd (omega arith)
 
--- ---- an offset by its bits
+-- what is above a count is one
+above-count : (x : ℕ) (z : ℤ) → signedLess (pos x) z ≡ true → (z ≡ pos (num z)) × (x < num z)
+unfolding num
+above-count x (pos y) e = (refl, ltb-true x y e)
+above-count x (negsuc y) e = absurd (false≢true e)
 
--- a count below 2^31 is its int's bits
-pub bits-num : (z : ℤ) → num z < 2 ^ 31 → (bits z ≡ num z) × (mag z < 2 ^ 31)
-unfolding num bits
-bits-num (pos n) l = (refl, l)
-bits-num (negsuc n) l = absurd (omega arith)
-
--- and bits below 2^31 are their int as a count
-num-bits : (z : ℤ) → mag z < 2 ^ 31 → bits z < 2 ^ 31 → num z ≡ bits z
-unfolding num bits
-num-bits (pos n) m l = refl
-num-bits (negsuc n) m l = absurd (omega arith)
-
--- what stands behind an offset
-behind : (a : List ℤ) (i : ℕ) → behindAt a i ≡ true
-    → (offsetBits a i < offsetBits a (suc i)) × (offsetBits a (suc i) % 4 ≡ 0) × (mag (getD a (2 + suc i) (pos 0)) < 2 ^ 31)
-unfolding behindAt
-behind a i e =
-    let p = both (isBehind (offsetBits a i) (offsetBits a (suc i))) _ e in
-    let q = both (ltb (offsetBits a i) (offsetBits a (suc i))) _ (p .0) in
-    (ltb-true _ _ (q .0), eqb-true _ _ (q .1), ltb-true _ _ (p .1))
-
--- whether an int that fits is counted goes by its bits alone
-pub counted : (a : List ℤ) (i : ℕ) → mag (getD a (2 + suc i) (pos 0)) < 2 ^ 31 → behindAt a i ≡ isBehind (offsetBits a i) (offsetBits a (suc i))
-unfolding behindAt
-counted a i m = rw (lt-ltb _ _ m) (go (isBehind (offsetBits a i) (offsetBits a (suc i))))
-  where
-    go : (b : Bool) → (b && true) ≡ b
-    go true = refl
-    go false = refl
-
--- one offset more is counted
-pub count-more : (a : List ℤ) (i good x y r : ℕ) → good ≡ tally (behindAt a) i → x ≡ offsetBits a i → y ≡ bits (getD a (3 + i) (pos 0)) → mag (getD a (3 + i) (pos 0)) < 2 ^ 31
-    → r ≡ cond (isBehind x y) 1 0 → good + r ≡ tally (behindAt a) (i + 1)
-count-more a i good x y r g p q m e =
-    let t : 3 + i ≡ 2 + suc i = omega arith in
-    let z : y ≡ offsetBits a (suc i) = q ∙ ap (λ (k : ℕ). bits (getD a k (pos 0))) t in
-    let w : r ≡ cond (behindAt a i) 1 0 = e ∙ ap₂ (λ (u v : ℕ). cond (isBehind u v) 1 0) p z ∙ ap (λ (b : Bool). cond b 1 0) (sym (counted a i (subst (λ (k : ℕ). mag (getD a k (pos 0)) < 2 ^ 31) t m))) in
-    ap₂ _+_ g w ∙ tally-more (behindAt a) i
+bits-count : (x : ℕ) → bits (pos x) ≡ x
+unfolding bits
+bits-count x = refl
 
 -- ---- where items end
 
 module _ (a : List ℤ) (n s : ℕ) (h : Head a n s) where
   -- the offset of an item
   edge-nat : (i : ℕ) → i < n → edge a i ≡ nat a (2 + i)
-  unfolding edge
-  edge-nat i l = rw (lt-ltb i (count a) (omega (arith, h .count-is)))
+  edge-nat i l = Form.edge-nat a i (omega (arith, h .count-is))
 
   edge-last : edge a n ≡ s
   edge-last = ap (edge a) (h .count-is) ∙ edge-end a ∙ sym (h .size-is)
@@ -126,43 +98,59 @@ module _ (a : List ℤ) (n s : ℕ) (h : Head a n s) where
   small : s < 2 ^ 31
   small = omega (arith, h .short)
 
-  -- all behind the one before, the last before the end: so all are before it
-  module _ (f : all (behindAt a) (n - 1) ≡ true) (last : offsetBits a (n - 1) < s) (m : s % 4 ≡ 0) (l : 0 < n) where
-    -- the offset of item n - 1 - k
-    before : (k i : ℕ) → k + i ≡ n - 1 → offsetBits a i < s
+  -- all behind the one before, at whole ints, the last before the end
+  module _ (f : all (behindAt a) (n - 1) ≡ true) (g : all (wholeAt a) (n - 1) ≡ true) (last : bits (getD a (1 + n) (pos 0)) < s) (m : s % 4 ≡ 0) (l : 0 < n) where
+    -- the next offset, where one is a count
+    next-int : (i : ℕ) → i + 1 < n → getD a (2 + i) (pos 0) ≡ pos (edge a i) → (getD a (3 + i) (pos 0) ≡ pos (edge a (i + 1))) × (edge a i < edge a (i + 1))
+    unfolding behindAt nat
+    next-int i q o =
+        let b = rw o at (all-holds (behindAt a) i (n - 1) (omega arith) f) in
+        let p = above-count (edge a i) (getD a (3 + i) (pos 0)) b in
+        let e : num (getD a (3 + i) (pos 0)) ≡ edge a (i + 1) = ap (λ (k : ℕ). num (getD a k (pos 0))) (omega arith) ∙ sym (edge-nat (i + 1) q) in
+        (p .0 ∙ ap pos e, omega (arith, p .1, e))
+
+    -- all are counts
+    offset-int : (i : ℕ) → i < n → getD a (2 + i) (pos 0) ≡ pos (edge a i)
+    unfolding nat
+    offset-int zero q =
+        let e : num (getD a (2 + zero) (pos 0)) ≡ edge a 0 = sym (edge-nat 0 q) in
+        count-is-int _ (omega (arith, e, h .first)) ∙ ap pos e
+    offset-int (suc i) q =
+        ap (λ (k : ℕ). getD a k (pos 0)) (omega arith)
+        ∙ next-int i (omega arith) (offset-int i (omega arith)) .0
+        ∙ ap (λ (k : ℕ). pos (edge a k)) (omega arith)
+
+    rises : (i : ℕ) → i + 1 < n → edge a i < edge a (i + 1)
+    rises i q = next-int i q (offset-int i (omega arith)) .1
+
+    whole : (i : ℕ) → i + 1 < n → edge a (i + 1) % 4 ≡ 0
+    unfolding wholeAt
+    whole i q =
+        let e : bits (getD a (3 + i) (pos 0)) ≡ edge a (i + 1) = ap bits (next-int i q (offset-int i (omega arith)) .0) ∙ bits-count (edge a (i + 1)) in
+        sym (ap (λ (x : ℕ). x % 4) e) ∙ eqb-true _ _ (all-holds (wholeAt a) i (n - 1) (omega arith) g)
+
+    -- that of item n - 1 - k is before the end
+    before : (k i : ℕ) → k + i ≡ n - 1 → edge a i < s
     before zero i e =
-        let q : n - 1 ≡ i = omega arith in
-        subst (λ (j : ℕ). offsetBits a j < s) q last
-    before (suc k) i e =
-        omega (arith, before k (suc i) (omega arith), behind a i (all-holds (behindAt a) i (n - 1) (omega arith) f) .0)
-
-    -- as a count
-    offset-is : (i : ℕ) → i < n → edge a i ≡ offsetBits a i
-    offset-is zero q =
-        let z : num (getD a (2 + zero) (pos 0)) ≡ 0 = unfold nat in (sym (edge-nat 0 l) ∙ h .first) in
-        h .first ∙ sym (bits-num (getD a (2 + zero) (pos 0)) (omega (arith, z)) .0 ∙ z)
-    offset-is (suc i) q =
-        edge-nat (suc i) q
-        ∙ unfold nat in num-bits (getD a (2 + suc i) (pos 0)) (behind a i (all-holds (behindAt a) i (n - 1) (omega arith) f) .2) (omega (arith, before (n - 1 - suc i) (suc i) (omega arith), small))
-
-    next-most : (i : ℕ) → i < n → i + 1 ≤ n
-    next-most i q = omega arith
+        let q : bits (getD a (1 + n) (pos 0)) ≡ edge a i = ap (λ (k : ℕ). bits (getD a k (pos 0))) (omega arith) ∙ ap bits (offset-int i (omega arith)) ∙ bits-count (edge a i) in
+        omega (arith, q, last)
+    before (suc k) i e = omega (arith, before k (i + 1) (omega arith), rises i (omega arith))
 
     -- item i ends well
     end-well : (i : ℕ) → i < n → ends a i ≡ true
     end-well i q = well-ends a i (⊎-elim at-end inside (eq-or-lt-of-le (next-most i q)))
       where
+        next-most : (i : ℕ) → i < n → i + 1 ≤ n
+        next-most i q = omega arith
+
         at-end : i + 1 ≡ n → Ends a i
         at-end e =
             let w : edge a (i + 1) ≡ s = ap (edge a) e ∙ edge-last in
-            let b : offsetBits a i < s = before 0 i (omega arith) in
-            record { aligned = ap (λ (x : ℕ). x % 4) w ∙ m; rises = omega (arith, offset-is i q, b, w); within = omega (arith, w, h .size-is) }
+            record { aligned = ap (λ (x : ℕ). x % 4) w ∙ m; rises = omega (arith, before 0 i (omega arith), w); within = omega (arith, w, h .size-is) }
 
         inside : i + 1 < n → Ends a i
         inside r =
-            let g = behind a i (all-holds (behindAt a) i (n - 1) (omega arith) f) in
-            let w : edge a (i + 1) ≡ offsetBits a (suc i) = ap (edge a) (omega arith) ∙ offset-is (suc i) (omega arith) in
-            record { aligned = ap (λ (x : ℕ). x % 4) w ∙ g .1; rises = omega (arith, offset-is i q, g .0, w); within = omega (arith, w, before (n - 1 - suc i) (suc i) (omega arith), h .size-is) }
+            record { aligned = whole i r; rises = rises i r; within = omega (arith, before (n - 1 - (i + 1)) (i + 1) (omega arith), h .size-is) }
 
     pub ends-all : all (ends a) n ≡ true
     ends-all = all-of (ends a) n end-well
@@ -176,31 +164,58 @@ module _ (a : List ℤ) (n s : ℕ) (h : Head a n s) where
     pub edge-before : (i : ℕ) → i < n → edge a i < s
     edge-before i l = omega (arith, end-of i l .rises, end-of i l .within, h .size-is)
 
-    pub bits-edge : (i : ℕ) → i < n → (offsetBits a i ≡ edge a i) × (mag (getD a (2 + i) (pos 0)) < 2 ^ 31)
-    bits-edge i l =
-        let w : num (getD a (2 + i) (pos 0)) ≡ edge a i = unfold nat in sym (edge-nat i l) in
-        let b = bits-num (getD a (2 + i) (pos 0)) (omega (arith, w, edge-before i l, small)) in
-        (b .0 ∙ w, b .1)
+    edge-int : (i : ℕ) → i < n → getD a (2 + i) (pos 0) ≡ pos (edge a i)
+    unfolding nat
+    edge-int i l =
+        let w : num (getD a (2 + i) (pos 0)) ≡ edge a i = sym (edge-nat i l) in
+        count-is-int _ (omega (arith, w, edge-before i l, small)) ∙ ap pos w
+
+    pub bits-edge : (i : ℕ) → i < n → bits (getD a (2 + i) (pos 0)) ≡ edge a i
+    bits-edge i l = ap bits (edge-int i l) ∙ bits-count (edge a i)
 
     pub ends-aligned : 0 < n → s % 4 ≡ 0
     ends-aligned l =
         let w : edge a (n - 1 + 1) ≡ s = ap (edge a) (omega arith) ∙ edge-last in
         sym (ap (λ (x : ℕ). x % 4) w) ∙ end-of (n - 1) (omega arith) .aligned
 
-    pub ends-last : 0 < n → offsetBits a (n - 1) < s
-    ends-last l = omega (arith, bits-edge (n - 1) (omega arith) .0, edge-before (n - 1) (omega arith))
+    pub ends-last : 0 < n → bits (getD a (1 + n) (pos 0)) < s
+    ends-last l =
+        let w : bits (getD a (1 + n) (pos 0)) ≡ edge a (n - 1) = ap (λ (k : ℕ). bits (getD a k (pos 0))) (omega arith) ∙ bits-edge (n - 1) (omega arith) in
+        omega (arith, w, edge-before (n - 1) (omega arith))
+
+    -- the offset of the item behind item i
+    next-edge : (i : ℕ) → i < n - 1 → getD a (3 + i) (pos 0) ≡ pos (edge a (i + 1))
+    next-edge i l = ap (λ (k : ℕ). getD a k (pos 0)) (omega arith) ∙ edge-int (i + 1) (omega arith)
 
     pub ends-behind : all (behindAt a) (n - 1) ≡ true
     ends-behind = all-of (behindAt a) (n - 1) go
       where
         go : (i : ℕ) → i < n - 1 → behindAt a i ≡ true
-        go i l =
-            let d = end-of i (omega arith) in
-            let x = bits-edge i (omega arith) in
-            let y = bits-edge (suc i) (omega arith) in
-            let r : edge a (suc i) ≡ edge a (i + 1) = ap (edge a) (omega arith) in
-            counted a i (y .1) ∙ rw (lt-ltb (offsetBits a i) (offsetBits a (suc i)) (omega (arith, x .0, y .0, d .rises, r)), eq-eqb (offsetBits a (suc i) % 4) 0 (ap (λ (z : ℕ). z % 4) (y .0 ∙ r) ∙ d .aligned))
+        go i l = unfold behindAt in rw (edge-int i (omega arith), next-edge i l) (lt-ltb _ _ (end-of i (omega arith) .rises))
+
+    pub ends-whole : all (wholeAt a) (n - 1) ≡ true
+    ends-whole = all-of (wholeAt a) (n - 1) go
+      where
+        go : (i : ℕ) → i < n - 1 → wholeAt a i ≡ true
+        go i l = unfold wholeAt in rw (next-edge i l, bits-count (edge a (i + 1))) (eq-eqb _ 0 (end-of i (omega arith) .aligned))
 
   -- where an item does not end well, not all fit
   pub no-ends : all (ends a) n ≡ false → all (fits a) n ≡ false
   no-ends e = fails (all (fits a) n) (λ f. false≢true (sym e ∙ all-of (ends a) n (λ i l. unfold fits in both (ends a i) _ (all-holds (fits a) i n l f) .0)))
+
+-- ---- offsets of an area in form
+
+module _ (a : List ℤ) (n : ℕ) (h : Held a n) where
+  -- that of an item
+  pub held-offset : (i : ℕ) → i < n → bits (getD a (2 + i) (pos 0)) ≡ edge a i
+  unfolding nat
+  held-offset i l =
+      let w : num (getD a (2 + i) (pos 0)) ≡ edge a i = sym (Form.edge-nat a i (omega (arith, h .count-is))) in
+      ap bits (count-is-int _ (omega (arith, w, edge-within a (h .shape) i (omega (arith, h .count-is)), h .shape .short)) ∙ ap pos w) ∙ bits-count (edge a i)
+
+  -- that of the end
+  pub held-end : bits (getD a 0 (pos 0)) ≡ edge a n
+  unfolding nat
+  held-end =
+      let w : num (getD a 0 (pos 0)) ≡ edge a n = sym (ap (edge a) (h .count-is) ∙ edge-end a) in
+      ap bits (count-is-int (getD a 0 (pos 0)) (omega (arith, h .shape .short)) ∙ ap pos w) ∙ bits-count (edge a n)

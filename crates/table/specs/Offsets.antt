@@ -1,25 +1,19 @@
--- The offsets of an area's items, counted where each begins behind the one before. Assumes nothing.
-use mathlib.Core.Bool.{Bool, cond, _&&_}
+-- The offsets of an area's items, counted where each begins behind the one before and at a whole int. Assumes nothing.
+use mathlib.Core.Bool.{Bool, cond}
 use mathlib.Core.List.{List}
-use Prim.Native.Nat.{ℕ, zero, suc, _+_, _%_, _^_}
-use lib.Dec.{ltb, eqb}
+use Prim.Native.Nat.{ℕ, zero, suc, _+_, _%_}
+use lib.Dec.{eqb}
 use lib.IntN.{ℤ, pos}
 use lib.ListN.{getD}
-use lib.Signed.{mag}
-use Rattle.definitions.specs.Ints.{bits}
+use Rattle.definitions.specs.Ints.{bits, signedLess}
 
--- whether an offset is that of a whole int, and behind the one before
-abbrev pub isBehind : ℕ → ℕ → Bool
-isBehind before here = ltb before here && eqb (here % 4) 0
-
--- the bits of the offset of item i
-abbrev pub offsetBits : List ℤ → ℕ → ℕ
-offsetBits a i = bits (getD a (2 + i) (pos 0))
-
--- whether that of item i + 1 is an int, and behind that of item i
+-- whether item i + 1 begins behind item i
 unfoldable pub behindAt : List ℤ → ℕ → Bool
-behindAt a i =
-    isBehind (offsetBits a i) (offsetBits a (suc i)) && ltb (mag (getD a (2 + suc i) (pos 0))) (2 ^ 31)
+behindAt a i = signedLess (getD a (2 + i) (pos 0)) (getD a (3 + i) (pos 0))
+
+-- whether it begins at a whole int
+unfoldable pub wholeAt : List ℤ → ℕ → Bool
+wholeAt a i = eqb (bits (getD a (3 + i) (pos 0)) % 4) 0
 
 -- of how many numbers below k p holds
 unfoldable pub tally : (ℕ → Bool) → ℕ → ℕ

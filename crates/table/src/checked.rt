@@ -12,7 +12,8 @@ ghost use Rattle.definitions.specs.Tables as Tables;
 ghost use Rattle.definitions.specs.TableCalls.{nth};
 ghost use Rattle.laws.specs.TableFind.{Place};
 ghost use Rattle.table.specs.Held.{Head, Held, formOf, dataIn};
-ghost use Rattle.table.specs.Offsets.{isBehind, behindAt, tally};
+ghost use Rattle.table.specs.Offsets.{behindAt, wholeAt, tally};
+ghost use Rattle.table.specs.Keys.{Rising, lowAfter};
 
 // Whether an area begins with a written table: how many items it has, and how many ints it takes.
 pub enum TableForm {
@@ -48,28 +49,38 @@ pub fn edge(area: &[i32], n: usize, i: usize) -> usize
     }
 }
 
-// 1 where an item begins at a whole int and behind the one before it, given both offsets; else 0.
-fn begins_behind(before: usize, here: usize) -> u32
-    ensures { λ r. ⌜ (r ≡ cond (isBehind before here) 1 0) × (r ≤ 1) ⌝ }
+// 1 where item i + 1 begins behind item i, else 0.
+fn is_behind(area: &[i32], i: usize) -> u32
+    requires { ⌜ 3 + i < length (now area) ⌝ }
+    ensures { λ r. ⌜ (r ≡ cond (behindAt (now (area .entry)) i) 1 0) × (r ≤ 1) ⌝ }
 {
-    if before < here {
-        if here % 4 == 0 {
-            return 1;
-        }
+    if ints::signed_less(area[2 + i], area[3 + i]) {
+        return 1;
     }
     0
 }
 
-// How many of the n items begin at a whole int and behind the one before. No turn leaves the loop, so that the compiler can take several at
-// once.
+// 1 where item i + 1 begins at a whole int, else 0.
+fn is_whole(area: &[i32], i: usize) -> u32
+    requires { ⌜ 3 + i < length (now area) ⌝ }
+    ensures { λ r. ⌜ (r ≡ cond (wholeAt (now (area .entry)) i) 1 0) × (r ≤ 1) ⌝ }
+{
+    if bits_at(area, 3 + i) % 4 == 0 {
+        return 1;
+    }
+    0
+}
+
+// Of the n items but the first: how many begin behind the one before, and how many at a whole int, added up. No turn leaves the loop, so that
+// the compiler can take several at once.
 fn count_behind(area: &[i32], n: usize) -> u32
     requires { ⌜ (2 + n ≤ length (now area)) × (n ≤ 1024) ⌝ }
-    ensures { λ r. ⌜ r ≡ tally (behindAt (now (area .entry))) (n - 1) ⌝ }
+    ensures { λ r. ⌜ r ≡ tally (behindAt (now (area .entry))) (n - 1) + tally (wholeAt (now (area .entry))) (n - 1) ⌝ }
 {
     let mut good: u32 = 0;
     let mut i: usize = 0;
     while i + 1 < n {
-        good += begins_behind(bits_at(area, 2 + i), bits_at(area, 3 + i));
+        good += is_behind(area, i) + is_whole(area, i);
         i += 1;
     }
     good
@@ -89,29 +100,94 @@ fn ends_fit(area: &[i32], n: usize, size: usize) -> bool
     if size <= bits_at(area, 1 + n) {
         return false;
     }
-    if count_behind(area, n) as usize + 1 != n {
+    if count_behind(area, n) as usize + 2 != 2 * n {
         return false;
     }
     true
 }
 
-// Whether the items' keys are as a written table has them, where the offsets are.
+// The bits of the key of item i of n, where the offsets are as a written table has them; body is what stands behind these.
+fn key_bits(area: &[i32], body: &[i32], n: usize, size: usize, i: usize) -> usize
+    requires { ⌜ Head (now area) n size × (all (ends (now area)) n ≡ true) × (i < n) × (now body ≡ drop (2 + n) (now area)) ⌝ }
+    ensures { λ r. ⌜ (r ≡ keyAt (now (area .entry)) i) × (r < 2 ^ 32) × (mag (getD (now (area .entry)) (start (now (area .entry)) i) (pos 0)) < 2 ^ 31) ⌝ }
+{
+    let here = bits_at(area, 2 + i);
+    bits_at(body, here / 4)
+}
+
+// The least key that may follow item i, or 0 where its own is below the least that may come there.
+fn after_item(area: &[i32], body: &[i32], n: usize, size: usize, i: usize, low: usize) -> usize
+    requires { ⌜ Rising (now area) n size i low × (i < n) × (now body ≡ drop (2 + n) (now area)) ⌝ }
+    ensures { λ r. ⌜ (r ≡ lowAfter (now (area .entry)) (i + 1)) × (r ≤ 2 ^ 32) ⌝ }
+{
+    let key = key_bits(area, body, n, size, i);
+    if key < low {
+        return 0;
+    }
+    key + 1
+}
+
+// The same of the four items from item i on.
+fn after_four(area: &[i32], body: &[i32], n: usize, size: usize, i: usize, low: usize) -> usize
+    requires { ⌜ Rising (now area) n size i low × (i + 4 ≤ n) × (now body ≡ drop (2 + n) (now area)) ⌝ }
+    ensures { λ r. ⌜ (r ≡ lowAfter (now (area .entry)) (i + 4)) × (r ≤ 2 ^ 32) ⌝ }
+{
+    let one = after_item(area, body, n, size, i, low);
+    if one == 0 {
+        return 0;
+    }
+    let two = after_item(area, body, n, size, i + 1, one);
+    if two == 0 {
+        return 0;
+    }
+    let three = after_item(area, body, n, size, i + 2, two);
+    if three == 0 {
+        return 0;
+    }
+    after_item(area, body, n, size, i + 3, three)
+}
+
+// Whether the keys from one item on are as a written table has them, where those before are, and start is the least that may come next.
+fn keys_fit_from(
+    area: &[i32],
+    body: &[i32],
+    n: usize,
+    size: usize,
+    from: usize,
+    start: usize,
+) -> bool
+    requires { ⌜ Rising (now area) n size from start × (from ≤ n) × (now body ≡ drop (2 + n) (now area)) ⌝ }
+    ensures { λ r. ⌜ r ≡ all (fits (now (area .entry))) n ⌝ }
+{
+    let mut i = from;
+    let mut low = start;
+    while i < n {
+        low = after_item(area, body, n, size, i, low);
+        if low == 0 {
+            return false;
+        }
+        i += 1;
+    }
+    true
+}
+
+// Whether the items' keys are as a written table has them, where the offsets are. A turn takes four items, for speed.
 fn keys_fit(area: &[i32], n: usize, size: usize) -> bool
     requires { ⌜ Head (now area) n size × (all (ends (now area)) n ≡ true) ⌝ }
     ensures { λ r. ⌜ r ≡ all (fits (now (area .entry))) n ⌝ }
 {
+    let first = 2 + n;
+    let body = &area[first..];
     let mut i: usize = 0;
     let mut low: usize = 0;
-    while i < n {
-        let here = bits_at(area, 2 + i);
-        let key = bits_at(area, 2 + n + here / 4);
-        if key < low {
+    while i + 4 <= n {
+        low = after_four(area, body, n, size, i, low);
+        if low == 0 {
             return false;
         }
-        low = key + 1;
-        i += 1;
+        i += 4;
     }
-    true
+    keys_fit_from(area, body, n, size, i, low)
 }
 
 // Whether the items' offsets and keys are as a written table has them.
@@ -154,12 +230,23 @@ pub fn form(area: &[i32]) -> TableForm
     }
 }
 
+// The place where item i of n begins, with its key.
+fn key_place(area: &[i32], n: usize, i: usize) -> usize
+    requires { ⌜ Held (now area) n × (i < n) ⌝ }
+    ensures { λ r. ⌜ r ≡ start (now (area .entry)) i ⌝ }
+{
+    2 + n + bits_at(area, 2 + i) / 4
+}
+
 // The place where item i of n begins, or where the last one ends.
 pub fn start_at(area: &[i32], n: usize, i: usize) -> usize
     requires { ⌜ Held (now area) n × (i ≤ n) ⌝ }
     ensures { λ r. ⌜ r ≡ start (now (area .entry)) i ⌝ }
 {
-    2 + n + edge(area, n, i) / 4
+    if i < n {
+        return key_place(area, n, i);
+    }
+    2 + n + bits_at(area, 0) / 4
 }
 
 // The key of item i of n.
@@ -167,7 +254,7 @@ pub fn key_at(area: &[i32], n: usize, i: usize) -> i32
     requires { ⌜ Held (now area) n × (i < n) ⌝ }
     ensures { λ r. ⌜ bits r ≡ keyAt (now (area .entry)) i ⌝ }
 {
-    let at = start_at(area, n, i);
+    let at = key_place(area, n, i);
     area[at]
 }
 
@@ -176,7 +263,7 @@ pub fn data_at(area: &[i32], n: usize, i: usize) -> &[i32]
     requires { ⌜ Held (now area) n × (i < n) ⌝ }
     ensures { λ r. ⌜ now r ≡ valuesAt (now (area .entry)) i ⌝ }
 {
-    let from = start_at(area, n, i) + 1;
+    let from = key_place(area, n, i) + 1;
     let to = start_at(area, n, i + 1);
     &area[from..to]
 }

@@ -1,21 +1,25 @@
 -- `checked::count_behind` meets its contract. Assumes nothing.
-use Prim.Native.Nat.{ℕ, suc, _+_, _-_, _≤_, _<_}
-use mathlib.Core.Path.{_≡_, refl, sym, ap, _∙_, subst}
-use mathlib.Core.Bool.{Bool, cond}
-use native.Mathlib.Numerals.{add-one}
+use Prim.Native.Nat.{ℕ, _+_, _-_, _≤_}
+use mathlib.Core.Path.{_≡_, refl, ap, _∙_}
 use native.Mathlib.Omega.{arith}
 use denote.Ref.{now}
-use Rattle.table.specs.Offsets.{behindAt, tally}
-use Rattle.table.proofs.OffsetLaws.{tally-most, count-more}
+use Rattle.table.specs.Offsets.{behindAt, wholeAt, tally}
+use Rattle.table.proofs.OffsetLaws.{tally-most, both-more}
 use borrow.Author.Needs.{needs}
 use Rattle.table.proofs.checked.count_behind.Statement.{statement}
 use Rattle.table.proofs.checked.count_behind.Tie as tie
 
 abbrev Inv-loop : tie.InvT-loop
-Inv-loop area n good₀ i₀ good i = (i ≤ n - 1) × (good ≡ tally (behindAt area) i)
+Inv-loop area n good₀ i₀ good i = (i ≤ n - 1) × (good ≡ tally (behindAt area) i + tally (wholeAt area) i)
 
 abbrev μ-loop : tie.MeasureT-loop
 μ-loop area n good₀ i₀ good i = n - i
+
+-- so far at most two for each item
+few : (l : tie.At-loop Inv-loop μ-loop) → l .loop .good ≤ 2048
+few l =
+    let a = l .before .args .area .now in
+    omega (arith, l .loop .inv .0, l .loop .inv .1, l .before .pre .1, tally-most (behindAt a) (l .loop .i), tally-most (wholeAt a) (l .loop .i))
 
 loop-holds : tie.Need-loop-holds Inv-loop μ-loop
 loop-holds c = (omega arith, unfold tally in refl)
@@ -23,25 +27,18 @@ loop-holds c = (omega arith, unfold tally in refl)
 add-loop : tie.Need-add-loop Inv-loop μ-loop
 add-loop c = search needs
 
-add-bits-at : tie.Need-add-bits-at Inv-loop μ-loop
-add-bits-at c = search needs
+is-behind-requires : tie.Need-is-behind-requires Inv-loop μ-loop
+is-behind-requires c κs = search needs
 
-bits-at-requires : tie.Need-bits-at-requires Inv-loop μ-loop
-bits-at-requires c κs = search needs
-
-add-bits-at-2 : tie.Need-add-bits-at-2 Inv-loop μ-loop
-add-bits-at-2 c = search needs
-
-bits-at-requires-2 : tie.Need-bits-at-requires-2 Inv-loop μ-loop
-bits-at-requires-2 c κs = search needs
-
-begins-behind-requires : tie.Need-begins-behind-requires Inv-loop μ-loop
-begins-behind-requires c κs = search needs
+is-whole-requires : tie.Need-is-whole-requires Inv-loop μ-loop
+is-whole-requires c κs = search needs
 
 add-good : tie.Need-add-good Inv-loop μ-loop
-add-good c =
-    let l = c .before .before .before .before in
-    record { fits = omega (arith, tally-most (behindAt (l .before .args .area .now)) (l .loop .i), l .loop .inv .1, c .begins-behind .ensures .1) }
+add-good c = record { fits = omega (arith, c .is-whole .ensures .1, c .before .is-behind .ensures .1) }
+
+add-good-2 : tie.Need-add-good-2 Inv-loop μ-loop
+add-good-2 c =
+    record { fits = omega (arith, few (c .before .before .before), c .is-whole .ensures .1, c .before .is-behind .ensures .1) }
 
 add-i : tie.Need-add-i Inv-loop μ-loop
 add-i c = search needs
@@ -51,13 +48,15 @@ loop-less c = search needs
 
 loop-again : tie.Need-loop-again Inv-loop μ-loop
 loop-again c =
-    let l = c .before .before .before .before in
-    (omega arith, count-more (l .before .args .area .now) (l .loop .i) (l .loop .good) _ _ _ (l .loop .inv .1) (c .before .before .bits-at .ensures .0) (c .before .bits-at2 .ensures .0) (c .before .bits-at2 .ensures .2) (c .begins-behind .ensures .0))
+    let l = c .before .before .before in
+    let a = l .before .args .area .now in
+    (omega arith, both-more (behindAt a) (wholeAt a) (l .loop .i) (l .loop .good) _ _ (l .loop .inv .1) (c .before .is-behind .ensures .0) (c .is-whole .ensures .0))
 
 returns : tie.Need-returns Inv-loop μ-loop
 returns c =
     let l = c .before in
-    l .loop .inv .1 ∙ ap (tally (behindAt (now (l .before .args .area)))) (omega arith)
+    let a = now (l .before .args .area) in
+    l .loop .inv .1 ∙ ap (λ (k : ℕ). tally (behindAt a) k + tally (wholeAt a) k) (omega arith)
 
 pub count-behind-spec : {M : Type 1} → statement M
 count-behind-spec =
@@ -67,12 +66,10 @@ count-behind-spec =
     μ-loop
     loop-holds
     add-loop
-    add-bits-at
-    bits-at-requires
-    add-bits-at-2
-    bits-at-requires-2
-    begins-behind-requires
+    is-behind-requires
+    is-whole-requires
     add-good
+    add-good-2
     add-i
     loop-less
     loop-again

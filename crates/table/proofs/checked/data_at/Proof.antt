@@ -16,42 +16,42 @@ within s =
     let h = s .pre in
     bounds (now (s .args .area)) (h .0 .shape) (s .args .i) (omega (arith, h .0 .count-is, h .1))
 
-start-at-requires : tie.Need-start-at-requires
-start-at-requires c κs = search needs
+key-place-requires : tie.Need-key-place-requires
+key-place-requires c κs = search needs
 
 add-from : tie.Need-add-from
-add-from c = let b = within (c .before) in omega (arith, c .start-at .ensures)
+add-from c = let b = within (c .before) in omega (arith, c .key-place .ensures)
 
 add-start-at : tie.Need-add-start-at
 add-start-at c = search needs
 
-start-at-requires-2 : tie.Need-start-at-requires-2
-start-at-requires-2 c κs = search needs
+start-at-requires : tie.Need-start-at-requires
+start-at-requires c κs = search needs
 
 mul-result : tie.Need-mul-result
-mul-result c = let b = within (c .before .before) in omega (arith, c .start-at2 .ensures, c .before .start-at .ensures)
+mul-result c = let b = within (c .before .before) in omega (arith, c .start-at .ensures, c .before .key-place .ensures)
 
 sub-result : tie.Need-sub-result
-sub-result c = let b = within (c .before .before) in omega (arith, c .start-at2 .ensures, c .before .start-at .ensures)
+sub-result c = let b = within (c .before .before) in omega (arith, c .start-at .ensures, c .before .key-place .ensures)
 
 part-result-start : tie.Need-part-result-start
-part-result-start c = let b = within (c .before .before) in omega (arith, c .start-at2 .ensures, c .before .start-at .ensures)
+part-result-start c = let b = within (c .before .before) in omega (arith, c .start-at .ensures, c .before .key-place .ensures)
 
 part-result-end : tie.Need-part-result-end
-part-result-end c = let b = within (c .before .before) in omega (arith, c .start-at2 .ensures, c .before .start-at .ensures)
+part-result-end c = let b = within (c .before .before) in omega (arith, c .start-at .ensures, c .before .key-place .ensures)
 
 returns : tie.Need-returns
 unfolding valuesAt
-returns c = rw (c .before .start-at2 .ensures, c .before .before .start-at .ensures)
+returns c = rw (c .before .start-at .ensures, c .before .before .key-place .ensures)
 
 pub data-at-spec : {M : Type 1} → statement M
 data-at-spec =
     tie.close
     (tie.spec
-    start-at-requires
+    key-place-requires
     add-from
     add-start-at
-    start-at-requires-2
+    start-at-requires
     mul-result
     sub-result
     part-result-start
