@@ -22,7 +22,7 @@ ghost use Rattle.table.specs.Held.{Held};
 ghost use Rattle.delta_form.specs.Held.{HeldDelta};
 ghost use Rattle.apply_judging.specs.Judging.{DeletedKeys};
 ghost use Rattle.applying.specs.Answers.{appliedInts};
-ghost use Rattle.applying.specs.Merging.{restOf, Going, Turned};
+ghost use Rattle.applying.specs.Merging.{restOf, Going, Comes, Turned};
 use apply_judging::checked::Judged;
 use apply_judging::checked::deleted_near;
 use apply_judging::checked::is_deleted;
@@ -53,6 +53,13 @@ pub struct Merge {
     pub hint: usize,
     pub items: usize,
     pub at: usize,
+}
+
+// What comes next in a merge.
+pub enum Next {
+    Item,
+    Both,
+    Update,
 }
 
 // A place among the updates, and how many are left there.
@@ -195,7 +202,29 @@ fn put_update(
     }
 }
 
-// The next item of the base, or the next update, or both.
+// What comes next in a merge: an item of the base alone, an item with its update, or an update of a key that the base lacks.
+fn next_of(base: &[i32], nb: usize, to: usize, delta: &[i32], s: Merge) -> Next
+    requires { ⌜ Held (now base) nb × (to ≤ nb) × Updates [] (now delta) (s .update) (s .left) × (0 < (to - s .item) + s .left) ⌝ }
+    ensures { λ r. ⌜ Comes (now (base .entry)) to (now (delta .entry)) s r ⌝ }
+{
+    if s.left == 0 {
+        return Next::Item;
+    }
+    if to <= s.item {
+        return Next::Update;
+    }
+    let own = ints::to_bits(key_at(base, nb, s.item)) as usize;
+    let key = update_bits(delta, s.update);
+    if own < key {
+        return Next::Item;
+    }
+    if own == key {
+        return Next::Both;
+    }
+    Next::Update
+}
+
+// The next item of the base, or the next update, or both. Each case is called once, so that the compiler keeps the state of the merge in registers.
 fn merge_one(
     base: &[i32],
     nb: usize,
@@ -210,21 +239,12 @@ fn merge_one(
         × (0 < (to - s .item) + s .left) ⌝ }
     ensures { λ r. ⌜ Turned (now (base .entry)) nb to (now (delta .entry)) deleted n (now (out .entry)) s (now (out .exit)) r ⌝ }
 {
-    if s.left == 0 {
-        return pass_item(base, nb, to, delta, deleted, n, out, s);
+    let next = next_of(base, nb, to, delta, s);
+    match next {
+        Next::Item => pass_item(base, nb, to, delta, deleted, n, out, s),
+        Next::Both => add_update(base, nb, to, delta, deleted, n, out, s),
+        Next::Update => put_update(base, nb, to, delta, deleted, n, out, s),
     }
-    if to <= s.item {
-        return put_update(base, nb, to, delta, deleted, n, out, s);
-    }
-    let own = ints::to_bits(key_at(base, nb, s.item)) as usize;
-    let key = update_bits(delta, s.update);
-    if own < key {
-        return pass_item(base, nb, to, delta, deleted, n, out, s);
-    }
-    if own == key {
-        return add_update(base, nb, to, delta, deleted, n, out, s);
-    }
-    put_update(base, nb, to, delta, deleted, n, out, s)
 }
 
 // The base's items from one to another and the updates from a place on, both in unsigned order, merged.
