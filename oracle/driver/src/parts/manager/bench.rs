@@ -1,6 +1,7 @@
-//! Times of all the messages of a delta, one item in twenty changed. `all old`: the
-//! same messages again, which are refused, so that only what each message costs
-//! anyway is timed; beside them the Rust's time for the delta.
+//! Times of all the messages of a delta, one item in twenty changed. Beside the
+//! Rust's time for the delta also: `all old`, the same messages again, which are
+//! refused, so that only what each message costs anyway is timed; and `by steps`,
+//! the messages given to a receiver, and the whole delta to a store.
 
 use crate::core::bench::Table;
 use crate::core::random::Random;
@@ -18,15 +19,17 @@ use cefdugar::delta;
 use cefdugar::manager::Lent;
 use cefdugar::manager::Manager;
 use cefdugar::manager::SCRATCH;
+use cefdugar::receiver::Receiver;
 use cefdugar::receiver::AREA_BYTES;
+use cefdugar::storage::Storage;
 use libtw2_snapshot as rust;
 use libtw2_warn::Ignore;
 use std::hint::black_box;
 
 pub fn bench(table: &mut Table) {
-    for held in [1, 10, 50] {
+    for held in [2, 10, 50] {
         for count in [512, 1_024] {
-            let tables = tables(count, held);
+            let tables = tables(count, held - 1);
             let name = format!("messages of a delta, 4 ints an item, {held} held");
             race(table, &name, count, &tables);
         }
@@ -35,7 +38,7 @@ pub fn bench(table: &mut Table) {
     let tables = [(); 2].map(|()| any_ints(&mut random, 1_000));
     race(
         table,
-        "messages of a delta of 32 parts, 1 held",
+        "messages of a delta of 32 parts, 2 held",
         1_000,
         &tables,
     );
@@ -65,14 +68,32 @@ fn messages(tick: i32, base: i32, from: &[i32], to: &[i32]) -> Vec<Call> {
     messages_of(tick, base, &bytes, crc)
 }
 
-/// The port's manager and what is lent to it.
-struct Port {
-    manager: Manager,
+/// What is lent to the port's calls.
+struct Areas {
     parts: Vec<u8>,
     joined: Vec<u8>,
     delta: Vec<i32>,
-    area: Vec<i32>,
+    store: Vec<i32>,
     scratch: Vec<i32>,
+}
+
+impl Areas {
+    /// With room for some tables.
+    fn new(tables: &[Vec<i32>]) -> Areas {
+        Areas {
+            parts: vec![0; AREA_BYTES],
+            joined: vec![0; AREA_BYTES],
+            delta: vec![0; delta::INTS],
+            store: vec![0; tables.iter().map(|table| 2 + table.len()).sum()],
+            scratch: vec![0; SCRATCH],
+        }
+    }
+}
+
+/// The port's manager.
+struct Port {
+    manager: Manager,
+    areas: Areas,
 }
 
 impl Port {
@@ -82,11 +103,11 @@ impl Port {
         for message in messages {
             let lent = Lent {
                 sizes: &[],
-                parts: &mut self.parts,
-                joined: &mut self.joined,
-                delta: &mut self.delta,
-                area: &mut self.area,
-                scratch: &mut self.scratch,
+                parts: &mut self.areas.parts,
+                joined: &mut self.areas.joined,
+                delta: &mut self.areas.delta,
+                area: &mut self.areas.store,
+                scratch: &mut self.areas.scratch,
             };
             let (said, _) = match message {
                 Call::Snap(numbers, data) => self.manager.snap(*numbers, data, lent),
@@ -94,6 +115,41 @@ impl Port {
                 _ => unreachable!("there are bytes"),
             };
             ack = said.unwrap_or(None);
+        }
+        ack
+    }
+}
+
+/// The port's receiver and store, without a manager.
+struct Steps {
+    receiver: Receiver,
+    storage: Storage,
+    areas: Areas,
+}
+
+impl Steps {
+    /// The tick that the last of some messages acknowledges.
+    fn take(&mut self, messages: &[Call]) -> Option<i32> {
+        let mut ack = None;
+        for message in messages {
+            let (parts, joined) = (&mut self.areas.parts, &mut self.areas.joined);
+            let (said, _) = match message {
+                Call::Snap(numbers, data) => self.receiver.snap(*numbers, data, parts, joined),
+                Call::Single(numbers, data) => self.receiver.snap_single(*numbers, data, joined),
+                _ => unreachable!("there are bytes"),
+            };
+            if let Some(received) = said.unwrap_or(None) {
+                let (len, crc) = received.data_and_crc.expect("there are bytes");
+                let (delta, scratch) = (&mut self.areas.delta, &mut self.areas.scratch);
+                let (read, _) = delta::read(&self.areas.joined[..len], &[], delta, scratch);
+                let delta = &delta[..read.ok()?];
+                let ticks = (received.delta_tick, received.tick);
+                let store = &mut self.areas.store;
+                let storage = &mut self.storage;
+                let (added, _) =
+                    storage.add_delta(Some(crc), ticks.0, ticks.1, delta, store, scratch);
+                ack = added.ok().and(storage.ack_tick());
+            }
         }
         ack
     }
@@ -117,8 +173,8 @@ fn take(manager: &mut rust::Manager, messages: &[Call]) {
     }
 }
 
-/// Tables that come round and round, all but one of them held: the oldest is
-/// the base, and goes when the next one comes.
+/// Tables that come round and round, all of them held: when the next one comes,
+/// the oldest goes, and the one after it is the base.
 struct Round<'a> {
     tables: &'a [Vec<i32>],
     /// The messages of each against the next one, which is the oldest.
@@ -184,47 +240,69 @@ fn race(rows: &mut Table, name: &str, size: usize, tables: &[Vec<i32>]) {
     let mut rust = side(rust::Manager::new());
     let mut port = side(Port {
         manager: Manager::new(),
-        parts: vec![0; AREA_BYTES],
-        joined: vec![0; AREA_BYTES],
-        delta: vec![0; delta::INTS],
-        area: vec![0; tables.iter().map(|table| 2 + table.len()).sum()],
-        scratch: vec![0; SCRATCH],
+        areas: Areas::new(tables),
+    });
+    let mut steps = side(Steps {
+        receiver: Receiver::new(),
+        storage: Storage::new(),
+        areas: Areas::new(tables),
     });
     let take_port = |port: &mut Port, list: &[Call]| assert!(port.take(list).is_some());
+    let take_steps = |steps: &mut Steps, list: &[Call]| assert!(steps.take(list).is_some());
     for _ in 0..2 * tables.len() {
         rust.before(&round);
         rust.step(take);
         port.before(&round);
         port.step(take_port);
+        steps.before(&round);
+        steps.step(take_steps);
     }
     let name = format!("{name}, {} parts", round.lists[0].len());
-    rows.race_steps(
-        &name,
+    let mut row = Rows {
+        rows,
         size,
-        (
-            &mut rust,
-            |side| side.before(&round),
-            |side| side.step(take),
-        ),
-        (
-            &mut port,
-            |side| side.before(&round),
-            |side| side.step(take_port),
-        ),
-    );
+        round: &round,
+        rust: &mut rust,
+    };
+    let before = |side: &mut &mut Side<Port>| side.before(&round);
+    row.add(&name, &mut port, before, |side| side.step(take_port));
     let old = port.next.clone();
-    rows.race_steps(
+    row.add(
         &format!("{name}, all old"),
-        size,
-        (
-            &mut rust,
-            |side| side.before(&round),
-            |side| side.step(take),
-        ),
-        (
-            &mut port,
-            |_| (),
-            |side| assert!(side.manager.take(black_box(&old)).is_none()),
-        ),
+        &mut port,
+        |_| (),
+        |side| assert!(side.manager.take(black_box(&old)).is_none()),
     );
+    row.add(
+        &format!("{name}, by steps"),
+        &mut steps,
+        |side| side.before(&round),
+        |side| side.step(take_steps),
+    );
+}
+
+/// Rows beside the Rust's time for all the messages of a delta.
+struct Rows<'a, 'b> {
+    rows: &'a mut Table,
+    size: usize,
+    round: &'a Round<'b>,
+    rust: &'a mut Side<rust::Manager>,
+}
+
+impl Rows<'_, '_> {
+    fn add<P>(
+        &mut self,
+        name: &str,
+        port: &mut Side<P>,
+        before: impl Fn(&mut &mut Side<P>),
+        call: impl Fn(&mut &mut Side<P>),
+    ) {
+        let rust = (
+            &mut *self.rust,
+            |side: &mut &mut Side<rust::Manager>| side.before(self.round),
+            |side: &mut &mut Side<rust::Manager>| side.step(take),
+        );
+        self.rows
+            .race_steps(name, self.size, rust, (port, before, call));
+    }
 }
