@@ -31,17 +31,15 @@ pub fn bench(table: &mut Table) {
         for count in [512, 1_024] {
             let tables = tables(count, held - 1);
             let name = format!("messages of a delta, 4 ints an item, {held} held");
-            race(table, &name, count, &tables);
+            race(table, &name, count, &tables, held);
         }
     }
+    let name = "messages of a delta, 4 ints an item, 10 held, room for 100";
+    race(table, name, 1_024, &tables(1_024, 9), 100);
     let mut random = Random::new(1, "manager", 0);
     let tables = [(); 2].map(|()| any_ints(&mut random, 1_000));
-    race(
-        table,
-        "messages of a delta of 32 parts, 2 held",
-        1_000,
-        &tables,
-    );
+    let name = "messages of a delta of 32 parts, 2 held";
+    race(table, name, 1_000, &tables, 2);
 }
 
 /// A table whose deltas take 32 messages.
@@ -78,13 +76,14 @@ struct Areas {
 }
 
 impl Areas {
-    /// With room for some tables.
-    fn new(tables: &[Vec<i32>]) -> Areas {
+    /// With room for so many tables, each as long as the longest of some.
+    fn new(tables: &[Vec<i32>], room: usize) -> Areas {
+        let longest = tables.iter().map(Vec::len).max().unwrap_or(0);
         Areas {
             parts: vec![0; AREA_BYTES],
             joined: vec![0; AREA_BYTES],
             delta: vec![0; delta::INTS],
-            store: vec![0; tables.iter().map(|table| 2 + table.len()).sum()],
+            store: vec![0; room * (2 + longest)],
             scratch: vec![0; SCRATCH],
         }
     }
@@ -235,17 +234,17 @@ fn side<M>(manager: M) -> Side<M> {
     }
 }
 
-fn race(rows: &mut Table, name: &str, size: usize, tables: &[Vec<i32>]) {
+fn race(rows: &mut Table, name: &str, size: usize, tables: &[Vec<i32>], room: usize) {
     let round = Round::new(tables);
     let mut rust = side(rust::Manager::new());
     let mut port = side(Port {
         manager: Manager::new(),
-        areas: Areas::new(tables),
+        areas: Areas::new(tables, room),
     });
     let mut steps = side(Steps {
         receiver: Receiver::new(),
         storage: Storage::new(),
-        areas: Areas::new(tables),
+        areas: Areas::new(tables, room),
     });
     let take_port = |port: &mut Port, list: &[Call]| assert!(port.take(list).is_some());
     let take_steps = |steps: &mut Steps, list: &[Call]| assert!(steps.take(list).is_some());
