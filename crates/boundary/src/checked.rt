@@ -1,5 +1,6 @@
-// The counts in a row, a count behind a pointer, and a part that is copied.
+// The counts in a row, a flag, a count behind a pointer, and a part that is copied.
 ghost use mathlib.Core.Path.{_≡_};
+ghost use Rattle.definitions.specs.Packed.{warned};
 ghost use Rattle.format.specs.Totals.{counts};
 ghost use Rattle.format.specs.Answers.{storedInts};
 ghost use Rattle.boundary.specs.Boundary as Boundary;
@@ -27,6 +28,34 @@ pub fn row(w: Warnings) -> [usize; 13]
         w.differing_attributes,
         w.weird_negative_delta_tick,
     ]
+}
+
+// The counts of an integer's warnings in a row.
+pub fn warned_row(overlong: bool, padding: bool) -> [usize; 13]
+    ensures { λ r. ⌜ r ≡ Boundary.row (warned overlong padding) ⌝ }
+{
+    [
+        ints::one_if(overlong),
+        ints::one_if(padding),
+        0,
+        0,
+        0,
+        0,
+        0,
+        0,
+        0,
+        0,
+        0,
+        0,
+        0,
+    ]
+}
+
+// 1 for true, 0 for false.
+pub fn flag(b: bool) -> u32
+    ensures { λ r. ⌜ r ≡ Boundary.flag b ⌝ }
+{
+    if b { 1 } else { 0 }
 }
 
 // A count where there is one, and the number of the answer.

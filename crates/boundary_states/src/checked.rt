@@ -4,25 +4,15 @@ ghost use mathlib.Core.Bool.{cond};
 ghost use mathlib.Core.List.{List};
 ghost use mathlib.Core.Option.{some, none};
 ghost use Prim.Native.Nat.{ℕ, _<_, _^_};
-ghost use Rattle.boundary.specs.Boundary as Boundary;
 ghost use Rattle.receiver.specs.States.{receiverOf, receiverWith, currentOf};
 ghost use Rattle.storage.specs.States.{storeOf};
 ghost use Rattle.boundary_states.specs.Rows.{heldReceiver, ticksOf, heldStore, SavedReceiver, SavedStore, Compares};
+use boundary::checked::flag;
 use receiver::DeltaReceiver;
 use receiver::checked::Ticks;
 use receiver::checked::ticks_of;
 use receiver::checked::with_lengths;
 use storage::Storage;
-
-// 1 for true, 0 for false.
-fn flag(b: bool) -> u32
-    ensures { λ r. ⌜ r ≡ Boundary.flag b ⌝ }
-{
-    if b {
-        return 1;
-    }
-    0
-}
 
 // The ticks of a receiver in two rows.
 pub fn load_ticks(ticks: &[i32; 4], counts: &[u32; 3]) -> Ticks

@@ -1,9 +1,11 @@
 -- `capi_packer::cef_read_int` meets its contract: by what `read_int` found. Assumes nothing.
-use mathlib.Core.Path.{_≡_, refl, ap, _∙_}
+use mathlib.Core.Path.{_≡_, refl, sym, ap, ap₂, _∙_}
+use mathlib.Core.Bool.{Bool}
 use mathlib.Core.List.{List}
 use Prim.Native.Nat.{ℕ}
 use lib.IntN.{ℤ}
 use mir.Syntax.{w32}
+use mir.Val.{toZ, ofZ}
 use mir.Facts.{toZ-ofZ}
 use Rattle.definitions.specs.Refusals.{unexpectedEnd}
 use Rattle.definitions.specs.Warnings.{Counts}
@@ -24,6 +26,29 @@ module _ (o : Outcome IntAt) where
   found : {x : IntAt} {v : Counts} → o ≡ ok x v → (value₀ value : ℤ) (next₀ : ℕ) (counts : List ℕ) → value ≡ x .value → counts ≡ row v → (0 ≡ status o) × ((value ≡ output (λ (x : IntAt). x .value) value₀ o) × ((x .next ≡ output (λ (x : IntAt). x .next) next₀ o) × (counts ≡ row (warningsOf o))))
   found e value₀ value next₀ counts p q = rw (e, p, q) (refl, (refl, (refl, refl)))
 
+-- what `read_int` found, behind the test that it found an integer
+module _ (c : tie.After-known-told) where
+  abbrev x : IntAt
+  x = record { value = c .before .v .given .0 .0; next = c .before .v .given .0 .1 .0 }
+
+  abbrev overlong : Bool
+  overlong = c .before .v .given .0 .1 .1 .0
+
+  abbrev padding : Bool
+  padding = c .before .v .given .0 .1 .1 .1 .0
+
+  read : readIntAt (c .before .before .before .before .before .before .before .args .src .now) (c .before .before .before .before .before .before .before .args .at) ≡ ok x (warned overlong padding)
+  read = c .before .before .before .read-int .ensures ∙ ap intRead (c .before .v .given .1)
+
+  value : toZ w32 (ofZ w32 (x .value)) ≡ x .value
+  value = toZ-ofZ (record { sfits = c .known-told .given .0 .1 })
+
+none-requires : tie.Need-none-requires
+none-requires c κs = search needs
+
+row-requires : tie.Need-row-requires
+row-requires c κs = search needs
+
 read-int-requires : tie.Need-read-int-requires
 read-int-requires c κs = search needs
 
@@ -33,12 +58,6 @@ enum-known-v c = search needs
 enum-told : tie.Need-enum-told
 enum-told c = search needs
 
-none-requires : tie.Need-none-requires
-none-requires c κs = search needs
-
-row-requires : tie.Need-row-requires
-row-requires c κs = search needs
-
 error-number-requires : tie.Need-error-number-requires
 error-number-requires c κs = search needs
 
@@ -46,30 +65,43 @@ returns : tie.Need-returns
 returns c =
     let a = c .before .before .before .before .before .before .before .args in
     let e : readIntAt (a .src .now) (a .at) ≡ refuse unexpectedEnd =
-    c .before .before .before .before .before .read-int .ensures ∙ ap intRead (c .before .before .before .enum-told .given .1) in
-    refused _ e _ _ _ _ (c .error-number .ensures) (c .before .row .ensures ∙ ap row (c .before .before .none .ensures))
+    c .before .before .before .read-int .ensures ∙ ap intRead (c .before .enum-told .given .1) in
+    refused _ e _ _ _ _ (c .error-number .ensures) (c .before .before .before .before .row .ensures ∙ ap row (c .before .before .before .before .before .none .ensures))
 
 warned-row-requires : tie.Need-warned-row-requires
 warned-row-requires c κs = search needs
 
 returns-2 : tie.Need-returns-2
 returns-2 c =
-    let a = c .before .before .before .before .before .before .args in
-    let g = c .before .before .v .given in
-    let e : readIntAt (a .src .now) (a .at) ≡ ok (record { value = g .0 .0; next = g .0 .1 .0 }) (warned (g .0 .1 .1 .0) (g .0 .1 .1 .1 .0)) =
-    c .before .before .before .before .read-int .ensures ∙ ap intRead (g .1) in
-    found _ e _ _ _ _ (toZ-ofZ (record { sfits = c .before .known-told .given .0 .1 })) (c .warned-row .ensures)
+    let r = c .before .before in
+    found _ (read r) _ _ _ _ (value r) (c .warned-row .ensures ∙ ap row (sym (ap (warned (overlong r)) (c .before .if1 .taken))))
+
+warned-row-requires-2 : tie.Need-warned-row-requires-2
+warned-row-requires-2 c κs = search needs
+
+returns-3 : tie.Need-returns-3
+returns-3 c =
+    let r = c .before .before .before in
+    found _ (read r) _ _ _ _ (value r) (c .warned-row2 .ensures ∙ ap row (sym (ap₂ warned (c .before .if2 .taken) (c .before .before .if1 .left))))
+
+returns-4 : tie.Need-returns-4
+returns-4 c =
+    let r = c .before .before in
+    found _ (read r) _ _ _ _ (value r) (c .before .before .before .before .before .before .row .ensures ∙ ap row (c .before .before .before .before .before .before .before .none .ensures ∙ sym (ap₂ warned (c .if2 .left) (c .before .if1 .left))))
 
 pub cef-read-int-spec : {M : Type 1} → statement M
 cef-read-int-spec =
     tie.close
     (tie.spec
+    none-requires
+    row-requires
     read-int-requires
     enum-known-v
     enum-told
-    none-requires
-    row-requires
     error-number-requires
     returns
     warned-row-requires
-    returns-2)
+    returns-2
+    warned-row-requires-2
+    returns-3
+    returns-4)

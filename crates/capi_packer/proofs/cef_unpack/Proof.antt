@@ -28,8 +28,8 @@ row-requires c κs = search needs
 enum-known-answer : tie.Need-enum-known-answer
 enum-known-answer c = search needs
 
-one-if-requires : tie.Need-one-if-requires
-one-if-requires c κs = search needs
+flag-requires : tie.Need-flag-requires
+flag-requires c κs = search needs
 
 enum-known-answer-2 : tie.Need-enum-known-answer-2
 enum-known-answer-2 c = search needs
@@ -44,7 +44,7 @@ returns : tie.Need-returns
 returns c =
     let u = c .before .before .before .before .before .before .unpack in
     let e = rw (c .before .before .answer .given .1) at (u .ensures) in
-    unpacked _ e _ _ _ _ (c .one-if .ensures) (c .before .before .before .before .row .ensures)
+    unpacked _ e _ _ _ _ (c .flag .ensures) (c .before .before .before .before .row .ensures)
 
 same-length-2 : tie.Need-same-length-2
 same-length-2 c = search needs
@@ -62,7 +62,7 @@ cef-unpack-spec =
     unpack-requires
     row-requires
     enum-known-answer
-    one-if-requires
+    flag-requires
     enum-known-answer-2
     error-number-requires
     same-length

@@ -7,7 +7,6 @@ use Rattle.boundary_states.proofs.checked.write_storage.Statement.{stat
 use Rattle.boundary_states.proofs.checked.write_storage.Tie as tie
 use Rattle.boundary_states.proofs.checked.write_storage.Reads as reads
 use Rattle.boundary_states.proofs.checked.write_storage.Lts as lts
-use Rattle.boundary_states.proofs.checked.flag.Reads as flag-reads
 
 -- src/checked.rt:83:17
 cast-count : tie.Need-cast-count

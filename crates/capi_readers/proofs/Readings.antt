@@ -16,7 +16,7 @@ use Rattle.packer.specs.declared.IntRead.the-variants.{Int, End}
 use Rattle.packer.specs.ReaderAnswers.{Answered}
 use Rattle.packer.specs.declared.readers.ReaderAnswer.{ReaderAnswer}
 use Rattle.boundary.specs.Boundary.{flag, status, warningsOf, output}
-use Rattle.capi_packer.specs.Standing.{Stands}
+use Rattle.capi_readers.specs.Standing.{Stands}
 
 module _ {A : Type 0} (o : Outcome IntAt) (entries : List A) (a : ReaderAnswer) (h : Answered o entries a) (m k f : ℕ) (set : (m ≡ a .at) × ((k ≡ a .left) × (f ≡ flag (a .empty)))) where
   pub stands : Stands o entries m k f

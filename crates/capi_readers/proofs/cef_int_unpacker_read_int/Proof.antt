@@ -1,9 +1,9 @@
--- `capi_packer::cef_int_unpacker_read_int` meets its contract: by what the reader answered. Assumes nothing.
+-- `capi_readers::cef_int_unpacker_read_int` meets its contract: by what the reader answered. Assumes nothing.
 use mir.Facts.{toZ-ofZ}
-use Rattle.capi_packer.proofs.Readings.{refused, found}
+use Rattle.capi_readers.proofs.Readings.{refused, found}
 use borrow.Author.Needs.{needs}
-use Rattle.capi_packer.proofs.cef_int_unpacker_read_int.Statement.{statement}
-use Rattle.capi_packer.proofs.cef_int_unpacker_read_int.Tie as tie
+use Rattle.capi_readers.proofs.cef_int_unpacker_read_int.Statement.{statement}
+use Rattle.capi_readers.proofs.cef_int_unpacker_read_int.Tie as tie
 
 read-ints-requires : tie.Need-read-ints-requires
 read-ints-requires c κs = search needs

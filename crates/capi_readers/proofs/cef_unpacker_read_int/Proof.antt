@@ -1,11 +1,11 @@
--- `capi_packer::cef_unpacker_read_int` meets its contract: by what the reader answered. Assumes nothing.
+-- `capi_readers::cef_unpacker_read_int` meets its contract: by what the reader answered. Assumes nothing.
 use mathlib.Core.Path.{sym, ap, _∙_}
 use mir.Facts.{toZ-ofZ}
 use Rattle.boundary.specs.Boundary.{row}
-use Rattle.capi_packer.proofs.Readings.{refused, no-warnings, found, found-warnings}
+use Rattle.capi_readers.proofs.Readings.{refused, no-warnings, found, found-warnings}
 use borrow.Author.Needs.{needs}
-use Rattle.capi_packer.proofs.cef_unpacker_read_int.Statement.{statement}
-use Rattle.capi_packer.proofs.cef_unpacker_read_int.Tie as tie
+use Rattle.capi_readers.proofs.cef_unpacker_read_int.Statement.{statement}
+use Rattle.capi_readers.proofs.cef_unpacker_read_int.Tie as tie
 
 read-bytes-requires : tie.Need-read-bytes-requires
 read-bytes-requires c κs = search needs

@@ -1,0 +1,21 @@
+-- `boundary::checked::warned_row` meets its contract: the two counts make the integer's warnings. Assumes nothing.
+use mathlib.Core.Path.{sym, ap, ap₂, _∙_}
+use Rattle.laws.specs.WarningLaws.{packed, warned-packed}
+use Rattle.boundary.specs.Boundary.{row}
+use borrow.Author.Needs.{needs}
+use Rattle.boundary.proofs.checked.warned_row.Statement.{statement}
+use Rattle.boundary.proofs.checked.warned_row.Tie as tie
+
+one-if-requires : tie.Need-one-if-requires
+one-if-requires c κs = search needs
+
+one-if-requires-2 : tie.Need-one-if-requires-2
+one-if-requires-2 c κs = search needs
+
+returns : tie.Need-returns
+returns c =
+    let a = c .before .before .args in
+    ap row (ap₂ packed (c .before .one-if .ensures) (c .one-if2 .ensures) ∙ sym (warned-packed (a .overlong) (a .padding)))
+
+pub warned-row-spec : {M : Type 1} → statement M
+warned-row-spec = tie.close (tie.spec one-if-requires one-if-requires-2 returns)

@@ -1,2 +1,0 @@
--- What the outputs of `capi_packer` hold. Assumes nothing.
-pub mod Standing

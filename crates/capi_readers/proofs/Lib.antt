@@ -1,0 +1,2 @@
+-- Facts that the proofs of `capi_readers` share. Assumes nothing.
+pub mod Readings

@@ -1,0 +1,2 @@
+-- What the outputs of `capi_readers` hold. Assumes nothing.
+pub mod Standing
