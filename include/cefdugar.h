@@ -750,7 +750,9 @@ uint32_t cef_receiver_snap_empty(int32_t ticks[4], uint32_t counts[3],
  *
  * The area holds for each table its tick, how many ints it takes and these
  * ints, and zeros behind the last one: 2 ints and the table's own for each
- * table held. An area of zeros goes with a new store. CEF_NOT_IN_FORM means
+ * table held. An area of zeros goes with a new store. A call looks at all of
+ * the area that it is lent, the zeros too: one that is lent no more than the
+ * tables held and the next one take is quicker. CEF_NOT_IN_FORM means
  * that the counts and the area do not agree, or that more than
  * CEF_STORED_TABLES are told; everything that was lent is then left, but for
  * scratch and the counts of warnings. Where a call other than
