@@ -14,7 +14,7 @@ use Rattle.definitions.specs.Tables.{items, keyAt, valuesAt, find, isSome, nat}
 use Rattle.definitions.specs.Deltas.{rank, deletedAt, updateAt}
 use Rattle.definitions.specs.DeltaMaking.{agree}
 use Rattle.laws.specs.Tests.{below}
-use Rattle.laws.specs.TableShape.{keys-le}
+use Rattle.laws.specs.TableShape.{keys-rise, keys-le}
 use Rattle.laws.specs.TableFind.{Place, absent, present}
 use Rattle.laws.specs.DeltaKeys.{ranks-rise}
 use Rattle.laws.specs.DeltaShape.{Update, area-data, area-size}
@@ -35,6 +35,15 @@ ranks-under d k hint low h z l m =
 
 pub none-under : (d : List ℤ) (low : ℕ) → Under d 0 low
 none-under d low = record { below = λ j l. absurd (omega arith) }
+
+-- an item stands at its key's place
+pub at-key : (a : List ℤ) (n k i : ℕ) → Held a n → i < n → keyAt a i ≡ k → Place a k i
+at-key a n k i h l e =
+    record {
+      within = omega (arith, h .count-is);
+      below = λ j m. omega (arith, keys-rise a (h .shape) j i m (omega (arith, h .count-is)));
+      above = λ j m o. omega (arith, keys-le a (h .shape) i j m o);
+    }
 
 -- a key that is found is found at its place
 module _ (a : List ℤ) (n k p : ℕ) (h : Held a n) (q : Place a k p) where

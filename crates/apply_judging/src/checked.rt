@@ -1,5 +1,6 @@
 // A delta judged against its base: the refusals in the order of the updates, and the result's sizes.
 ghost use mathlib.Core.Path.{_≡_};
+ghost use mathlib.Core.Bool.{true};
 ghost use mathlib.Core.List.{[]};
 ghost use Prim.Native.Nat.{_+_, _<_, _≤_, _^_};
 ghost use lib.ListN.{length};
@@ -28,6 +29,7 @@ use delta_reading::checked::deleted_from;
 use delta_reading::checked::has_rank;
 use format::Error;
 use table::checked::bits_at;
+use table::checked::count_at;
 use table::checked::data_at;
 use table::checked::key_at;
 use table::checked::nat_at;
@@ -50,8 +52,19 @@ pub struct Judgement {
     pub unknown_delete: bool,
 }
 
+// Whether there is an item i of n, and it has the key.
+fn is_key_of(area: &[i32], n: usize, i: usize, key: i32) -> bool
+    requires { ⌜ Held (now area) n ⌝ }
+    ensures { λ r. ⌜ (r ≡ true → Place (now (area .entry)) (bits key) i) ⌝ }
+{
+    if i < n {
+        return key_at(area, n, i) == key;
+    }
+    false
+}
+
 // The place of a key among the n items, looked for from a hint on, or else from the start.
-fn place_near(area: &[i32], n: usize, hint: usize, key: i32) -> usize
+fn place_from(area: &[i32], n: usize, hint: usize, key: i32) -> usize
     requires { ⌜ Held (now area) n × (hint ≤ n) ⌝ }
     ensures { λ r. ⌜ Place (now (area .entry)) (bits key) r ⌝ }
 {
@@ -62,6 +75,18 @@ fn place_near(area: &[i32], n: usize, hint: usize, key: i32) -> usize
         return next_place(area, n, hint, key);
     }
     next_place(area, n, 0, key)
+}
+
+// The place of a key among the n items, where the key before was at a place: most often the next one.
+fn place_near(area: &[i32], n: usize, before: usize, key: i32) -> usize
+    requires { ⌜ Held (now area) n × (before ≤ n) ⌝ }
+    ensures { λ r. ⌜ Place (now (area .entry)) (bits key) r ⌝ }
+{
+    let next = before + 1;
+    if is_key_of(area, n, next, key) {
+        return next;
+    }
+    place_from(area, n, before, key)
 }
 
 // The place of the first deleted key of a rank or above, looked for from a hint on, or else from the start.
@@ -91,7 +116,7 @@ fn update_size(delta: &[i32], p: usize) -> usize
     requires { ⌜ Update [] (now delta) p ⌝ }
     ensures { λ r. ⌜ (r ≡ length (updateAt [] (now (delta .entry)) p .values)) × (r < 2 ^ 32) ⌝ }
 {
-    nat_at(delta, p + 2)
+    count_at(delta, p + 2)
 }
 
 // Whether the update at a place is as long as the base's data, where there is any: its key's place there is b.

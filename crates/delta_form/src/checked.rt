@@ -10,6 +10,7 @@ ghost use Rattle.definitions.specs.Deltas as Deltas;
 ghost use Rattle.laws.specs.DeltaShape.{Update};
 ghost use Rattle.delta_form.specs.Held.{sizeFrom, formOf, endOf, updatesFormOf};
 use table::checked::bits_at;
+use table::checked::count_at;
 use table::checked::nat_at;
 
 // Whether some ints begin with a delta under known sizes: how many deleted keys and updates, and how many ints it takes.
@@ -74,7 +75,7 @@ pub fn next_update(area: &[i32], p: usize) -> usize
     requires { ⌜ Update [] (now area) p ⌝ }
     ensures { λ r. ⌜ r ≡ updateEnd [] (now (area .entry)) p ⌝ }
 {
-    update_end(area, &area[..0], p)
+    p + 3 + count_at(area, p + 2)
 }
 
 // The differences of the update at a place, as a part of the area.
@@ -92,7 +93,7 @@ pub fn update_bits(area: &[i32], p: usize) -> usize
     requires { ⌜ (p + 2 ≤ length (now area)) × (nat (now area) p < 65536) × (nat (now area) (p + 1) < 65536) ⌝ }
     ensures { λ r. ⌜ (r ≡ updateKey (now (area .entry)) p) × (r < 2 ^ 32) ⌝ }
 {
-    nat_at(area, p) * 65536 + nat_at(area, p + 1)
+    count_at(area, p) * 65536 + count_at(area, p + 1)
 }
 
 // The key of the update at a place.

@@ -28,7 +28,7 @@ not-all a i n l e =
     fails (all (fits a) n) (λ h. false≢true (sym e ∙ all-of (fits a) i (λ j m. all-holds (fits a) j n (omega arith) h)))
 
 -- and nothing may follow
-pub none-after : (a : List ℤ) (i n : ℕ) → i ≤ n → all (fits a) i ≡ false → 0 ≡ lowAfter a n
+none-after : (a : List ℤ) (i n : ℕ) → i ≤ n → all (fits a) i ≡ false → 0 ≡ lowAfter a n
 none-after a i n l e = low-none a n (not-all a i n l e)
 
 -- nothing may follow some items: one of them does not fit
@@ -37,6 +37,10 @@ unfolding lowest
 none-fits a zero l e = absurd (omega arith)
 none-fits a (suc i) l e =
     fails (all (fits a) (suc i)) (λ h. absurd (omega (arith, e ∙ sym (low-fits a (suc i) h))))
+
+-- where nothing may follow some items, nothing may follow more
+pub still-none : (a : List ℤ) (i n x : ℕ) → 0 < i → i ≤ n → x ≡ lowAfter a i → x ≡ 0 → 0 ≡ lowAfter a n
+still-none a i n x p l e z = none-after a i n l (none-fits a i p (sym z ∙ e))
 
 module _ (a : List ℤ) (n s i low : ℕ) (h : Rising a n s i low) where
   -- some key may follow the first m items: they fit

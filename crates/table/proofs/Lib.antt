@@ -3,3 +3,4 @@ pub mod Nums
 pub mod Places
 pub mod OffsetLaws
 pub mod KeyLaws
+pub mod SumLaws

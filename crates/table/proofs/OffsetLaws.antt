@@ -1,21 +1,22 @@
--- Offsets that are counted: when all are behind the one before, and what that says of where items end. Assumes nothing.
+-- Offsets that are counted and joined: when all are behind the one before and at whole ints, and what that says of where items end. Assumes nothing.
 use Prim.Native.Nat.{ℕ, zero, suc, _+_, _-_, _*_, _%_, _<_, _≤_, _^_}
 use mathlib.Core.Path.{_≡_, refl, sym, ap, _∙_}
 use mathlib.Core.Logic.{⊎-elim}
 use mathlib.Core.Bool.{Bool, true, false, cond, _&&_, false≢true}
 use mathlib.Core.List.{List}
-use native.Mathlib.Nat.{eq-or-lt-of-le}
+use native.Mathlib.Nat.{eq-or-lt-of-le, le-of-suc-le-suc}
 use native.Mathlib.Numerals.{add-one}
 use native.Mathlib.Omega.{arith}
+use lib.Bits.{bitOr, or-add-and, and-le-l, and-le-r, or-mod, or-zero-l}
 use lib.IntN.{ℤ, pos, negsuc}
 use lib.ListN.{getD}
-use borrow.Author.Tests.{ltb-true, eqb-true, lt-ltb, eq-eqb}
+use borrow.Author.Tests.{ltb-true, lt-ltb}
 use Rattle.definitions.specs.Ints.{bits, signedLess}
 use Rattle.definitions.specs.Tables.{num, nat, edge, ends, fits, all}
 use Rattle.laws.specs.TableShape.{both, fails, all-holds, Ends, ends-well, well-ends, edge-end, edge-within}
 use Rattle.laws.specs.TableForm as Form
 use Rattle.table.specs.Held.{Head, Held}
-use Rattle.table.specs.Offsets.{behindAt, wholeAt, tally}
+use Rattle.table.specs.Offsets.{behindAt, joined, tally}
 
 -- ---- counting
 
@@ -58,14 +59,33 @@ unfolding all
 all-of p zero h = refl
 all-of p (suc k) h = rw (all-of p k (λ i l. h i (omega arith)), h k (omega arith))
 
--- both counts have all
-pub both-all : (p q : ℕ → Bool) (k : ℕ) → tally p k + tally q k ≡ 2 * k → (all p k ≡ true) × (all q k ≡ true)
-both-all p q k e =
-    (tally-all p k (omega (arith, tally-most p k, tally-most q k)), tally-all q k (omega (arith, tally-most p k, tally-most q k)))
+-- ---- joining
 
--- one more is counted of both
-pub both-more : (p q : ℕ → Bool) (k good x y : ℕ) → good ≡ tally p k + tally q k → x ≡ cond (p k) 1 0 → y ≡ cond (q k) 1 0 → good + (x + y) ≡ tally p (k + 1) + tally q (k + 1)
-both-more p q k good x y g e f = omega (arith, tally-more p k, tally-more q k)
+-- nothing is joined of anything else
+or-none : (x y : ℕ) → bitOr x y ≡ 0 → (x ≡ 0) × (y ≡ 0)
+or-none x y e =
+    let s = or-add-and x y in
+    (omega (arith, s, e, and-le-r x y), omega (arith, s, e, and-le-l x y))
+
+-- one more is joined
+pub joined-more : (a : List ℤ) (k : ℕ) → bitOr (joined a k) (bits (getD a (3 + k) (pos 0))) ≡ joined a (k + 1)
+unfolding joined
+joined-more a k = rw add-one
+
+-- what is joined has no remainder: nor has any of it
+pub joined-whole : (a : List ℤ) (k : ℕ) → joined a k % 4 ≡ 0 → (i : ℕ) → i < k → bits (getD a (3 + i) (pos 0)) % 4 ≡ 0
+unfolding joined
+joined-whole a zero e i l = absurd (omega arith)
+joined-whole a (suc k) e i l =
+    let q = or-none (joined a k % 4) (bits (getD a (3 + k) (pos 0)) % 4) (sym (or-mod (joined a k) (bits (getD a (3 + k) (pos 0))) 2) ∙ e) in
+    ⊎-elim (λ (m : i ≡ k). ap (λ (j : ℕ). bits (getD a (3 + j) (pos 0)) % 4) m ∙ q .1) (λ (m : i < k). joined-whole a k (q .0) i m) (eq-or-lt-of-le (le-of-suc-le-suc l))
+
+-- where none of it has one, nor has that
+pub whole-joined : (a : List ℤ) (k : ℕ) → ((i : ℕ) → i < k → bits (getD a (3 + i) (pos 0)) % 4 ≡ 0) → joined a k % 4 ≡ 0
+unfolding joined
+whole-joined a zero h = refl
+whole-joined a (suc k) h =
+    or-mod (joined a k) (bits (getD a (3 + k) (pos 0))) 2 ∙ rw (whole-joined a k (λ i l. h i (omega arith)), h k (omega arith)) (or-zero-l 0)
 
 -- ---- offsets as ints
 
@@ -85,6 +105,10 @@ bits-count : (x : ℕ) → bits (pos x) ≡ x
 unfolding bits
 bits-count x = refl
 
+-- a count's bits are the count
+pub count-bits : (z : ℤ) → num z < 2 ^ 32 → bits z ≡ num z
+count-bits z l = ap bits (count-is-int z l) ∙ bits-count (num z)
+
 -- ---- where items end
 
 module _ (a : List ℤ) (n s : ℕ) (h : Head a n s) where
@@ -99,7 +123,7 @@ module _ (a : List ℤ) (n s : ℕ) (h : Head a n s) where
   small = omega (arith, h .short)
 
   -- all behind the one before, at whole ints, the last before the end
-  module _ (f : all (behindAt a) (n - 1) ≡ true) (g : all (wholeAt a) (n - 1) ≡ true) (last : bits (getD a (1 + n) (pos 0)) < s) (m : s % 4 ≡ 0) (l : 0 < n) where
+  module _ (f : all (behindAt a) (n - 1) ≡ true) (g : joined a (n - 1) % 4 ≡ 0) (last : bits (getD a (1 + n) (pos 0)) < s) (m : s % 4 ≡ 0) (l : 0 < n) where
     -- the next offset, where one is a count
     next-int : (i : ℕ) → i + 1 < n → getD a (2 + i) (pos 0) ≡ pos (edge a i) → (getD a (3 + i) (pos 0) ≡ pos (edge a (i + 1))) × (edge a i < edge a (i + 1))
     unfolding behindAt nat
@@ -124,10 +148,9 @@ module _ (a : List ℤ) (n s : ℕ) (h : Head a n s) where
     rises i q = next-int i q (offset-int i (omega arith)) .1
 
     whole : (i : ℕ) → i + 1 < n → edge a (i + 1) % 4 ≡ 0
-    unfolding wholeAt
     whole i q =
         let e : bits (getD a (3 + i) (pos 0)) ≡ edge a (i + 1) = ap bits (next-int i q (offset-int i (omega arith)) .0) ∙ bits-count (edge a (i + 1)) in
-        sym (ap (λ (x : ℕ). x % 4) e) ∙ eqb-true _ _ (all-holds (wholeAt a) i (n - 1) (omega arith) g)
+        sym (ap (λ (x : ℕ). x % 4) e) ∙ joined-whole a (n - 1) g i (omega arith)
 
     -- that of item n - 1 - k is before the end
     before : (k i : ℕ) → k + i ≡ n - 1 → edge a i < s
@@ -193,11 +216,11 @@ module _ (a : List ℤ) (n s : ℕ) (h : Head a n s) where
         go : (i : ℕ) → i < n - 1 → behindAt a i ≡ true
         go i l = unfold behindAt in rw (edge-int i (omega arith), next-edge i l) (lt-ltb _ _ (end-of i (omega arith) .rises))
 
-    pub ends-whole : all (wholeAt a) (n - 1) ≡ true
-    ends-whole = all-of (wholeAt a) (n - 1) go
+    pub ends-whole : joined a (n - 1) % 4 ≡ 0
+    ends-whole = whole-joined a (n - 1) go
       where
-        go : (i : ℕ) → i < n - 1 → wholeAt a i ≡ true
-        go i l = unfold wholeAt in rw (next-edge i l, bits-count (edge a (i + 1))) (eq-eqb _ 0 (end-of i (omega arith) .aligned))
+        go : (i : ℕ) → i < n - 1 → bits (getD a (3 + i) (pos 0)) % 4 ≡ 0
+        go i l = rw (next-edge i l, bits-count (edge a (i + 1))) (end-of i (omega arith) .aligned)
 
   -- where an item does not end well, not all fit
   pub no-ends : all (ends a) n ≡ false → all (fits a) n ≡ false

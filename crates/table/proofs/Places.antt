@@ -1,17 +1,15 @@
 -- What the place of a key tells: the item that has it, and the i-th of the signed walk. Assumes nothing.
 use Prim.Native.Nat.{ℕ, _+_, _-_, _<_, _≤_, _^_}
 use mathlib.Core.Path.{_≡_, refl, sym, ap, _∙_}
-use mathlib.Core.List.{List, [], _∷_, append-nil}
+use mathlib.Core.List.{List}
 use mathlib.Core.Option.{some}
-use native.Mathlib.Numerals.{add-one}
 use native.Mathlib.Omega.{arith}
 use lib.IntN.{ℤ}
 use borrow.Author.Tests.{lt-ltb, le-ltb}
-use Rattle.definitions.specs.Ints.{wrappingAdd, sum}
-use Rattle.definitions.specs.Tables.{Table, list, itemAt, items, keyAt, valuesAt, count, find, walk, allValues, crc}
+use Rattle.definitions.specs.Tables.{Table, list, itemAt, items, keyAt, count, find, walk}
 use Rattle.definitions.specs.TableCalls.{nth}
 use Rattle.laws.specs.TableFind.{Place, absent, present}
-use Rattle.laws.specs.TableWalk.{crc-append, nth-late, nth-early}
+use Rattle.laws.specs.TableWalk.{nth-late, nth-early}
 use Rattle.table.specs.Held.{Held, dataIn}
 
 module _ (a : List ℤ) (n : ℕ) (h : Held a n) where
@@ -43,8 +41,3 @@ module _ (a : List ℤ) (n : ℕ) (h : Held a n) where
         let e : i ≡ n - m + (m + i - n) = omega (arith, h .count-is, p .within) in
         let t : Table = walk (list (itemAt a) (m + (n - m))) in
         rw (← parts) (ap (nth t) e ∙ nth-early (itemAt a) m (n - m) (p .below) above (m + i - n) (omega arith))
-
--- one item more is added to the sum
-pub crc-more : (a : List ℤ) (i : ℕ) → wrappingAdd (crc (list (itemAt a) i)) (sum (valuesAt a i)) ≡ crc (list (itemAt a) (i + 1))
-unfolding list
-crc-more a i = sym (rw add-one (crc-append (list (itemAt a) i) (itemAt a i ∷ []) ∙ unfold allValues in rw (append-nil (valuesAt a i))))

@@ -6,14 +6,14 @@ ghost use Prim.Native.Nat.{ℕ, _+_, _-_, _/_, _<_, _≤_, _^_};
 ghost use lib.IntN.{pos};
 ghost use lib.ListN.{length, getD, take, drop, set};
 ghost use lib.Signed.{mag};
-ghost use Rattle.definitions.specs.Ints.{bits};
+ghost use Rattle.definitions.specs.Ints.{bits, sum};
 ghost use Rattle.definitions.specs.Tables.{tableOf, items, all, ends, fits, count, start, keyAt, valuesAt, itemAt, walk, nat};
 ghost use Rattle.definitions.specs.Tables as Tables;
 ghost use Rattle.definitions.specs.TableCalls.{nth};
 ghost use Rattle.laws.specs.TableFind.{Place};
 ghost use Rattle.table.specs.Held.{Head, Held, formOf, dataIn};
-ghost use Rattle.table.specs.Offsets.{behindAt, wholeAt, tally};
-ghost use Rattle.table.specs.Keys.{Rising, lowAfter};
+ghost use Rattle.table.specs.Offsets.{behindAt, joined, tally};
+ghost use Rattle.table.specs.Keys.{Rising, lowAfter, keyInts};
 
 // Whether an area begins with a written table: how many items it has, and how many ints it takes.
 pub enum TableForm {
@@ -21,7 +21,13 @@ pub enum TableForm {
     Bad,
 }
 
-// The count at a place.
+// What the offsets of some items come to: how many begin behind the one before, and all bits of the offsets, joined by or.
+pub struct Offsets {
+    pub behind: u32,
+    pub bits: u32,
+}
+
+// The count at a place; a negative int is 2^32.
 pub fn nat_at(area: &[i32], i: usize) -> usize
     requires { ⌜ i < length (now area) ⌝ }
     ensures { λ r. ⌜ (r ≡ nat (now (area .entry)) i) × (r ≤ 2 ^ 32) × (mag (getD (now (area .entry)) i (pos 0)) < 2 ^ 31) ⌝ }
@@ -35,6 +41,14 @@ pub fn bits_at(area: &[i32], i: usize) -> usize
     ensures { λ r. ⌜ (r ≡ bits (getD (now (area .entry)) i (pos 0))) × (r < 2 ^ 32) × (mag (getD (now (area .entry)) i (pos 0)) < 2 ^ 31) ⌝ }
 {
     ints::to_bits(area[i]) as usize
+}
+
+// The count at a place that holds one: its bits.
+pub fn count_at(area: &[i32], i: usize) -> usize
+    requires { ⌜ (i < length (now area)) × (nat (now area) i < 2 ^ 32) ⌝ }
+    ensures { λ r. ⌜ r ≡ nat (now (area .entry)) i ⌝ }
+{
+    bits_at(area, i)
 }
 
 // The byte offset of item i of n, or of the end of the last.
@@ -60,30 +74,21 @@ fn is_behind(area: &[i32], i: usize) -> u32
     0
 }
 
-// 1 where item i + 1 begins at a whole int, else 0.
-fn is_whole(area: &[i32], i: usize) -> u32
-    requires { ⌜ 3 + i < length (now area) ⌝ }
-    ensures { λ r. ⌜ (r ≡ cond (wholeAt (now (area .entry)) i) 1 0) × (r ≤ 1) ⌝ }
-{
-    if bits_at(area, 3 + i) % 4 == 0 {
-        return 1;
-    }
-    0
-}
-
-// Of the n items but the first: how many begin behind the one before, and how many at a whole int, added up. No turn leaves the loop, so that
+// Of the n items but the first: how many begin behind the one before, and all bits of their offsets. No turn leaves the loop, so that
 // the compiler can take several at once.
-fn count_behind(area: &[i32], n: usize) -> u32
+fn join_offsets(area: &[i32], n: usize) -> Offsets
     requires { ⌜ (2 + n ≤ length (now area)) × (n ≤ 1024) ⌝ }
-    ensures { λ r. ⌜ r ≡ tally (behindAt (now (area .entry))) (n - 1) + tally (wholeAt (now (area .entry))) (n - 1) ⌝ }
+    ensures { λ r. ⌜ (r .behind ≡ tally (behindAt (now (area .entry))) (n - 1)) × (r .bits ≡ joined (now (area .entry)) (n - 1)) ⌝ }
 {
-    let mut good: u32 = 0;
+    let mut behind: u32 = 0;
+    let mut bits: u32 = 0;
     let mut i: usize = 0;
     while i + 1 < n {
-        good += is_behind(area, i) + is_whole(area, i);
+        behind += is_behind(area, i);
+        bits |= ints::to_bits(area[3 + i]);
         i += 1;
     }
-    good
+    Offsets { behind, bits }
 }
 
 // Whether the items' offsets are as a written table has them.
@@ -100,7 +105,11 @@ fn ends_fit(area: &[i32], n: usize, size: usize) -> bool
     if size <= bits_at(area, 1 + n) {
         return false;
     }
-    if count_behind(area, n) as usize + 2 != 2 * n {
+    let offsets = join_offsets(area, n);
+    if offsets.bits % 4 != 0 {
+        return false;
+    }
+    if offsets.behind as usize + 1 != n {
         return false;
     }
     true
@@ -127,24 +136,40 @@ fn after_item(area: &[i32], body: &[i32], n: usize, size: usize, i: usize, low: 
     key + 1
 }
 
+// The same of the two items from item i on.
+fn after_two(area: &[i32], body: &[i32], n: usize, size: usize, i: usize, low: usize) -> usize
+    requires { ⌜ Rising (now area) n size i low × (i + 2 ≤ n) × (now body ≡ drop (2 + n) (now area)) ⌝ }
+    ensures { λ r. ⌜ (r ≡ lowAfter (now (area .entry)) (i + 2)) × (r ≤ 2 ^ 32) ⌝ }
+{
+    let half = after_item(area, body, n, size, i, low);
+    if half == 0 {
+        return 0;
+    }
+    after_item(area, body, n, size, i + 1, half)
+}
+
 // The same of the four items from item i on.
 fn after_four(area: &[i32], body: &[i32], n: usize, size: usize, i: usize, low: usize) -> usize
     requires { ⌜ Rising (now area) n size i low × (i + 4 ≤ n) × (now body ≡ drop (2 + n) (now area)) ⌝ }
     ensures { λ r. ⌜ (r ≡ lowAfter (now (area .entry)) (i + 4)) × (r ≤ 2 ^ 32) ⌝ }
 {
-    let one = after_item(area, body, n, size, i, low);
-    if one == 0 {
+    let half = after_two(area, body, n, size, i, low);
+    if half == 0 {
         return 0;
     }
-    let two = after_item(area, body, n, size, i + 1, one);
-    if two == 0 {
+    after_two(area, body, n, size, i + 2, half)
+}
+
+// The same of the eight items from item i on.
+fn after_eight(area: &[i32], body: &[i32], n: usize, size: usize, i: usize, low: usize) -> usize
+    requires { ⌜ Rising (now area) n size i low × (i + 8 ≤ n) × (now body ≡ drop (2 + n) (now area)) ⌝ }
+    ensures { λ r. ⌜ (r ≡ lowAfter (now (area .entry)) (i + 8)) × (r ≤ 2 ^ 32) ⌝ }
+{
+    let half = after_four(area, body, n, size, i, low);
+    if half == 0 {
         return 0;
     }
-    let three = after_item(area, body, n, size, i + 2, two);
-    if three == 0 {
-        return 0;
-    }
-    after_item(area, body, n, size, i + 3, three)
+    after_four(area, body, n, size, i + 4, half)
 }
 
 // Whether the keys from one item on are as a written table has them, where those before are, and start is the least that may come next.
@@ -171,7 +196,7 @@ fn keys_fit_from(
     true
 }
 
-// Whether the items' keys are as a written table has them, where the offsets are. A turn takes four items, for speed.
+// Whether the items' keys are as a written table has them, where the offsets are. A turn takes eight items, for speed.
 fn keys_fit(area: &[i32], n: usize, size: usize) -> bool
     requires { ⌜ Head (now area) n size × (all (ends (now area)) n ≡ true) ⌝ }
     ensures { λ r. ⌜ r ≡ all (fits (now (area .entry))) n ⌝ }
@@ -180,12 +205,12 @@ fn keys_fit(area: &[i32], n: usize, size: usize) -> bool
     let body = &area[first..];
     let mut i: usize = 0;
     let mut low: usize = 0;
-    while i + 4 <= n {
-        low = after_four(area, body, n, size, i, low);
+    while i + 8 <= n {
+        low = after_eight(area, body, n, size, i, low);
         if low == 0 {
             return false;
         }
-        i += 4;
+        i += 8;
     }
     keys_fit_from(area, body, n, size, i, low)
 }
@@ -300,18 +325,29 @@ pub fn find(area: &[i32], n: usize, key: i32) -> usize
     n
 }
 
-// The sum of the data ints of the n items.
-pub fn crc(area: &[i32], n: usize) -> i32
+// The sum of the keys of the n items.
+fn key_sum(area: &[i32], n: usize) -> i32
     requires { ⌜ Held (now area) n ⌝ }
-    ensures { λ r. ⌜ r ≡ Tables.crc (items (now (area .entry))) ⌝ }
+    ensures { λ r. ⌜ r ≡ sum (keyInts (items (now (area .entry)))) ⌝ }
 {
     let mut total: i32 = 0;
     let mut i: usize = 0;
     while i < n {
-        total = ints::wrapping_add(total, ints::sum(data_at(area, n, i)));
+        total = ints::wrapping_add(total, key_at(area, n, i));
         i += 1;
     }
     total
+}
+
+// The sum of the data ints of the n items: that of keys and data, less that of the keys.
+pub fn crc(area: &[i32], n: usize) -> i32
+    requires { ⌜ Held (now area) n ⌝ }
+    ensures { λ r. ⌜ r ≡ Tables.crc (items (now (area .entry))) ⌝ }
+{
+    let from = 2 + n;
+    let to = start_at(area, n, n);
+    let all = ints::sum(&area[from..to]);
+    ints::wrapping_sub(all, key_sum(area, n))
 }
 
 // The place of the i-th of the n items in the order of keys read as signed: those from 2^31 on come first.

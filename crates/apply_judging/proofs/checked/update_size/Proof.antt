@@ -7,16 +7,17 @@ use borrow.Author.Needs.{needs}
 use Rattle.apply_judging.proofs.checked.update_size.Statement.{statement}
 use Rattle.apply_judging.proofs.checked.update_size.Tie as tie
 
-add-nat-at : tie.Need-add-nat-at
-add-nat-at c = search needs
+add-count-at : tie.Need-add-count-at
+add-count-at c = search needs
 
-nat-at-requires : tie.Need-nat-at-requires
-nat-at-requires c κs = size-within (now (c .args .delta)) (c .args .p) (c .pre)
+count-at-requires : tie.Need-count-at-requires
+count-at-requires c κs =
+    (size-within (now (c .args .delta)) (c .args .p) (c .pre), size-below (now (c .args .delta)) (c .args .p) (c .pre))
 
 returns : tie.Need-returns
 returns c =
     let s = c .before in
-    (c .nat-at .ensures .0 ∙ size-is (now (s .args .delta)) (s .args .p) (s .pre), omega (arith, c .nat-at .ensures .0, size-below (now (s .args .delta)) (s .args .p) (s .pre)))
+    (c .count-at .ensures ∙ size-is (now (s .args .delta)) (s .args .p) (s .pre), omega (arith, c .count-at .ensures, size-below (now (s .args .delta)) (s .args .p) (s .pre)))
 
 pub update-size-spec : {M : Type 1} → statement M
-update-size-spec = tie.close (tie.spec add-nat-at nat-at-requires returns)
+update-size-spec = tie.close (tie.spec add-count-at count-at-requires returns)

@@ -5,17 +5,17 @@ use borrow.Author.Needs.{needs}
 use Rattle.delta_form.proofs.checked.update_bits.Statement.{statement}
 use Rattle.delta_form.proofs.checked.update_bits.Tie as tie
 
-nat-at-requires : tie.Need-nat-at-requires
-nat-at-requires c κs = search needs
+count-at-requires : tie.Need-count-at-requires
+count-at-requires c κs = search needs
 
 mul-result : tie.Need-mul-result
 mul-result c = search needs
 
-add-nat-at : tie.Need-add-nat-at
-add-nat-at c = search needs
+add-count-at : tie.Need-add-count-at
+add-count-at c = search needs
 
-nat-at-requires-2 : tie.Need-nat-at-requires-2
-nat-at-requires-2 c κs = search needs
+count-at-requires-2 : tie.Need-count-at-requires-2
+count-at-requires-2 c κs = search needs
 
 add-result : tie.Need-add-result
 add-result c = search needs
@@ -26,4 +26,4 @@ returns c = (omega arith, omega arith)
 
 pub update-bits-spec : {M : Type 1} → statement M
 update-bits-spec =
-    tie.close (tie.spec nat-at-requires mul-result add-nat-at nat-at-requires-2 add-result returns)
+    tie.close (tie.spec count-at-requires mul-result add-count-at count-at-requires-2 add-result returns)

@@ -1,69 +1,74 @@
--- `checked::crc` meets its contract. The loop's invariant: the total is the sum of the items passed. Assumes nothing.
-use mathlib.Core.Path.{_≡_, refl, _∙_}
-use Prim.Native.Nat.{_-_, _≤_}
-use denote.Ref.{now}
+-- `checked::crc` meets its contract. Assumes nothing.
+use mathlib.Core.Path.{_≡_, ap, _∙_}
+use Prim.Native.Nat.{_+_, _≤_}
 use native.Mathlib.Omega.{arith}
+use lib.ListN.{length}
+use denote.Ref.{now}
 use mir.Facts.{toZ-ofZ}
-use Rattle.definitions.specs.Ints.{fromBits, sum}
-use Rattle.definitions.specs.Tables.{list, itemAt, items, count, crc, allValues}
-use Rattle.table.proofs.Places.{crc-more}
+use Rattle.definitions.specs.Tables.{start}
+use Rattle.laws.specs.TableShape.{start-least, start-within}
+use Rattle.table.proofs.SumLaws.{data-sum}
 use borrow.Author.Needs.{needs}
 use Rattle.table.proofs.checked.crc.Statement.{statement}
 use Rattle.table.proofs.checked.crc.Tie as tie
 
-abbrev Inv-loop : tie.InvT-loop
-Inv-loop area n total₀ i₀ total i = (i ≤ n) × (fromBits total ≡ crc (list (itemAt area) i))
-
-abbrev μ-loop : tie.MeasureT-loop
-μ-loop area n total₀ i₀ total i = n - i
-
-loop-holds : tie.Need-loop-holds Inv-loop μ-loop
-unfolding list allValues fromBits
-loop-holds c = (search needs, refl)
-
-data-at-requires : tie.Need-data-at-requires Inv-loop μ-loop
-data-at-requires c κs = search needs
-
-sum-requires : tie.Need-sum-requires Inv-loop μ-loop
-sum-requires c κs = search needs
-
-wrapping-add-requires : tie.Need-wrapping-add-requires Inv-loop μ-loop
-wrapping-add-requires c κs = search needs
-
-add-i : tie.Need-add-i Inv-loop μ-loop
-add-i c = search needs
-
-loop-less : tie.Need-loop-less Inv-loop μ-loop
-loop-less c = search needs
-
-loop-again : tie.Need-loop-again Inv-loop μ-loop
-unfolding fromBits
-loop-again c =
-    let at = c .before .before .before .before in (
-      search needs,
-      rw (toZ-ofZ (record { sfits = c .wrapping-add .ok }))
-          (c .wrapping-add .ensures
-          ∙ rw (toZ-ofZ (record { sfits = c .before .sum .ok }), c .before .sum .ensures, c .before .before .data-at .ensures, at .loop .inv .1)
-          (crc-more (now (at .before .args .area)) (at .loop .i))),
+-- keys and data lie within the area
+within : (c : tie.After-start-at) → let s = c .before in (2 + s .args .n ≤ c .start-at .result) × (c .start-at .result ≤ length (now (s .args .area)))
+within c =
+    let h = c .before .pre in
+    let a = now (c .before .args .area) in
+    let n = c .before .args .n in (
+      omega (arith, h .count-is, start-least a (h .shape) n, c .start-at .ensures),
+      omega (arith, h .count-is, h .shape .room, start-within a (h .shape) n (omega (arith, h .count-is)), c .start-at .ensures),
     )
 
-returns : tie.Need-returns Inv-loop μ-loop
-unfolding fromBits items
+add-from : tie.Need-add-from
+add-from c = search needs
+
+start-at-requires : tie.Need-start-at-requires
+start-at-requires c κs = search needs
+
+mul-sum : tie.Need-mul-sum
+mul-sum c = search needs
+
+sub-sum : tie.Need-sub-sum
+sub-sum c = let w = within c in omega arith
+
+part-sum-start : tie.Need-part-sum-start
+part-sum-start c = let w = within c in omega arith
+
+part-sum-end : tie.Need-part-sum-end
+part-sum-end c = let w = within c in omega arith
+
+sum-requires : tie.Need-sum-requires
+sum-requires c κs = search needs
+
+key-sum-requires : tie.Need-key-sum-requires
+key-sum-requires c κs = search needs
+
+wrapping-sub-requires : tie.Need-wrapping-sub-requires
+wrapping-sub-requires c κs = search needs
+
+returns : tie.Need-returns
 returns c =
-    let e : c .before .loop .i ≡ count (now (c .before .before .args .area)) = omega (arith, c .before .before .pre .count-is) in
-    c .before .loop .inv .1 ∙ rw e
+    let p = c .before .before .before .before in
+    let s = p .before in
+    rw (toZ-ofZ (record { sfits = c .wrapping-sub .ok }))
+    (c .wrapping-sub .ensures
+    ∙ rw (toZ-ofZ (record { sfits = c .before .before .sum .ok }), toZ-ofZ (record { sfits = c .before .key-sum .ok }), c .before .key-sum .ensures, c .before .before .sum .ensures, p .start-at .ensures)
+    (data-sum (now (s .args .area)) (s .args .n) (s .pre)))
 
 pub crc-spec : {M : Type 1} → statement M
 crc-spec =
     tie.close
     (tie.spec
-    Inv-loop
-    μ-loop
-    loop-holds
-    data-at-requires
+    add-from
+    start-at-requires
+    mul-sum
+    sub-sum
+    part-sum-start
+    part-sum-end
     sum-requires
-    wrapping-add-requires
-    add-i
-    loop-less
-    loop-again
+    key-sum-requires
+    wrapping-sub-requires
     returns)

@@ -48,8 +48,8 @@ loop-holds c =
 add-loop : tie.Need-add-loop Inv-loop μ-loop
 add-loop c = search needs
 
-after-four-requires : tie.Need-after-four-requires Inv-loop μ-loop
-after-four-requires c κs =
+after-eight-requires : tie.Need-after-eight-requires Inv-loop μ-loop
+after-eight-requires c κs =
     let l = c .before in
     (l .loop .inv .0, c .loop-test .taken, body-is (l .before .before))
 
@@ -58,7 +58,7 @@ returns c =
     let l = c .before .before .before in
     let s = l .before .before in
     let a = now (s .args .area) in
-    sym (not-all a (l .loop .i + 4) (s .args .n) (omega arith) (none-fits a (l .loop .i + 4) (omega arith) (sym (c .if1 .taken) ∙ c .before .after-four .ensures .0)))
+    sym (not-all a (l .loop .i + 8) (s .args .n) (omega arith) (none-fits a (l .loop .i + 8) (omega arith) (sym (c .if1 .taken) ∙ c .before .after-eight .ensures .0)))
 
 add-i : tie.Need-add-i Inv-loop μ-loop
 add-i c = search needs
@@ -70,7 +70,7 @@ loop-again : tie.Need-loop-again Inv-loop μ-loop
 loop-again c =
     let l = c .before .before .before in
     let s = l .before .before in
-    (rising (s .args .area .now) (s .args .n) (s .args .size) (l .loop .i) (l .loop .low) (l .loop .inv .0) _ _ (c .before .after-four .ensures .0) (c .if1 .left), omega arith)
+    (rising (s .args .area .now) (s .args .n) (s .args .size) (l .loop .i) (l .loop .low) (l .loop .inv .0) _ _ (c .before .after-eight .ensures .0) (c .if1 .left), omega arith)
 
 keys-fit-from-requires : tie.Need-keys-fit-from-requires Inv-loop μ-loop
 keys-fit-from-requires c κs =
@@ -93,7 +93,7 @@ keys-fit-spec =
     part-body-end
     loop-holds
     add-loop
-    after-four-requires
+    after-eight-requires
     returns
     add-i
     loop-less
