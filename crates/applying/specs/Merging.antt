@@ -37,7 +37,7 @@ Comes base to delta s next.Item = (s .item < to) × Ahead (keyAt base (s .item))
 Comes base to delta s next.Both = (s .item < to) × (0 < s .left) × (keyAt base (s .item) ≡ updateKey delta (s .update))
 Comes base to delta s next.Update = (0 < s .left) × (s .item < to → updateKey delta (s .update) < keyAt base (s .item))
 
--- an item or an update was merged, or more
+-- one item or update was merged
 pub record Turned (base : List ℤ) (nb to : ℕ) (delta : List ℤ) (deleted n : ℕ) (out : List ℤ) (s : Merge) (out′ : List ℤ) (r : Merge) : Type 0 where
   pub going : Going base nb to delta deleted n (length out′) r
   pub writing : Writing n out (s .items) (s .at) (restOf base to delta deleted s) out′ (r .items) (r .at) (restOf base to delta deleted r)

@@ -1,6 +1,5 @@
 // A delta applied to its base, both in areas of their forms: judged first, then merged in two passes, for keys below 2^31 and the others.
 ghost use mathlib.Core.Path.{_≡_};
-ghost use mathlib.Core.Bool.{true};
 ghost use mathlib.Core.List.{[], _∷_};
 ghost use Prim.Native.Nat.{_+_, _-_, _*_, _<_, _≤_, _^_};
 ghost use lib.IntN.{pos};
@@ -24,7 +23,6 @@ ghost use Rattle.delta_form.specs.Held.{HeldDelta};
 ghost use Rattle.apply_judging.specs.Judging.{DeletedKeys};
 ghost use Rattle.applying.specs.Answers.{appliedInts};
 ghost use Rattle.applying.specs.Merging.{restOf, Going, Comes, Turned};
-ghost use Rattle.applying.specs.declared.checked.Next.the-variants as next;
 use apply_judging::checked::Judged;
 use apply_judging::checked::deleted_near;
 use apply_judging::checked::is_deleted;
@@ -176,43 +174,6 @@ fn add_update(
     }
 }
 
-// Whether there is a next item of the base and a next update, and they have one key.
-fn have_one_key(base: &[i32], nb: usize, to: usize, delta: &[i32], s: Merge) -> bool
-    requires { ⌜ Held (now base) nb × (to ≤ nb) × Updates [] (now delta) (s .update) (s .left) ⌝ }
-    ensures { λ r. ⌜ (r ≡ true → Comes (now (base .entry)) to (now (delta .entry)) s next.Both) ⌝ }
-{
-    if to <= s.item {
-        return false;
-    }
-    if s.left == 0 {
-        return false;
-    }
-    key_at(base, nb, s.item) == update_key(delta, s.update)
-}
-
-// The next item of the base with the differences of its update, and all behind it as long as each has one.
-fn add_updates(
-    base: &[i32],
-    nb: usize,
-    to: usize,
-    delta: &[i32],
-    deleted: usize,
-    n: usize,
-    out: &mut [i32],
-    start: Merge,
-) -> Merge
-    requires { ⌜ Held (now base) nb × Going (now base) nb to (now delta) deleted n (length (now out)) start × Comes (now base) to (now delta) start next.Both ⌝ }
-    ensures { λ r. ⌜ Turned (now (base .entry)) nb to (now (delta .entry)) deleted n (now (out .entry)) start (now (out .exit)) r ⌝ }
-{
-    let mut s = start;
-    let mut both = true;
-    while both {
-        s = add_update(base, nb, to, delta, deleted, n, out, s);
-        both = have_one_key(base, nb, to, delta, s);
-    }
-    s
-}
-
 // The next update, of a key that the base lacks.
 fn put_update(
     base: &[i32],
@@ -263,7 +224,7 @@ fn next_of(base: &[i32], nb: usize, to: usize, delta: &[i32], s: Merge) -> Next
     Next::Update
 }
 
-// The next item of the base, or the next update, or those with one key. Each case is called once, so that the compiler keeps the state of the merge in registers.
+// The next item of the base, or the next update, or both. Each case is called once, so that the compiler keeps the state of the merge in registers.
 fn merge_one(
     base: &[i32],
     nb: usize,
@@ -281,7 +242,7 @@ fn merge_one(
     let next = next_of(base, nb, to, delta, s);
     match next {
         Next::Item => pass_item(base, nb, to, delta, deleted, n, out, s),
-        Next::Both => add_updates(base, nb, to, delta, deleted, n, out, s),
+        Next::Both => add_update(base, nb, to, delta, deleted, n, out, s),
         Next::Update => put_update(base, nb, to, delta, deleted, n, out, s),
     }
 }

@@ -2,22 +2,23 @@
 use mathlib.Core.Path.{_≡_}
 use mathlib.Core.Bool.{true, cond}
 use mathlib.Core.List.{List, [], _∷_}
-use Prim.Native.Nat.{ℕ}
+use Prim.Native.Nat.{ℕ, _-_, _<_, _^_}
 use lib.IntN.{ℤ}
 use Rattle.definitions.specs.Ints.{fromBits}
-use Rattle.definitions.specs.Tables.{Table, all, ends, fits, lowest}
+use Rattle.definitions.specs.Tables.{Table, all, ends, fits, keyAt}
 use Rattle.table.specs.Held.{Head}
 
--- the least key that may follow the first i items, or 0 where one of them does not fit
-unfoldable pub lowAfter : List ℤ → ℕ → ℕ
-lowAfter a i = cond (all (fits a) i) (lowest a i) 0
+-- the key of the last of the first i items, or 2 ^ 32 where one of them does not fit
+unfoldable pub lastKey : List ℤ → ℕ → ℕ
+lastKey a i = cond (all (fits a) i) (keyAt a (i - 1)) (2 ^ 32)
 
--- all n items end well, the first i of them fit, and low is the least key that may follow these
-pub record Rising (a : List ℤ) (n s i low : ℕ) : Type 0 where
+-- all n items end well, the first i of them, which are some, fit, and last is the key of the last of these
+pub record Rising (a : List ℤ) (n s i last : ℕ) : Type 0 where
   pub head : Head a n s
   pub ended : all (ends a) n ≡ true
+  pub some : 0 < i
   pub fit : all (fits a) i ≡ true
-  pub low-is : low ≡ lowest a i
+  pub last-is : last ≡ keyAt a (i - 1)
 
 -- the keys of a table's items, as ints
 unfoldable pub keyInts : Table → List ℤ

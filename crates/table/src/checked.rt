@@ -13,7 +13,7 @@ ghost use Rattle.definitions.specs.TableCalls.{nth};
 ghost use Rattle.laws.specs.TableFind.{Place};
 ghost use Rattle.table.specs.Held.{Head, Held, formOf, dataIn};
 ghost use Rattle.table.specs.Offsets.{behindAt, joined, tally};
-ghost use Rattle.table.specs.Keys.{Rising, lowAfter, keyInts};
+ghost use Rattle.table.specs.Keys.{Rising, lastKey, keyInts};
 
 // Whether an area begins with a written table: how many items it has, and how many ints it takes.
 pub enum TableForm {
@@ -124,55 +124,55 @@ fn key_bits(area: &[i32], body: &[i32], n: usize, size: usize, i: usize) -> usiz
     bits_at(body, here / 4)
 }
 
-// The least key that may follow item i, or 0 where its own is below the least that may come there.
-fn after_item(area: &[i32], body: &[i32], n: usize, size: usize, i: usize, low: usize) -> usize
-    requires { ⌜ Rising (now area) n size i low × (i < n) × (now body ≡ drop (2 + n) (now area)) ⌝ }
-    ensures { λ r. ⌜ (r ≡ lowAfter (now (area .entry)) (i + 1)) × (r ≤ 2 ^ 32) ⌝ }
+// The key of item i, or 2^32 where it is not above the last one.
+fn after_item(area: &[i32], body: &[i32], n: usize, size: usize, i: usize, last: usize) -> usize
+    requires { ⌜ Rising (now area) n size i last × (i < n) × (now body ≡ drop (2 + n) (now area)) ⌝ }
+    ensures { λ r. ⌜ r ≡ lastKey (now (area .entry)) (i + 1) ⌝ }
 {
     let key = key_bits(area, body, n, size, i);
-    if key < low {
-        return 0;
+    if key <= last {
+        return 4294967296;
     }
-    key + 1
+    key
 }
 
 // The same of the two items from item i on.
-fn after_two(area: &[i32], body: &[i32], n: usize, size: usize, i: usize, low: usize) -> usize
-    requires { ⌜ Rising (now area) n size i low × (i + 2 ≤ n) × (now body ≡ drop (2 + n) (now area)) ⌝ }
-    ensures { λ r. ⌜ (r ≡ lowAfter (now (area .entry)) (i + 2)) × (r ≤ 2 ^ 32) ⌝ }
+fn after_two(area: &[i32], body: &[i32], n: usize, size: usize, i: usize, last: usize) -> usize
+    requires { ⌜ Rising (now area) n size i last × (i + 2 ≤ n) × (now body ≡ drop (2 + n) (now area)) ⌝ }
+    ensures { λ r. ⌜ r ≡ lastKey (now (area .entry)) (i + 2) ⌝ }
 {
-    let half = after_item(area, body, n, size, i, low);
-    if half == 0 {
-        return 0;
+    let half = after_item(area, body, n, size, i, last);
+    if half == 4294967296 {
+        return 4294967296;
     }
     after_item(area, body, n, size, i + 1, half)
 }
 
 // The same of the four items from item i on.
-fn after_four(area: &[i32], body: &[i32], n: usize, size: usize, i: usize, low: usize) -> usize
-    requires { ⌜ Rising (now area) n size i low × (i + 4 ≤ n) × (now body ≡ drop (2 + n) (now area)) ⌝ }
-    ensures { λ r. ⌜ (r ≡ lowAfter (now (area .entry)) (i + 4)) × (r ≤ 2 ^ 32) ⌝ }
+fn after_four(area: &[i32], body: &[i32], n: usize, size: usize, i: usize, last: usize) -> usize
+    requires { ⌜ Rising (now area) n size i last × (i + 4 ≤ n) × (now body ≡ drop (2 + n) (now area)) ⌝ }
+    ensures { λ r. ⌜ r ≡ lastKey (now (area .entry)) (i + 4) ⌝ }
 {
-    let half = after_two(area, body, n, size, i, low);
-    if half == 0 {
-        return 0;
+    let half = after_two(area, body, n, size, i, last);
+    if half == 4294967296 {
+        return 4294967296;
     }
     after_two(area, body, n, size, i + 2, half)
 }
 
 // The same of the eight items from item i on.
-fn after_eight(area: &[i32], body: &[i32], n: usize, size: usize, i: usize, low: usize) -> usize
-    requires { ⌜ Rising (now area) n size i low × (i + 8 ≤ n) × (now body ≡ drop (2 + n) (now area)) ⌝ }
-    ensures { λ r. ⌜ (r ≡ lowAfter (now (area .entry)) (i + 8)) × (r ≤ 2 ^ 32) ⌝ }
+fn after_eight(area: &[i32], body: &[i32], n: usize, size: usize, i: usize, last: usize) -> usize
+    requires { ⌜ Rising (now area) n size i last × (i + 8 ≤ n) × (now body ≡ drop (2 + n) (now area)) ⌝ }
+    ensures { λ r. ⌜ r ≡ lastKey (now (area .entry)) (i + 8) ⌝ }
 {
-    let half = after_four(area, body, n, size, i, low);
-    if half == 0 {
-        return 0;
+    let half = after_four(area, body, n, size, i, last);
+    if half == 4294967296 {
+        return 4294967296;
     }
     after_four(area, body, n, size, i + 4, half)
 }
 
-// Whether the keys from one item on are as a written table has them, where those before are, and start is the least that may come next.
+// Whether the keys from one item on are as a written table has them, where those before are, and start is the last of these.
 fn keys_fit_from(
     area: &[i32],
     body: &[i32],
@@ -185,10 +185,10 @@ fn keys_fit_from(
     ensures { λ r. ⌜ r ≡ all (fits (now (area .entry))) n ⌝ }
 {
     let mut i = from;
-    let mut low = start;
+    let mut last = start;
     while i < n {
-        low = after_item(area, body, n, size, i, low);
-        if low == 0 {
+        last = after_item(area, body, n, size, i, last);
+        if last == 4294967296 {
             return false;
         }
         i += 1;
@@ -201,18 +201,21 @@ fn keys_fit(area: &[i32], n: usize, size: usize) -> bool
     requires { ⌜ Head (now area) n size × (all (ends (now area)) n ≡ true) ⌝ }
     ensures { λ r. ⌜ r ≡ all (fits (now (area .entry))) n ⌝ }
 {
+    if n == 0 {
+        return true;
+    }
     let first = 2 + n;
     let body = &area[first..];
-    let mut i: usize = 0;
-    let mut low: usize = 0;
+    let mut i: usize = 1;
+    let mut last = key_bits(area, body, n, size, 0);
     while i + 8 <= n {
-        low = after_eight(area, body, n, size, i, low);
-        if low == 0 {
+        last = after_eight(area, body, n, size, i, last);
+        if last == 4294967296 {
             return false;
         }
         i += 8;
     }
-    keys_fit_from(area, body, n, size, i, low)
+    keys_fit_from(area, body, n, size, i, last)
 }
 
 // Whether the items' offsets and keys are as a written table has them.

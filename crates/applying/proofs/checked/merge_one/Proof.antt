@@ -19,11 +19,11 @@ pass-item-requires c κs =
 enum-told-2 : tie.Need-enum-told-2
 enum-told-2 c = search needs
 
-add-updates-requires : tie.Need-add-updates-requires
-add-updates-requires c κs =
+add-update-requires : tie.Need-add-update-requires
+add-update-requires c κs =
     let s = c .before .before .before .before in
     let q = rw (c .before .enum-told2 .given .1) at (c .before .before .before .next-of .ensures) in
-    (s .pre .0, s .pre .2, q)
+    (s .pre .0, s .pre .2, q .0, q .1, q .2)
 
 enum-told-3 : tie.Need-enum-told-3
 enum-told-3 c = search needs
@@ -41,10 +41,10 @@ returns : tie.Need-returns
 returns c = c .before .pass-item .ensures
 
 same-length-2 : tie.Need-same-length-2
-same-length-2 c = c .before .add-updates .kept .1 .1 .1 .1 .1 .1 .0
+same-length-2 c = c .before .add-update .kept .1 .1 .1 .1 .1 .1 .0
 
 returns-2 : tie.Need-returns-2
-returns-2 c = c .before .add-updates .ensures
+returns-2 c = c .before .add-update .ensures
 
 same-length-3 : tie.Need-same-length-3
 same-length-3 c = c .before .put-update .kept .1 .1 .1 .1 .1 .1 .0
@@ -60,7 +60,7 @@ merge-one-spec =
     enum-told
     pass-item-requires
     enum-told-2
-    add-updates-requires
+    add-update-requires
     enum-told-3
     put-update-requires
     same-length

@@ -1,9 +1,6 @@
 -- `checked::after_item` meets its contract. Assumes nothing.
-use Prim.Native.Nat.{_+_, _<_, _≤_, _^_}
-use native.Mathlib.Omega.{arith}
 use denote.Ref.{now}
 use Rattle.table.proofs.KeyLaws.{comes, too-low}
-use borrow.Author.Needs.{needs}
 use Rattle.table.proofs.checked.after_item.Statement.{statement}
 use Rattle.table.proofs.checked.after_item.Tie as tie
 
@@ -13,15 +10,12 @@ key-bits-requires c κs = (c .pre .0 .head, c .pre .0 .ended, c .pre .1, c .pre 
 returns : tie.Need-returns
 returns c =
     let s = c .before .before in
-    (too-low (now (s .args .area)) (s .args .n) (s .args .size) (s .args .i) (s .args .low) (s .pre .0) _ (s .pre .1) (c .before .key-bits .ensures .0) (c .if1 .taken), omega arith)
-
-add-result : tie.Need-add-result
-add-result c = search needs
+    too-low (now (s .args .area)) (s .args .n) (s .args .size) (s .args .i) (s .args .last) (s .pre .0) _ (s .pre .1) (c .before .key-bits .ensures .0) (c .if1 .taken)
 
 returns-2 : tie.Need-returns-2
 returns-2 c =
     let s = c .before .before in
-    (comes (now (s .args .area)) (s .args .n) (s .args .size) (s .args .i) (s .args .low) (s .pre .0) _ (s .pre .1) (c .before .key-bits .ensures .0) (c .if1 .left) (c .before .key-bits .ensures .2), omega (arith, c .before .key-bits .ensures .1))
+    comes (now (s .args .area)) (s .args .n) (s .args .size) (s .args .i) (s .args .last) (s .pre .0) _ (s .pre .1) (c .before .key-bits .ensures .0) (c .if1 .left) (c .before .key-bits .ensures .2)
 
 pub after-item-spec : {M : Type 1} → statement M
-after-item-spec = tie.close (tie.spec key-bits-requires returns add-result returns-2)
+after-item-spec = tie.close (tie.spec key-bits-requires returns returns-2)

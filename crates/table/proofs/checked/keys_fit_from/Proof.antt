@@ -12,10 +12,10 @@ use Rattle.table.proofs.checked.keys_fit_from.Statement.{statement}
 use Rattle.table.proofs.checked.keys_fit_from.Tie as tie
 
 abbrev Inv-loop : tie.InvT-loop
-Inv-loop area body n size from start i₀ low₀ i low = Rising area n size i low × (i ≤ n)
+Inv-loop area body n size from start i₀ last₀ i last = Rising area n size i last × (i ≤ n)
 
 abbrev μ-loop : tie.MeasureT-loop
-μ-loop area body n size from start i₀ low₀ i low = n - i
+μ-loop area body n size from start i₀ last₀ i last = n - i
 
 loop-holds : tie.Need-loop-holds Inv-loop μ-loop
 loop-holds c = (c .pre .0, c .pre .1)
@@ -29,7 +29,7 @@ returns : tie.Need-returns Inv-loop μ-loop
 returns c =
     let k = c .before .before .before in
     let a = now (k .before .args .area) in
-    sym (not-all a (k .loop .i + 1) (k .before .args .n) (omega arith) (none-fits a (k .loop .i + 1) (omega arith) (sym (c .if1 .taken) ∙ c .before .after-item .ensures .0)))
+    sym (not-all a (k .loop .i + 1) (k .before .args .n) (omega arith) (none-fits a (k .loop .i + 1) (omega arith) (sym (c .if1 .taken) ∙ c .before .after-item .ensures)))
 
 add-i : tie.Need-add-i Inv-loop μ-loop
 add-i c = search needs
@@ -41,7 +41,7 @@ loop-again : tie.Need-loop-again Inv-loop μ-loop
 loop-again c =
     let k = c .before .before .before in
     let s = k .before in
-    (rising (s .args .area .now) (s .args .n) (s .args .size) (k .loop .i) (k .loop .low) (k .loop .inv .0) _ _ (c .before .after-item .ensures .0) (c .if1 .left), omega arith)
+    (rising (s .args .area .now) (s .args .n) (s .args .size) (k .loop .i) (k .loop .last) (k .loop .inv .0) _ _ (omega arith) (c .before .after-item .ensures) (c .if1 .left), omega arith)
 
 returns-2 : tie.Need-returns-2 Inv-loop μ-loop
 returns-2 c =
