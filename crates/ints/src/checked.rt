@@ -1,21 +1,58 @@
 // Sums and differences of two slices of one length, and copies of bytes, into a slice that has room for them.
 ghost use mathlib.Core.Path.{_≡_};
-ghost use Prim.Native.Nat.{_+_, _≤_};
-ghost use lib.ListN.{length};
+ghost use Prim.Native.Nat.{_+_, _<_, _≤_};
+ghost use lib.IntN.{pos};
+ghost use lib.ListN.{length, getD, drop};
 ghost use Rattle.definitions.specs.Ints.{wrappingAdd, wrappingSub};
 ghost use Rattle.definitions.specs.Areas.{layAt};
 ghost use Rattle.definitions.specs.DeltaMaking.{zipWith};
 
-// The sums of two slices, entry by entry, into out from a place on.
+// The sum of entry i of two slices.
+fn sum_at(a: &[i32], b: &[i32], i: usize) -> i32
+    requires { ⌜ (i < length (now a)) × (i < length (now b)) ⌝ }
+    ensures { λ r. ⌜ r ≡ wrappingAdd (getD (now (a .entry)) i (pos 0)) (getD (now (b .entry)) i (pos 0)) ⌝ }
+{
+    super::wrapping_add(a[i], b[i])
+}
+
+// The sums of four entries of two slices, from entry i on.
+fn add_four(out: &mut [i32], at: usize, a: &[i32], b: &[i32], i: usize)
+    requires { ⌜ (length (now a) ≡ length (now b)) × (at + length (now a) ≤ length (now out)) × (i + 4 ≤ length (now a)) ⌝ }
+    ensures { λ _. ⌜ layAt (at + i) (drop i (zipWith wrappingAdd (now (a .entry)) (now (b .entry)))) (now (out .entry)) ≡ layAt (at + (i + 4)) (drop (i + 4) (zipWith wrappingAdd (now (a .entry)) (now (b .entry)))) (now (out .exit)) ⌝ }
+{
+    let w = sum_at(a, b, i);
+    let x = sum_at(a, b, i + 1);
+    let y = sum_at(a, b, i + 2);
+    let z = sum_at(a, b, i + 3);
+    out[at + i] = w;
+    out[at + (i + 1)] = x;
+    out[at + (i + 2)] = y;
+    out[at + (i + 3)] = z;
+}
+
+// The sums from an entry on.
+fn add_from(out: &mut [i32], at: usize, a: &[i32], b: &[i32], start: usize)
+    requires { ⌜ (length (now a) ≡ length (now b)) × (at + length (now a) ≤ length (now out)) × (start ≤ length (now a)) ⌝ }
+    ensures { λ _. ⌜ now (out .exit) ≡ layAt (at + start) (drop start (zipWith wrappingAdd (now (a .entry)) (now (b .entry)))) (now (out .entry)) ⌝ }
+{
+    let mut i = start;
+    while i < a.len() {
+        out[at + i] = sum_at(a, b, i);
+        i += 1;
+    }
+}
+
+// The sums of two slices, entry by entry, into out from a place on. A turn takes four, for speed.
 pub fn add_into(out: &mut [i32], at: usize, a: &[i32], b: &[i32])
     requires { ⌜ (length (now a) ≡ length (now b)) × (at + length (now a) ≤ length (now out)) ⌝ }
     ensures { λ _. ⌜ now (out .exit) ≡ layAt at (zipWith wrappingAdd (now (a .entry)) (now (b .entry))) (now (out .entry)) ⌝ }
 {
     let mut i: usize = 0;
-    while i < a.len() {
-        out[at + i] = super::wrapping_add(a[i], b[i]);
-        i += 1;
+    while i + 4 <= a.len() {
+        add_four(out, at, a, b, i);
+        i += 4;
     }
+    add_from(out, at, a, b, i);
 }
 
 // The differences of two slices, entry by entry, into out from a place on.
