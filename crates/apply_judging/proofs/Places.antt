@@ -14,11 +14,9 @@ use Rattle.definitions.specs.Tables.{items, keyAt, valuesAt, find, isSome, nat}
 use Rattle.definitions.specs.Deltas.{rank, deletedAt, updateAt}
 use Rattle.definitions.specs.DeltaMaking.{agree}
 use Rattle.laws.specs.Tests.{below}
-use Rattle.laws.specs.TableShape.{keys-rise, keys-le}
+use Rattle.laws.specs.TableShape.{keys-le}
 use Rattle.laws.specs.TableFind.{Place, absent, present}
 use Rattle.laws.specs.DeltaKeys.{ranks-rise}
-use Rattle.laws.specs.DeltaShape.{Update, area-data, area-size}
-use Rattle.laws.specs.DeltaRestores.{length-values}
 use Rattle.table.specs.Held.{Held}
 use Rattle.delta_reading.specs.Reached.{Under}
 use Rattle.apply_judging.specs.Judging.{DeletedKeys}
@@ -36,15 +34,6 @@ ranks-under d k hint low h z l m =
 pub none-under : (d : List ℤ) (low : ℕ) → Under d 0 low
 none-under d low = record { below = λ j l. absurd (omega arith) }
 
--- an item stands at its key's place
-pub at-key : (a : List ℤ) (n k i : ℕ) → Held a n → i < n → keyAt a i ≡ k → Place a k i
-at-key a n k i h l e =
-    record {
-      within = omega (arith, h .count-is);
-      below = λ j m. omega (arith, keys-rise a (h .shape) j i m (omega (arith, h .count-is)));
-      above = λ j m o. omega (arith, keys-le a (h .shape) i j m o);
-    }
-
 -- a key that is found is found at its place
 module _ (a : List ℤ) (n k p : ℕ) (h : Held a n) (q : Place a k p) where
   pub found-at : isSome (find k (items a)) ≡ true → (p < n) × (find k (items a) ≡ some (valuesAt a p))
@@ -58,17 +47,6 @@ module _ (a : List ℤ) (n k p : ℕ) (h : Held a n) (q : Place a k p) where
           (l, present a (h .shape) k p q (omega (arith, h .count-is)) (eqb-true (keyAt a p) k d))
       go true d (inr l) = absurd (hit (absent a (h .shape) k p q (λ m x. omega (arith, h .count-is))))
       go false d s = absurd (hit (absent a (h .shape) k p q (λ m. eqb-false (keyAt a p) k d)))
-
--- the size of an update of an area
-module _ (d : List ℤ) (p : ℕ) (u : Update [] d p) where
-  pub size-within : p + 2 < length d
-  size-within = omega (arith, u .begins, area-data d p)
-
-  pub size-is : nat d (p + 2) ≡ length (updateAt [] d p .values)
-  size-is = sym (area-size d p) ∙ sym (length-values [] d p u)
-
-  pub size-below : nat d (p + 2) < 2 ^ 32
-  size-below = omega (arith, u .size-below, area-size d p)
 
 -- the base's data, where there is any, is as long
 module _ (o : Option (List ℤ)) (v : List ℤ) where

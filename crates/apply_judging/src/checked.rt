@@ -23,13 +23,13 @@ use delta_form::checked::next_update;
 use delta_form::checked::rank;
 use delta_form::checked::update_bits;
 use delta_form::checked::update_key;
+use delta_form::checked::update_size;
 use delta_making::checked::has_key;
 use delta_making::checked::next_place;
 use delta_reading::checked::deleted_from;
 use delta_reading::checked::has_rank;
 use format::Error;
 use table::checked::bits_at;
-use table::checked::count_at;
 use table::checked::data_at;
 use table::checked::key_at;
 use table::checked::nat_at;
@@ -109,14 +109,6 @@ pub fn is_deleted(delta: &[i32], deleted: usize, place: usize, key: usize) -> bo
     ensures { λ r. ⌜ r ≡ elem key (deletedOf (now (delta .entry)) deleted) ⌝ }
 {
     has_rank(delta, deleted, place, rank(key))
-}
-
-// How many differences the update at a place has.
-fn update_size(delta: &[i32], p: usize) -> usize
-    requires { ⌜ Update [] (now delta) p ⌝ }
-    ensures { λ r. ⌜ (r ≡ length (updateAt [] (now (delta .entry)) p .values)) × (r < 2 ^ 32) ⌝ }
-{
-    count_at(delta, p + 2)
 }
 
 // Whether the update at a place is as long as the base's data, where there is any: its key's place there is b.

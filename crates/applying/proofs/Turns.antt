@@ -17,8 +17,8 @@ use Rattle.definitions.specs.DeltaReading.{elem}
 use Rattle.definitions.specs.Applying.{kept}
 use Rattle.laws.specs.Tests.{below}
 use Rattle.laws.specs.ZipLaws.{length-zipWith}
-use Rattle.laws.specs.TableShape.{both, keys-rise, keys-le}
-use Rattle.laws.specs.TableFind.{present}
+use Rattle.laws.specs.TableShape.{both}
+use Rattle.laws.specs.TableFind.{present, own-place}
 use Rattle.laws.specs.TableForm.{body-append}
 use Rattle.laws.specs.DeltaShape.{Update, Updates, first-update, other-updates}
 use Rattle.laws.specs.ApplyFound.{item}
@@ -83,9 +83,7 @@ nothing-left base to delta deleted s l m =
 find-own : (a : List ℤ) (n i : ℕ) → Held a n → i < n → find (keyAt a i) (items a) ≡ some (valuesAt a i)
 find-own a n i h l =
     let c = h .count-is in
-    present a (h .shape) (keyAt a i) i
-    (record { within = omega arith; below = λ j m. keys-rise a (h .shape) j i m (omega arith); above = λ j m o. keys-le a (h .shape) i j m o })
-    (omega arith) refl
+    present a (h .shape) (keyAt a i) i (own-place a (h .shape) (keyAt a i) i (omega arith) refl) (omega arith) refl
 
 -- how many ints an item takes behind the offsets
 long-one : (x : Item) → length (body (x ∷ [])) ≡ 1 + length (x .values)

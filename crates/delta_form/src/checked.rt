@@ -70,12 +70,20 @@ pub fn update_end(area: &[i32], sizes: &[i32], p: usize) -> usize
     data_at(area, sizes, p) + size_at(area, sizes, p)
 }
 
-// The place behind the update at a place of a delta area, where every size is written.
+// How many differences the update at a place of a delta area has, where every size is written.
+pub fn update_size(area: &[i32], p: usize) -> usize
+    requires { ⌜ Update [] (now area) p ⌝ }
+    ensures { λ r. ⌜ (r ≡ sizeAt [] (now (area .entry)) p) × (r < 2 ^ 32) ⌝ }
+{
+    count_at(area, p + 2)
+}
+
+// The place behind the update at a place of a delta area.
 pub fn next_update(area: &[i32], p: usize) -> usize
     requires { ⌜ Update [] (now area) p ⌝ }
     ensures { λ r. ⌜ r ≡ updateEnd [] (now (area .entry)) p ⌝ }
 {
-    p + 3 + count_at(area, p + 2)
+    p + 3 + update_size(area, p)
 }
 
 // The differences of the update at a place, as a part of the area.

@@ -12,7 +12,7 @@ use lib.ListN.{length}
 use lib.Dec.{eqb}
 use borrow.Author.Tests.{eq-eqb, ne-eqb}
 use Rattle.definitions.specs.Tables.{Item, Table, find, list, itemAt, items, keyAt, valuesAt, count}
-use Rattle.laws.specs.TableShape.{Shape, keys-rise}
+use Rattle.laws.specs.TableShape.{Shape, keys-rise, keys-le}
 
 abbrev orElse : Option (List ℤ) → Option (List ℤ) → Option (List ℤ)
 orElse (some v) o = some v
@@ -69,3 +69,12 @@ module _ (a : List ℤ) (h : Shape a) (k r : ℕ) (p : Place a k r) where
   pub present : r < count a → keyAt a r ≡ k → find k (items a) ≡ some (valuesAt a r)
   unfolding items
   present l e = find-some (itemAt a) k (count a) r l e other
+
+-- an item stands at its key's place
+pub own-place : (a : List ℤ) → Shape a → (k i : ℕ) → i < count a → keyAt a i ≡ k → Place a k i
+own-place a h k i l e =
+    record {
+      within = omega arith;
+      below = λ j m. omega (arith, keys-rise a h j i m l);
+      above = λ j m o. omega (arith, keys-le a h i j m o);
+    }

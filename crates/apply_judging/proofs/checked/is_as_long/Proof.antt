@@ -13,6 +13,7 @@ use Rattle.definitions.specs.Ints.{bits}
 use Rattle.definitions.specs.Tables.{items, valuesAt, find, isSome}
 use Rattle.definitions.specs.Deltas.{updateKey, updateAt}
 use Rattle.laws.specs.TableFind.{Place}
+use Rattle.laws.specs.DeltaRestores.{length-values}
 use Rattle.apply_judging.proofs.Places.{found-at, none-agrees, some-agrees}
 use Rattle.apply_judging.proofs.checked.is_as_long.Statement.{statement}
 use Rattle.apply_judging.proofs.checked.is_as_long.Tie as tie
@@ -50,7 +51,7 @@ returns : tie.Need-returns
 returns c =
     let s = c .before .before .before .before .before .args in
     ap (λ v. eqb (length v) (c .update-size .result)) (c .before .data-at .ensures)
-    ∙ some-agrees (find (updateKey (now (s .delta)) (s .p)) (items (now (s .base)))) (updateAt [] (now (s .delta)) (s .p) .values) _ _ (found (c .before .before) .1) (c .update-size .ensures .0)
+    ∙ some-agrees (find (updateKey (now (s .delta)) (s .p)) (items (now (s .base)))) (updateAt [] (now (s .delta)) (s .p) .values) _ _ (found (c .before .before) .1) (c .update-size .ensures .0 ∙ sym (length-values [] (now (s .delta)) (s .p) (c .before .before .before .before .before .pre .1)))
 
 returns-2 : tie.Need-returns-2
 returns-2 c =

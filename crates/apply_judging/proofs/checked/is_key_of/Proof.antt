@@ -1,9 +1,10 @@
 -- `checked::is_key_of` meets its contract. Assumes nothing.
 use mathlib.Core.Path.{sym, _∙_}
 use mathlib.Core.Bool.{false≢true}
+use native.Mathlib.Omega.{arith}
 use borrow.Author.Tests.{eqb-true}
 use Rattle.definitions.specs.Ints.{bits}
-use Rattle.apply_judging.proofs.Places.{at-key}
+use Rattle.laws.specs.TableFind.{own-place}
 use borrow.Author.Needs.{needs}
 use Rattle.apply_judging.proofs.checked.is_key_of.Statement.{statement}
 use Rattle.apply_judging.proofs.checked.is_key_of.Tie as tie
@@ -15,7 +16,7 @@ returns : tie.Need-returns
 unfolding bits
 returns c e =
     let s = c .before .before in
-    at-key _ (s .args .n) _ _ (s .pre) (c .before .if1 .taken) (sym (c .key-at .ensures) ∙ eqb-true _ _ e)
+    own-place _ (s .pre .shape) _ _ (omega (arith, s .pre .count-is, c .before .if1 .taken)) (sym (c .key-at .ensures) ∙ eqb-true _ _ e)
 
 returns-2 : tie.Need-returns-2
 returns-2 c e = absurd (false≢true e)

@@ -1,5 +1,7 @@
 -- `checked::judge_update` meets its contract: by whether the base keeps the key. Assumes nothing.
 use mathlib.Core.Path.{sym, _∙_}
+use mathlib.Core.List.{[]}
+use Rattle.laws.specs.DeltaRestores.{length-values}
 use Rattle.apply_judging.proofs.Judgements.{update-kept, update-new}
 use Rattle.apply_judging.proofs.checked.judge_update.Statement.{statement}
 use Rattle.apply_judging.proofs.checked.judge_update.Tie as tie
@@ -27,7 +29,7 @@ judge-new-requires c κs = let p = c .before .before .before .before .pre in (c 
 returns-2 : tie.Need-returns-2
 returns-2 c =
     let k = c .before .before .before in
-    (update-new _ _ _ _ _ _ (k .before .is-as-long .ensures) _ _ (sym (k .is-kept .ensures) ∙ c .before .before .if1 .left) (c .before .update-size .ensures .0) (c .judge-new .ensures .0), c .judge-new .ensures .1)
+    (update-new _ _ _ _ _ _ (k .before .is-as-long .ensures) _ _ (sym (k .is-kept .ensures) ∙ c .before .before .if1 .left) (c .before .update-size .ensures .0 ∙ sym (length-values [] _ _ (k .before .before .pre .2))) (c .judge-new .ensures .0), c .judge-new .ensures .1)
 
 pub judge-update-spec : {M : Type 1} → statement M
 judge-update-spec =
