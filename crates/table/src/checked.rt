@@ -136,7 +136,7 @@ fn after_item(area: &[i32], body: &[i32], n: usize, size: usize, i: usize, last:
     key
 }
 
-// The same of the two items from item i on.
+// The key of the second item from item i on, or 2^32 where one of the two is not above the one before.
 fn after_two(area: &[i32], body: &[i32], n: usize, size: usize, i: usize, last: usize) -> usize
     requires { ⌜ Rising (now area) n size i last × (i + 2 ≤ n) × (now body ≡ drop (2 + n) (now area)) ⌝ }
     ensures { λ r. ⌜ r ≡ lastKey (now (area .entry)) (i + 2) ⌝ }
@@ -148,7 +148,7 @@ fn after_two(area: &[i32], body: &[i32], n: usize, size: usize, i: usize, last: 
     after_item(area, body, n, size, i + 1, half)
 }
 
-// The same of the four items from item i on.
+// The key of the fourth item from item i on, or 2^32 where one of the four is not above the one before.
 fn after_four(area: &[i32], body: &[i32], n: usize, size: usize, i: usize, last: usize) -> usize
     requires { ⌜ Rising (now area) n size i last × (i + 4 ≤ n) × (now body ≡ drop (2 + n) (now area)) ⌝ }
     ensures { λ r. ⌜ r ≡ lastKey (now (area .entry)) (i + 4) ⌝ }
@@ -160,7 +160,7 @@ fn after_four(area: &[i32], body: &[i32], n: usize, size: usize, i: usize, last:
     after_two(area, body, n, size, i + 2, half)
 }
 
-// The same of the eight items from item i on.
+// The key of the eighth item from item i on, or 2^32 where one of the eight is not above the one before.
 fn after_eight(area: &[i32], body: &[i32], n: usize, size: usize, i: usize, last: usize) -> usize
     requires { ⌜ Rising (now area) n size i last × (i + 8 ≤ n) × (now body ≡ drop (2 + n) (now area)) ⌝ }
     ensures { λ r. ⌜ r ≡ lastKey (now (area .entry)) (i + 8) ⌝ }
