@@ -47,6 +47,7 @@ pub mod DeltaWhole
 pub mod BuilderForm
 pub mod BuilderCalls
 pub mod BuildAll
+pub mod Clean
 pub mod SessionLaws
 pub mod CutLaws
 pub mod TickLaws

@@ -1,4 +1,4 @@
--- What a session of a controller and a printer asks of tables that a builder built, and of their deltas. Assumes nothing.
+-- What a session of a controller and a printer asks of clean tables, and of their deltas. Assumes nothing.
 use Prim.Native.Nat.{ℕ, _<_, _≤_}
 use mathlib.Core.Path.{_≡_, refl, sym, ap, ap₂, _∙_}
 use mathlib.Core.Bool.{Bool, true, false, _&&_}
@@ -29,21 +29,21 @@ use Rattle.laws.specs.DeltaMade.{made-short, made-held}
 use Rattle.laws.specs.ApplyEmpty.{apply-empty}
 use Rattle.laws.specs.ApplyMade.{created, apply-created}
 use Rattle.laws.specs.DeltaWhole.{made-read-packed}
-use Rattle.laws.specs.BuilderForm.{Built, nothing, built-sound, built-whole, built-typed}
+use Rattle.laws.specs.Clean.{Clean, empty-clean}
 
 -- ---- applying, with types
 
--- a delta that was made of two built tables takes the first to the second, whose types are not refused
-pub apply-create-typed : (b t : Table) (d : Delta) → Built b → Built t → createDelta b t ≡ return d → (applyDelta b d >>= typed) ≡ return t
+-- a delta that was made of two clean tables takes the first to the second, whose types are not refused
+pub apply-create-typed : (b t : Table) (d : Delta) → Clean b → Clean t → createDelta b t ≡ return d → (applyDelta b d >>= typed) ≡ return t
 apply-create-typed b t d hb ht e =
     ap (λ (o : Outcome Table). o >>= typed)
-    (apply-created b t d (built-sound hb) (built-sound ht) (built-whole hb) (built-whole ht) e)
-    ∙ (return-bind t typed ∙ built-typed ht)
+    (apply-created b t d (hb .is-sound) (ht .is-sound) (hb .whole) (ht .whole) e)
+    ∙ (return-bind t typed ∙ ht .types)
 
--- the empty delta leaves a built table
-pub apply-empty-typed : (b : Table) → Built b → (applyDelta b emptyDelta >>= typed) ≡ return b
+-- the empty delta leaves a clean table
+pub apply-empty-typed : (b : Table) → Clean b → (applyDelta b emptyDelta >>= typed) ≡ return b
 apply-empty-typed b hb =
-    ap (λ (o : Outcome Table). o >>= typed) (apply-empty b) ∙ (return-bind b typed ∙ built-typed hb)
+    ap (λ (o : Outcome Table). o >>= typed) (apply-empty b) ∙ (return-bind b typed ∙ hb .types)
 
 -- ---- packing
 
@@ -83,36 +83,36 @@ empty-short sizes x e =
     let m : length (packInts (deltaInts sizes emptyDelta)) ≡ length x = ap length (was-packed sizes emptyDelta x e .1) in
     omega arith
 
-module _ (b t : Table) (d : Delta) (hb : Built b) (ht : Built t) (e : createDelta b t ≡ return d) where
-  -- a delta that was made of two built tables and packed is read back, without a warning
+module _ (b t : Table) (d : Delta) (hb : Clean b) (ht : Clean t) (e : createDelta b t ≡ return d) where
+  -- a delta that was made of two clean tables and packed is read back, without a warning
   pub read-packed-delta : (sizes : List ℤ) (x : List ℕ) → packDelta sizes d ≡ return x → readDelta sizes (stream x) ≡ return (readBack d)
   read-packed-delta sizes x p =
       let c = created b t d e in
       let q = was-packed sizes d x p in
       let m : sizesMatch sizes (deltaFrom b t .updated) ≡ true = rw (c .1) (q .0) in
-      let r = made-read-packed b t (built-sound hb) (built-sound ht) (built-whole ht) (c .0) sizes m in
+      let r = made-read-packed b t (hb .is-sound) (ht .is-sound) (ht .whole) (c .0) sizes m in
       rw (← q .1, ← c .1) r
 
   -- an area of 18,433 ints has room for it
   pub created-short : length (writtenDelta d) ≤ 18433
-  created-short = let c = created b t d e in rw (← c .1) (made-short b t (built-sound hb) (built-sound ht) (c .0))
+  created-short = let c = created b t d e in rw (← c .1) (made-short b t (hb .is-sound) (ht .is-sound) (c .0))
 
   -- an area that begins with it holds it
   pub created-held : (rest : List ℤ) → deltaOf (writtenDelta d ++ rest) ≡ some d
-  created-held rest = let c = created b t d e in rw (← c .1) (made-held b t (built-sound hb) (built-sound ht) rest (c .0))
+  created-held rest = let c = created b t d e in rw (← c .1) (made-held b t (hb .is-sound) (ht .is-sound) rest (c .0))
 
 -- ---- the laws of a session under known sizes
 
 -- the seven of them
 pub record SessionLaws (sizes : List ℤ) : Type 0 where
-  -- a builder builds the empty table
-  pub sound-empty : Built []
+  -- the empty table is clean
+  pub sound-empty : Clean []
   -- what was packed is read back
-  pub read-pack : (b t : Table) (d : Delta) (x : List ℕ) → Built b → Built t → createDelta b t ≡ return d → packDelta sizes d ≡ return x → readDelta sizes (stream x) ≡ return (readBack d)
+  pub read-pack : (b t : Table) (d : Delta) (x : List ℕ) → Clean b → Clean t → createDelta b t ≡ return d → packDelta sizes d ≡ return x → readDelta sizes (stream x) ≡ return (readBack d)
   -- what was created leads to the target
-  pub apply-create : (b t : Table) (d : Delta) → Built b → Built t → createDelta b t ≡ return d → (applyDelta b d >>= typed) ≡ return t
+  pub apply-create : (b t : Table) (d : Delta) → Clean b → Clean t → createDelta b t ≡ return d → (applyDelta b d >>= typed) ≡ return t
   -- the empty delta leaves its base
-  pub apply-clear : (b : Table) → Built b → (applyDelta b emptyDelta >>= typed) ≡ return b
+  pub apply-clear : (b : Table) → Clean b → (applyDelta b emptyDelta >>= typed) ≡ return b
   -- no delta is packed into no bytes
   pub pack-some : (d : Delta) (x : List ℕ) → packDelta sizes d ≡ return x → 0 < length x
   -- a delta that changes nothing is the empty one
@@ -124,7 +124,7 @@ pub record SessionLaws (sizes : List ℤ) : Type 0 where
 pub session-laws : (sizes : List ℤ) → SessionLaws sizes
 session-laws sizes =
     record {
-      sound-empty = nothing;
+      sound-empty = empty-clean;
       read-pack = λ b t d x hb ht e p. read-packed-delta b t d hb ht e sizes x p;
       apply-create = apply-create-typed;
       apply-clear = apply-empty-typed;

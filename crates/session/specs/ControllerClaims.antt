@@ -18,14 +18,14 @@ use Rattle.definitions.specs.StorageCalls.{addStep}
 use Rattle.laws.specs.TableReadBack.{holds}
 use Rattle.laws.specs.BuilderForm.{Built}
 use Rattle.session.specs.Runs.{ControllerCall, addSnap, setDeltaTick, Controller, ControllerStep, controllerCall, afterCalls, Accepted, acceptedFrom}
-use Rattle.session.specs.Statement.{Among, All, BuiltCall, Rising, Base, Suffices, Session, acceptedIn, Holds, HeldAt, BaseIn, Answered, BaseRight, controllerHolds}
+use Rattle.session.specs.Statement.{Among, All, BuiltCall, Rising, AcceptedAt, Base, Suffices, Session, acceptedIn, Holds, HeldAt, BaseIn, Answered, BaseRight, controllerHolds}
 use Rattle.session.specs.Statement as Statement
 use Rattle.session.specs.Lists.{contra, all-among, all-map, all-front, all-at}
 use Rattle.session.specs.HeldTicks.{oldest-among}
 use Rattle.session.specs.Dropping.{among-drop, held-found}
 use Rattle.session.specs.ControllerSteps.{base-left, baseOf, Adds, full, clashes, fits, made-not, made-is, adding-is, addedStep, call-adds, Sets, unsets, sets, setting-is, setStep, call-sets}
 use Rattle.session.specs.ControllerSteps as ControllerSteps
-use Rattle.session.specs.ControllerState.{Based, unset, set, Chain, none, more, Keeping, Controls, base-tick}
+use Rattle.session.specs.ControllerState.{Based, unset, set, Chain, none, more, Keeping, Controls, base-tick, at-more}
 use Rattle.session.specs.ControllerRun.{not-negative, set-based, calls-control, accepted-append, fresh-controls, rises-from}
 
 -- ---- answers
@@ -84,18 +84,18 @@ call-answered c (setDeltaTick tick) l b k =
 -- ---- bases
 
 -- a base is still named where more was accepted
-base-more : (a : Accepted) (l : List Accepted) {t : ℤ} {b : Table} → Base l t b → Base (a ∷ l) t b
+base-more : (a : Accepted) (l : List Accepted) {t : ℤ} {b : Table} → Base (AcceptedAt l) t b → Base (AcceptedAt (a ∷ l)) t b
 base-more a l Statement.empty = Statement.empty
-base-more a l (Statement.accepted m) = Statement.accepted (Statement.there m)
+base-more a l (Statement.named k) = Statement.named (at-more a l k)
 
 -- a right base stays right where more was accepted
 right-more : (a : Accepted) (l : List Accepted) (b : Accepted) → BaseRight l b → BaseRight (a ∷ l) b
 right-more a l b r = record { base = r .base; named = base-more a l (r .named); older = r .older; made = r .made }
 
 -- a base among those accepted before is older
-base-older : (n : ℕ) (z : ℤ) (l : List Accepted) {t : ℤ} {b : Table} → z ≡ pos n → All (λ (y : Accepted). signedLess (y .tick) z ≡ true) l → Base l t b → signedLess t z ≡ true
+base-older : (n : ℕ) (z : ℤ) (l : List Accepted) {t : ℤ} {b : Table} → z ≡ pos n → All (λ (y : Accepted). signedLess (y .tick) z ≡ true) l → Base (AcceptedAt l) t b → signedLess t z ≡ true
 base-older n z l q r Statement.empty = rw q
-base-older n z l q r (Statement.accepted m) = all-among r m
+base-older n z l q r (Statement.named k) = subst (λ (t : ℤ). signedLess t z ≡ true) (k .tick-is) (all-among r (k .accepted))
 
 -- tables that rise, each made against one accepted before, have right bases
 pub bases-right : {l : List Accepted} → Rising l → Chain l → All (BaseRight l) l

@@ -26,7 +26,7 @@ use Rattle.laws.specs.StoreForm as StoreForm
 use Rattle.laws.specs.BuilderForm.{Built}
 use Rattle.session.specs.Runs.{Controller, Accepted, acceptedBy}
 use Rattle.session.specs.Runs as Runs
-use Rattle.session.specs.Statement.{All, Rising, Base, orNone, IsAccepted}
+use Rattle.session.specs.Statement.{All, Rising, AcceptedAt, Base, orNone, IsAccepted}
 use Rattle.session.specs.Statement as Statement
 use Rattle.session.specs.Lists.{either, all-among, all-map}
 use Rattle.session.specs.HeldTicks.{Falls, end, next, oldest-among}
@@ -44,7 +44,7 @@ pub data Based : Option ℤ → List StoredSnap → Type 0 where
 -- a table's delta was made against a base among some accepted ones
 pub record MadeFrom (l : List Accepted) (a : Accepted) : Type 0 where
   pub base : Table
-  pub named : Base l (a .base) base
+  pub named : Base (AcceptedAt l) (a .base) base
   pub made : createDelta base (a .table) ≡ return (a .delta)
 
 -- each was made against one that was accepted before
@@ -111,13 +111,11 @@ base-sound Option.none x l unset h = empty-sound
 base-sound (some t) x (y ∷ l) (set e) h = sounds-oldest y l h
 
 -- it is the empty table, or one that was accepted
-pub base-named : (es : List Accepted) (o : Option ℤ) (x : StoredSnap) (l : List StoredSnap) → Based o l → All (IsAccepted es) l → Base es (chosenBase o x l .tick) (chosenBase o x l .snap)
+pub base-named : (es : List Accepted) (o : Option ℤ) (x : StoredSnap) (l : List StoredSnap) → Based o l → All (IsAccepted es) l → Base (AcceptedAt es) (chosenBase o x l .tick) (chosenBase o x l .snap)
 unfolding oldestOr
 base-named es Option.none x l unset a = Statement.empty
 base-named es (some t) x (y ∷ l) (set e) a =
-    let k = all-among a (oldest-among y l) in
-    subst (λ (z : Table). Base es (oldestOr y l .tick) z) (k .table-is)
-    (subst (λ (z : ℤ). Base es z (k .table .table)) (k .tick-is) (Statement.accepted (k .accepted)))
+    Statement.named (all-among a (oldest-among y l))
 
 -- its tick is the base tick, or -1
 pub base-tick : (o : Option ℤ) (x : StoredSnap) (l : List StoredSnap) → Based o l → chosenBase o x l .tick ≡ orNone o
@@ -134,8 +132,12 @@ based-more x (some t) (y ∷ l) (set e) = set e
 -- ---- a table is added
 
 -- one more accepted table leaves those accepted before
+pub at-more : (a : Accepted) (l : List Accepted) {t : ℤ} {u : Table} → AcceptedAt l t u → AcceptedAt (a ∷ l) t u
+at-more a l k = record { table = k .table; accepted = Statement.there (k .accepted); tick-is = k .tick-is; table-is = k .table-is }
+
+-- and those that are held
 accepted-more : (a : Accepted) (l : List Accepted) (x : StoredSnap) → IsAccepted l x → IsAccepted (a ∷ l) x
-accepted-more a l x k = record { table = k .table; accepted = Statement.there (k .accepted); tick-is = k .tick-is; table-is = k .table-is }
+accepted-more a l x k = at-more a l k
 
 -- tables that were accepted are below a newer tick
 tighten : (n : ℕ) (es : List Accepted) {k : ℕ} {l : List StoredSnap} → Falls k l → All (IsAccepted es) l → All (λ (b : Accepted). signedLess (b .tick) (pos n) ≡ true) es → Falls n l

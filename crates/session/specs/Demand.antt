@@ -1,69 +1,67 @@
 -- Demand 3 holds of every session. Assumes nothing.
-use mathlib.Core.Path.{_≡_, refl, subst}
-use mathlib.Core.Bool.{true}
-use mathlib.Core.List.{List, [], _∷_}
-use lib.IntN.{ℤ}
-use Rattle.definitions.specs.Outcome.{return}
+use mathlib.Core.Path.{_≡_, refl, sym, _∙_, ap, subst}
+use Prim.Native.Nat.{ℕ, _≤_}
+use lib.IntN.{ℤ, pos}
 use Rattle.definitions.specs.Tables.{Table}
-use Rattle.definitions.specs.DeltaCalls.{sizesMatch}
-use Rattle.laws.specs.DeltaReadBack.{readBack}
-use Rattle.laws.specs.BuilderForm.{Built, nothing}
-use Rattle.laws.specs.SessionLaws.{packDelta, read-packed-delta, apply-create-typed, apply-empty-typed}
-use Rattle.session.specs.Runs.{Accepted, packed, freshPrinter, Printer}
-use Rattle.session.specs.Statement.{Among, here, there, All, none, more, Base, empty, accepted, Session, acceptedIn, Holds, Demand3}
-use Rattle.session.specs.Lists.{all-among}
-use Rattle.session.specs.PrinterSteps.{Ready}
-use Rattle.session.specs.PrinterRuns.{AllSuffice, held-accepted, acknowledged-when, answers-noted, acknowledgement-noted, ticks-noted}
-use Rattle.session.specs.ControllerClaims.{controller-answered, accepted-bases, accepted-built, accepted-sound}
+use Rattle.laws.specs.Clean.{Clean, built-clean}
+use Rattle.session.specs.Runs.{Accepted}
+use Rattle.session.specs.Statement.{Among, AcceptedAt, BaseRight, Session, acceptedIn, Holds, Demand3}
+use Rattle.session.specs.LinkStatement.{Link, MadeOn, LinkHolds, Agreement}
+use Rattle.session.specs.Lists.{all-among, all-map}
+use Rattle.session.specs.PrinterState.{one-accepted, numbered}
+use Rattle.session.specs.Agreeing.{agreement}
+use Rattle.session.specs.ControllerClaims.{controller-answered, accepted-bases, accepted-built}
 
--- what each of a list has, all of it have
-all-of : {A : Type 0} {P : A → Type 0} (l : List A) → ((a : A) → Among a l → P a) → All P l
-all-of [] f = none
-all-of (x ∷ l) f = more (f x here) (all-of l (λ a m. f a (there m)))
-
--- the table that a base tick names is built
-base-built : {l : List Accepted} {b : ℤ} {t : Table} → All (λ (a : Accepted). Built (a .table)) l → Base l b t → Built t
-base-built built empty = nothing
-base-built built (accepted m) = all-among built m
-
--- a delta whose sizes are the known ones is packed
-packs : (sizes : List ℤ) (a : Accepted) → sizesMatch sizes (a .delta .updated) ≡ true → packDelta sizes (a .delta) ≡ return (packed sizes a)
-packs sizes a e = rw e refl
+-- the link of a session
+abbrev pub linkOf : Session → Link
+linkOf s =
+    record { lent = s .lent; instead = s .instead; deltas = acceptedIn s; printer = s .printer; messages = s .messages }
 
 module _ (s : Session) (h : Holds s) where
-  -- what the printer needs of each accepted table
-  ready : All (Ready (s .lent .sizes) (acceptedIn s)) (acceptedIn s)
-  ready = all-of (acceptedIn s) each
-    where
-      each : (a : Accepted) → Among a (acceptedIn s) → Ready (s .lent .sizes) (acceptedIn s) a
-      each a m =
-          let r = all-among (accepted-bases s h) m in
-          let t = all-among (accepted-built s h) m in
-          let b = base-built (accepted-built s h) (r .named) in
-          record {
-            base = r .base;
-            named = r .named;
-            older = r .older;
-            read = readBack (a .delta);
-            reads = read-packed-delta (r .base) (a .table) (a .delta) b t (r .made) (s .lent .sizes) (packed (s .lent .sizes) a) (packs (s .lent .sizes) a (all-among (h .fair) m .matches));
-            delta-is = refl;
-            applies = apply-create-typed (r .base) (a .table) (a .delta) b t (r .made);
-            unchanged = apply-empty-typed (r .base) b;
-          }
+  -- the table accepted at a tick is one
+  one-at : {t : ℤ} {u v : Table} → AcceptedAt (acceptedIn s) t u → AcceptedAt (acceptedIn s) t v → u ≡ v
+  one-at a b =
+      sym (a .table-is)
+      ∙ (ap (λ (x : Accepted). x .table) (one-accepted (h .rising) (a .accepted) (b .accepted) (a .tick-is ∙ sym (b .tick-is))) ∙ b .table-is)
 
-  -- no message is refused for want of room
-  suffice : AllSuffice (s .lent) (freshPrinter (h .printerArea) (h .parts) (h .joined) (h .printerDelta)) (s .messages)
-  suffice = subst (λ (p : Printer). AllSuffice (s .lent) p (s .messages)) (h .printerFresh) (h .printerSuffices)
+  -- its tick is a number
+  number-at : {t : ℤ} {u : Table} → AcceptedAt (acceptedIn s) t u → (n : ℕ) × (t ≡ pos n) × (n ≤ 2147483647)
+  number-at a = let k = numbered (h .rising) (a .accepted) in (k .number, sym (a .tick-is) ∙ k .tick-is, k .int)
+
+  -- it is clean
+  clean-at : {t : ℤ} {u : Table} → AcceptedAt (acceptedIn s) t u → Clean u
+  clean-at a = subst Clean (a .table-is) (built-clean (all-among (accepted-built s h) (a .accepted)))
+
+  -- what is asked of the link holds
+  link-holds : LinkHolds (AcceptedAt (acceptedIn s)) (linkOf s)
+  link-holds =
+      record {
+        one = one-at;
+        number = number-at;
+        clean = clean-at;
+        covers = λ m. record { table = _; accepted = m; tick-is = refl; table-is = refl };
+        rising = h .rising;
+        made = all-map (λ (a : Accepted) (r : BaseRight (acceptedIn s) a). record { base = r .base; named = r .named; made = r .made }) (accepted-bases s h);
+        fair = h .fair;
+        area = h .printerArea;
+        parts = h .parts;
+        joined = h .joined;
+        delta = h .printerDelta;
+        fresh = h .printerFresh;
+        sent = h .sent;
+        suffices = h .printerSuffices;
+      }
 
   -- the claim holds of every session
   pub demand3 : Demand3 s
   demand3 =
+      let g = agreement (AcceptedAt (acceptedIn s)) (linkOf s) link-holds in
       record {
         controller = controller-answered s h;
         bases = accepted-bases s h;
-        tables = λ xs ys e. rw (h .printerFresh) (held-accepted (s .lent) (s .instead) (acceptedIn s) (h .printerArea) (h .rising) (h .fair) (accepted-sound s h) ready (h .parts) (h .joined) (h .printerDelta) (s .messages) (h .sent) suffice xs ys e);
-        acknowledgements = λ xs ys m e. rw (h .printerFresh) (acknowledged-when (s .lent) (s .instead) (acceptedIn s) (h .printerArea) (h .rising) (h .fair) (accepted-sound s h) ready (h .parts) (h .joined) (h .printerDelta) (s .messages) (h .sent) suffice xs ys m e);
-        sameAnswers = rw (h .printerFresh) (answers-noted (s .lent) (s .instead) (acceptedIn s) (h .printerArea) (h .rising) (h .fair) (accepted-sound s h) ready (h .parts) (h .joined) (h .printerDelta) (s .messages) (h .sent) suffice);
-        sameAcknowledgement = rw (h .printerFresh) (acknowledgement-noted (s .lent) (s .instead) (acceptedIn s) (h .printerArea) (h .rising) (h .fair) (accepted-sound s h) ready (h .parts) (h .joined) (h .printerDelta) (s .messages) (h .sent) suffice);
-        sameTicks = rw (h .printerFresh) (ticks-noted (s .lent) (s .instead) (acceptedIn s) (h .printerArea) (h .rising) (h .fair) (accepted-sound s h) ready (h .parts) (h .joined) (h .printerDelta) (s .messages) (h .sent) suffice);
+        tables = g .tables;
+        acknowledgements = g .acknowledgements;
+        sameAnswers = g .sameAnswers;
+        sameAcknowledgement = g .sameAcknowledgement;
+        sameTicks = g .sameTicks;
       }

@@ -32,7 +32,7 @@ use Rattle.laws.specs.TableRoundTrip.{back}
 use Rattle.laws.specs.BuilderForm.{of-number, Built, built-sound}
 use Rattle.laws.specs.BuilderForm as Builder
 use Rattle.session.specs.Runs.{ControllerCall, addSnap, setDeltaTick, Controller, freshController, Accepted, controllerCall, acceptedFrom, packed, messagesOf, Printer, freshPrinter, Lent, afterMessages, answers, heldBy}
-use Rattle.session.specs.Statement.{Among, here, there, All, BuiltCall, Rising, Fair, Sent, Session, Holds, Demand3}
+use Rattle.session.specs.Statement.{Among, here, there, All, BuiltCall, Rising, AcceptedAt, Fair, Sent, Session, Holds, Demand3}
 use Rattle.session.specs.Statement as Statement
 use Rattle.session.specs.Lists.{contra}
 use Rattle.session.specs.Sufficing.{messagesFine, callsFine, messages-suffice, calls-suffice}
@@ -160,7 +160,7 @@ rises =
     (Statement.more 0 refl (omega arith) Statement.none Statement.none))
 
 -- a table's delta is short, and its parts are sent
-fair : (a : Accepted) (l : List Accepted) → sizesMatch [] (a .delta .updated) ≡ true → length (packed [] a) ≡ 1007 → Fair [] (λ t. false) l a
+fair : (a : Accepted) (l : ℤ → Table → Type 0) → sizesMatch [] (a .delta .updated) ≡ true → length (packed [] a) ≡ 1007 → Fair [] (λ t. false) l a
 fair a l e q = record { matches = e; short = rw q (omega arith); equal = λ z. contra z refl }
 
 -- a message of an accepted table
@@ -179,11 +179,11 @@ all-sent =
     Statement.more a (Statement.more b (Statement.more c (Statement.more d (Statement.more d (Statement.more c (Statement.more e Statement.none))))))
 
 -- all deltas are short
-all-fair : All (Fair [] (λ t. false) log) log
+all-fair : All (Fair [] (λ t. false) (AcceptedAt log)) log
 all-fair =
-    Statement.more (fair third log (computed .matches .2) (computed .short .2))
-    (Statement.more (fair second log (computed .matches .1) (computed .short .1))
-    (Statement.more (fair first log (computed .matches .0) (computed .short .0)) Statement.none))
+    Statement.more (fair third (AcceptedAt log) (computed .matches .2) (computed .short .2))
+    (Statement.more (fair second (AcceptedAt log) (computed .matches .1) (computed .short .1))
+    (Statement.more (fair first (AcceptedAt log) (computed .matches .0) (computed .short .0)) Statement.none))
 
 -- the session
 abbrev pub example : Session
@@ -205,7 +205,7 @@ example-holds =
       printerFresh = refl;
       built = all-built;
       rising = subst Rising (sym (computed .log)) rises;
-      fair = subst (λ (l : List Accepted). All (Fair [] (λ t. false) l) l) (sym (computed .log)) all-fair;
+      fair = subst (λ (l : List Accepted). All (Fair [] (λ t. false) (AcceptedAt l)) l) (sym (computed .log)) all-fair;
       sent = subst (λ (l : List Accepted). All (Sent [] (λ t. false) l) messages) (sym (computed .log)) all-sent;
       controllerSuffices = calls-suffice controller calls (computed .calls-fine);
       printerSuffices = messages-suffice lent printer messages (computed .messages-fine);

@@ -1,6 +1,7 @@
 -- Demand 3: a controller, a printer and a radio that loses, repeats and reorders. Assumes nothing.
 pub mod Runs
 pub mod Statement
+pub mod LinkStatement
 pub mod Lists
 pub mod PartsCame
 pub mod HeldTicks
@@ -18,6 +19,7 @@ pub mod PrinterCalls
 pub mod History
 pub mod Acknowledging
 pub mod PrinterRuns
+pub mod Agreeing
 pub mod Dropping
 pub mod ControllerSteps
 pub mod ControllerState

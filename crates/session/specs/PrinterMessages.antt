@@ -12,7 +12,7 @@ use lib.ListN.{length}
 use Rattle.definitions.specs.Ints.{wrappingSub}
 use Rattle.definitions.specs.Areas.{lay}
 use Rattle.definitions.specs.Outcome.{return, _>>=_}
-use Rattle.definitions.specs.Tables.{num, crc}
+use Rattle.definitions.specs.Tables.{Table, num, crc}
 use Rattle.definitions.specs.Messages.{Snap, SnapEmpty, SnapSingle, Message, numParts, partBytes}
 use Rattle.definitions.specs.Applying.{applyDelta}
 use Rattle.definitions.specs.Types.{typed}
@@ -25,18 +25,18 @@ use Rattle.session.specs.Runs.{Accepted, packed, emptyMessage}
 use Rattle.session.specs.Statement.{Among, All, Rising, Fair, Base, Suffices}
 use Rattle.session.specs.HeldTicks.{same-self}
 use Rattle.session.specs.Sending.{isLarge, Goes, asPart, asSingle, asEmpty, partOfTable, singleOfTable}
-use Rattle.session.specs.PrinterState.{Numbered, numbered, Agree}
+use Rattle.session.specs.PrinterState.{Naming, Numbered, numbered, Agree}
 use Rattle.session.specs.ReceiverSteps.{single-old, single-takes, empty-old, empty-takes}
 use Rattle.session.specs.PrinterSteps.{Ready, one-base, base-back, Same}
 use Rattle.session.specs.PrinterWhole.{whole-same}
 use Rattle.session.specs.PrinterParts.{part-same}
 
-module _ (sizes : List ℤ) (instead : ℤ → Bool) (es : List Accepted) (n : ℕ) (up : Rising es) (fair : All (Fair sizes instead es) es) where
-  module _ (a : Accepted) (m : Among a es) (y : Ready sizes es a) (r : Receiver) (s : Storage) (g : Logbook) (area second : List ℕ) (delta : List ℤ) (first : 28800 ≤ length area) (other : 28800 ≤ length second) (agree : Agree sizes instead es n r area s g) where
+module _ (sizes : List ℤ) (instead : ℤ → Bool) (es : List Accepted) (At : ℤ → Table → Type 0) (n : ℕ) (up : Rising es) (nm : Naming es At) (fair : All (Fair sizes instead At) es) where
+  module _ (a : Accepted) (m : Among a es) (y : Ready sizes At a) (r : Receiver) (s : Storage) (g : Logbook) (area second : List ℕ) (delta : List ℤ) (first : 28800 ≤ length area) (other : 28800 ≤ length second) (agree : Agree sizes instead es At n r area s g) where
     -- what is claimed of a message
     abbrev Claim : Message → Type 0
     Claim x =
-        Suffices (handle sizes n (record { receiver = r; storage = s }) x area second delta .answer) → Same sizes instead es n (handle sizes n (record { receiver = r; storage = s }) x area second delta) (noteMessage g (x .numbers))
+        Suffices (handle sizes n (record { receiver = r; storage = s }) x area second delta .answer) → Same sizes instead es At n (handle sizes n (record { receiver = r; storage = s }) x area second delta) (noteMessage g (x .numbers))
 
     -- the table's tick as a number
     k : Numbered a
@@ -44,11 +44,11 @@ module _ (sizes : List ℤ) (instead : ℤ → Bool) (es : List Accepted) (n : �
 
     -- its distance leads back to its base
     back : wrappingSub (pos (k .number)) (wrappingSub (pos (k .number)) (a .base)) ≡ a .base
-    back = base-back (k .number) up (k .int) (y .named)
+    back = base-back (k .number) nm (k .int) (y .named)
 
     -- an empty delta makes the table, where the table is equal to its base or the delta is empty
-    empty-made : Base es (a .base) (a .table) ⊎ (a .delta ≡ emptyDelta) → (applyDelta (y .base) emptyDelta >>= typed) ≡ return (a .table)
-    empty-made (inl b) = rw (one-base up b (y .named)) (y .unchanged)
+    empty-made : Base At (a .base) (a .table) ⊎ (a .delta ≡ emptyDelta) → (applyDelta (y .base) emptyDelta >>= typed) ≡ return (a .table)
+    empty-made (inl b) = rw (one-base nm b (y .named)) (y .unchanged)
     empty-made (inr e) = rw (← e) (y .applies)
 
     -- a part of several
@@ -56,7 +56,7 @@ module _ (sizes : List ℤ) (instead : ℤ → Bool) (es : List Accepted) (n : �
     unfolding handle num
     part p large below =
         subst (λ (t : ℤ). Claim (record { numbers = Snap t (wrappingSub t (a .base)) (pos (numParts (packed sizes a))) (pos p) (crc (a .table)); bytes = partBytes (packed sizes a) p })) (sym (k .tick-is))
-        (λ s. rw back (part-same sizes instead es n up fair m (k .tick-is) large y p below area second delta first other back agree s))
+        (λ s. rw back (part-same sizes instead es At n up nm fair m (k .tick-is) large y p below area second delta first other back agree s))
 
     -- the single message
     single : isLarge sizes instead a ≡ false → length (packed sizes a) ≤ 900 → Claim (singleOfTable sizes instead a)
@@ -65,7 +65,7 @@ module _ (sizes : List ℤ) (instead : ℤ → Bool) (es : List Accepted) (n : �
         subst (λ (t : ℤ). Claim (record { numbers = SnapSingle t (wrappingSub t (a .base)) (crc (a .table)); bytes = packed sizes a })) (sym (k .tick-is))
         (λ s.
         rw back
-        (whole-same sizes instead es n up fair m (k .tick-is) small area second delta
+        (whole-same sizes instead es At n up nm fair m (k .tick-is) small area second delta
         (λ r. takeSingle r (pos (k .number)) (wrappingSub (pos (k .number)) (a .base)) (crc (a .table)) (packed sizes a) area second)
         (some (record { length = length (packed sizes a); crc = crc (a .table) }))
         (lay (packed sizes a) second) (y .read) (y .base)
@@ -75,13 +75,13 @@ module _ (sizes : List ℤ) (instead : ℤ → Bool) (es : List Accepted) (n : �
         (same-self (crc (a .table))) (y .named) (rw (y .delta-is) (y .applies)) agree s))
 
     -- the empty message
-    empty : isLarge sizes instead a ≡ false → Base es (a .base) (a .table) ⊎ (a .delta ≡ emptyDelta) → Claim (emptyMessage a)
+    empty : isLarge sizes instead a ≡ false → Base At (a .base) (a .table) ⊎ (a .delta ≡ emptyDelta) → Claim (emptyMessage a)
     unfolding handle
     empty small e =
         subst (λ (t : ℤ). Claim (record { numbers = SnapEmpty t (wrappingSub t (a .base)); bytes = [] })) (sym (k .tick-is))
         (λ s.
         rw back
-        (whole-same sizes instead es n up fair m (k .tick-is) small area second delta
+        (whole-same sizes instead es At n up nm fair m (k .tick-is) small area second delta
         (λ r. takeEmpty r (pos (k .number)) (wrappingSub (pos (k .number)) (a .base)) area second)
         Option.none second emptyRead (y .base)
         (λ r form o. empty-old r (pos (k .number)) (wrappingSub (pos (k .number)) (a .base)) area second form o)
@@ -89,7 +89,7 @@ module _ (sizes : List ℤ) (instead : ℤ → Bool) (es : List Accepted) (n : �
         refl refl (y .named) (empty-made e) agree s))
 
     -- a message of an accepted table
-    pub message-same : (x : Message) → Goes sizes instead es a x → Claim x
+    pub message-same : (x : Message) → Goes sizes instead At a x → Claim x
     message-same x (asPart p large below) = part p large below
     message-same x (asSingle small short) = single small short
     message-same x (asEmpty small e) = empty small e

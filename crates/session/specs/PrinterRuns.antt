@@ -7,15 +7,15 @@ use mathlib.Core.Option.{some}
 use Prim.Native.Nat.{ℕ, _<_}
 use native.Mathlib.Omega.{arith}
 use lib.IntN.{ℤ, pos}
-use Rattle.definitions.specs.Tables.{num, sound}
+use Rattle.definitions.specs.Tables.{Table, num}
 use Rattle.definitions.specs.Messages.{Message}
 use Rattle.definitions.specs.Storage.{StoredSnap}
 use Rattle.definitions.specs.Logbook.{Logbook, freshLogbook, acknowledges, noteMessage}
 use Rattle.session.specs.Runs.{Accepted, Printer, freshPrinter, Lent, left, printerCall, afterMessages, answerOf, answers, heldBy, afterNotes, noted}
-use Rattle.session.specs.Statement.{Among, All, none, more, Rising, Fair, Sent, Suffices, Completes, IsAccepted, tickOf, partOf, countOf}
+use Rattle.session.specs.Statement.{Among, All, none, more, Rising, Fair, Sent, Suffices, Completes, tickOf, partOf, countOf}
 use Rattle.session.specs.Lists.{all-among, all-front, all-at}
 use Rattle.session.specs.Sending.{Goes, asPart, asSingle, asEmpty, message-goes}
-use Rattle.session.specs.PrinterState.{numbered}
+use Rattle.session.specs.PrinterState.{Naming, AtTick, numbered}
 use Rattle.session.specs.PrinterSteps.{Ready}
 use Rattle.session.specs.PrinterCalls.{Keeps, keeps-held, keeps-fresh, agree-held, agree-ticks, agree-acknowledged, Alike, call-same}
 use Rattle.session.specs.History.{Knows, nothing, message-known}
@@ -41,24 +41,24 @@ module _ (lent : Lent) where
   front-suffice : (p : Printer) (ms ns : List Message) → AllSuffice lent p (ms ++ ns) → AllSuffice lent p ms
   front-suffice p ms ns f xs ys x e = f xs (ys ++ ns) x (ap (λ (l : List Message). l ++ ns) e ∙ append-assoc xs (x ∷ ys) ns)
 
-module _ (lent : Lent) (instead : ℤ → Bool) (es : List Accepted) (n : ℕ) (up : Rising es) (fair : All (Fair (lent .sizes) instead es) es) (sounds : All (λ (a : Accepted). sound (a .table) ≡ true) es) (ready : All (Ready (lent .sizes) es) es) where
+module _ (lent : Lent) (instead : ℤ → Bool) (es : List Accepted) (At : ℤ → Table → Type 0) (n : ℕ) (up : Rising es) (nm : Naming es At) (fair : All (Fair (lent .sizes) instead At) es) (ready : All (Ready (lent .sizes) At) es) where
   -- a message that was sent, with the table that it belongs to
   record Known (m : Message) : Type 0 where
     table : Accepted
     among : Among table es
-    goes : Goes (lent .sizes) instead es table m
+    goes : Goes (lent .sizes) instead At table m
     number : ℕ
     tick-is : tickOf (m .numbers) ≡ pos number
     part-below : partOf (m .numbers) < countOf (m .numbers)
 
   -- a table's message has its tick
-  goes-tick : {a : Accepted} {m : Message} → Goes (lent .sizes) instead es a m → tickOf (m .numbers) ≡ a .tick
+  goes-tick : {a : Accepted} {m : Message} → Goes (lent .sizes) instead At a m → tickOf (m .numbers) ≡ a .tick
   goes-tick (asPart p big l) = refl
   goes-tick (asSingle small l) = refl
   goes-tick (asEmpty small e) = refl
 
   -- a part number is below the count
-  goes-below : {a : Accepted} {m : Message} → Goes (lent .sizes) instead es a m → partOf (m .numbers) < countOf (m .numbers)
+  goes-below : {a : Accepted} {m : Message} → Goes (lent .sizes) instead At a m → partOf (m .numbers) < countOf (m .numbers)
   unfolding num
   goes-below (asPart p big l) = l
   goes-below (asSingle small l) = omega arith
@@ -67,7 +67,7 @@ module _ (lent : Lent) (instead : ℤ → Bool) (es : List Accepted) (n : ℕ) (
   -- a message that was sent is known
   known : {m : Message} → Sent (lent .sizes) instead es m → Known m
   known {m} s =
-      let g = message-goes (lent .sizes) instead es (s .table) m (all-among fair (s .accepted) .equal) (s .goes) in
+      let g = message-goes (lent .sizes) instead At (s .table) m (all-among fair (s .accepted) .equal) (s .goes) in
       let k = numbered up (s .accepted) in
       record {
         table = s .table;
@@ -80,14 +80,14 @@ module _ (lent : Lent) (instead : ℤ → Bool) (es : List Accepted) (n : ℕ) (
 
   -- printer and logbook after some messages
   record State (xs : List Message) (p : Printer) (g : Logbook) : Type 0 where
-    keeps : Keeps lent instead es n up fair sounds p g
+    keeps : Keeps lent instead es At n up nm fair p g
     knows : Knows xs g
 
   -- one call
-  call : {p : Printer} {g : Logbook} {m : Message} (xs : List Message) → Sent (lent .sizes) instead es m → Suffices (printerCall lent p m .answer) → State xs p g → Alike lent instead es n up fair sounds (printerCall lent p m) (noteMessage g (m .numbers))
+  call : {p : Printer} {g : Logbook} {m : Message} (xs : List Message) → Sent (lent .sizes) instead es m → Suffices (printerCall lent p m .answer) → State xs p g → Alike lent instead es At n up nm fair (printerCall lent p m) (noteMessage g (m .numbers))
   call {m = m} xs s f i =
       let q = known s in
-      call-same lent instead es n up fair sounds (i .keeps) (q .table) m (q .among) (all-among ready (q .among)) (q .goes) f
+      call-same lent instead es At n up nm fair (i .keeps) (q .table) m (q .among) (all-among ready (q .among)) (q .goes) f
 
   -- printer and logbook after one message more
   next : {p : Printer} {g : Logbook} {m : Message} (xs : List Message) → Sent (lent .sizes) instead es m → Suffices (printerCall lent p m .answer) → State xs p g → State (xs ++ m ∷ []) (left (printerCall lent p m)) (noteMessage g (m .numbers) .logbook)
@@ -121,18 +121,18 @@ module _ (lent : Lent) (instead : ℤ → Bool) (es : List Accepted) (n : ℕ) (
 
     -- before any message
     begin : State [] printer freshLogbook
-    begin = record { keeps = keeps-fresh lent instead es n up fair sounds parts joined delta; knows = nothing refl }
+    begin = record { keeps = keeps-fresh lent instead es At n up nm fair parts joined delta; knows = nothing refl }
 
     -- after those at the front
     after : (xs ys : List Message) → ms ≡ xs ++ ys → State xs (afterMessages lent printer xs) (afterNotes freshLogbook xs)
     after xs ys e =
         run xs [] printer (all-front xs ys (subst (All (Sent (lent .sizes) instead es)) e sent)) (front-suffice lent printer xs ys (subst (AllSuffice lent printer) e suffice)) begin
 
-    -- the tables held are accepted ones
-    pub held-accepted : (xs ys : List Message) → ms ≡ xs ++ ys → All (IsAccepted es) (heldBy (afterMessages lent printer xs))
-    held-accepted xs ys e =
+    -- the tables held are those at their ticks
+    pub held-named : (xs ys : List Message) → ms ≡ xs ++ ys → All (AtTick At) (heldBy (afterMessages lent printer xs))
+    held-named xs ys e =
         let i = after xs ys e .keeps in
-        rw (keeps-held lent instead es n up fair sounds i) (agree-held lent instead es n up fair sounds (i .agree) .1 .accepted)
+        rw (keeps-held lent instead es At n up nm fair i) (agree-held lent instead es At n up nm fair (i .agree) .1 .accepted)
 
     -- a call acknowledges exactly when its message completes its tick
     pub acknowledged-when : (xs ys : List Message) (m : Message) → ms ≡ xs ++ m ∷ ys → (answerOf (printerCall lent (afterMessages lent printer xs) m .answer) ≡ acknowledges (tickOf (m .numbers))) ↔ Completes xs (heldBy (afterMessages lent printer xs)) (m .numbers)
@@ -140,8 +140,8 @@ module _ (lent : Lent) (instead : ℤ → Bool) (es : List Accepted) (n : ℕ) (
         let i = after xs (m ∷ ys) e in
         let s : Sent (lent .sizes) instead es m = all-at xs ys m (subst (All (Sent (lent .sizes) instead es)) e sent) in
         let q = known s in
-        rw (call xs s (suffice xs ys m e) i .answer, keeps-held lent instead es n up fair sounds (i .keeps))
-        (acknowledges-when xs m (q .number) (q .tick-is) (agree-held lent instead es n up fair sounds (i .keeps .agree) .1 .falls) (afterNotes freshLogbook xs) (q .part-below) (i .knows) (agree-ticks lent instead es n up fair sounds (i .keeps .agree)))
+        rw (call xs s (suffice xs ys m e) i .answer, keeps-held lent instead es At n up nm fair (i .keeps))
+        (acknowledges-when xs m (q .number) (q .tick-is) (agree-held lent instead es At n up nm fair (i .keeps .agree) .1 .falls) (afterNotes freshLogbook xs) (q .part-below) (i .knows) (agree-ticks lent instead es At n up nm fair (i .keeps .agree)))
 
     -- all answers are the logbook's
     pub answers-noted : answers lent printer ms ≡ noted freshLogbook ms
@@ -155,10 +155,10 @@ module _ (lent : Lent) (instead : ℤ → Bool) (es : List Accepted) (n : ℕ) (
     pub acknowledgement-noted : afterMessages lent printer ms .store .ackTick ≡ afterNotes freshLogbook ms .acknowledged
     acknowledgement-noted =
         let i = whole .keeps in
-        rw (i .store-is) (agree-acknowledged lent instead es n up fair sounds (i .agree))
+        rw (i .store-is) (agree-acknowledged lent instead es At n up nm fair (i .agree))
 
     -- the ticks held are the logbook's
     pub ticks-noted : map (λ (x : StoredSnap). x .tick) (heldBy (afterMessages lent printer ms)) ≡ afterNotes freshLogbook ms .held
     ticks-noted =
         let i = whole .keeps in
-        rw (keeps-held lent instead es n up fair sounds i) (agree-ticks lent instead es n up fair sounds (i .agree))
+        rw (keeps-held lent instead es At n up nm fair i) (agree-ticks lent instead es At n up nm fair (i .agree))

@@ -11,13 +11,13 @@ use lib.Dec.{ltb}
 use lib.IntN.{ℤ, pos}
 use lib.ListN.{length, length-append}
 use Rattle.definitions.specs.Ints.{signedLess}
-use Rattle.definitions.specs.Tables.{written, crc}
+use Rattle.definitions.specs.Tables.{Table, written, sound, crc}
 use Rattle.definitions.specs.Messages.{numParts}
 use Rattle.definitions.specs.Receiver.{Receiver, freshReceiver, finishedAt, countIn, abovePrevious, receiverForm, isOld}
 use Rattle.definitions.specs.Storage.{StoredSnap, Storage, storeInts, dropOlder}
 use Rattle.definitions.specs.Logbook.{Logbook, freshLogbook, allCame}
 use Rattle.session.specs.Runs.{Accepted, packed}
-use Rattle.session.specs.Statement.{Among, here, there, All, none, more, Rising, Fair, IsAccepted}
+use Rattle.session.specs.Statement.{Among, here, there, All, none, more, Rising, Fair}
 use Rattle.session.specs.Lists.{all-among}
 use Rattle.session.specs.PartsHeld.{Holding, holding-count, holding-few}
 use Rattle.session.specs.HeldTicks.{ticks, Falls, falls-drop, falls-weaken, all-drop}
@@ -50,6 +50,19 @@ one-accepted (more n e h f r) here here q = refl
 one-accepted {a = a} {b = b} (more n e h f r) here (there m) q = absurd (never-below n (a .tick) (b .tick) e (sym q) (all-among f m))
 one-accepted {a = a} {b = b} (more n e h f r) (there m) here q = absurd (never-below n (b .tick) (a .tick) e q (all-among f m))
 one-accepted (more n e h f r) (there k) (there m) q = one-accepted r k m q
+
+-- ---- the table at a tick
+
+-- the tables that ticks name: one a tick, sound, at ticks that are numbers; those of the deltas that go out are among them
+pub record Naming (es : List Accepted) (At : ℤ → Table → Type 0) : Type 0 where
+  pub one : {t : ℤ} {u v : Table} → At t u → At t v → u ≡ v
+  pub number : {t : ℤ} {u : Table} → At t u → (n : ℕ) × (t ≡ pos n) × (n ≤ 2147483647)
+  pub sounds : {t : ℤ} {u : Table} → At t u → sound u ≡ true
+  pub covers : {a : Accepted} → Among a es → At (a .tick) (a .table)
+
+-- a table that is held is the one at its tick
+abbrev pub AtTick : (ℤ → Table → Type 0) → StoredSnap → Type 0
+AtTick At x = At (x .tick) (x .snap)
 
 -- ---- what is held
 
@@ -105,11 +118,11 @@ storing l k o = record { snaps = l; ackTick = k; deltaTick = o }
 abbrev pub notes : ℤ → List ℕ → List ℤ → Option ℤ → Logbook
 notes t came held k = record { newest = some t; came = came; held = held; acknowledged = k }
 
-module _ (sizes : List ℤ) (instead : ℤ → Bool) (es : List Accepted) (n : ℕ) where
+module _ (sizes : List ℤ) (instead : ℤ → Bool) (es : List Accepted) (At : ℤ → Table → Type 0) (n : ℕ) where
   -- tables accepted at ticks below k, the newest first, at most 100, for which an area of n ints has room
   pub record Held (k : ℕ) (l : List StoredSnap) : Type 0 where
     pub falls : Falls k l
-    pub accepted : All (IsAccepted es) l
+    pub accepted : All (AtTick At) l
     pub few : length l ≤ 100
     pub room : length (storeInts l) ≤ n
 
@@ -135,11 +148,11 @@ module _ (sizes : List ℤ) (instead : ℤ → Bool) (es : List Accepted) (n : �
     waiting : {a : Accepted} {previous : Option ℤ} {lengths area came : List ℕ} {l : List StoredSnap} {k o : Option ℤ} {t : ℕ} → Among a es → a .tick ≡ pos t → isLarge sizes instead a ≡ true → Holding (packed sizes a) lengths area came → allCame (numParts (packed sizes a)) came ≡ false → 0 < length came → abovePrevious previous (pos t) ≡ true → Held t l → Agree (waitingFor sizes previous t a lengths) area (storing l k o) (notes (pos t) came (ticks l) k)
 
   -- few parts, where packed deltas are short
-  pub few-parts : {a : Accepted} → All (Fair sizes instead es) es → Among a es → numParts (packed sizes a) ≤ 32
+  pub few-parts : {a : Accepted} → All (Fair sizes instead At) es → Among a es → numParts (packed sizes a) ≤ 32
   few-parts fair m = omega (arith, all-among fair m .short)
 
   -- the receiver is in form
-  pub agree-form : {r : Receiver} {area : List ℕ} {s : Storage} {g : Logbook} → All (Fair sizes instead es) es → Agree r area s g → receiverForm r ≡ true
+  pub agree-form : {r : Receiver} {area : List ℕ} {s : Storage} {g : Logbook} → All (Fair sizes instead At) es → Agree r area s g → receiverForm r ≡ true
   unfolding receiverForm countIn
   agree-form fair fresh = refl
   agree-form fair (finished m e c h) = refl

@@ -1,5 +1,5 @@
 -- What the manager makes of what its receiver took, beside the logbook. Assumes nothing.
-use mathlib.Core.Path.{_≡_, refl, sym, _∙_, ap}
+use mathlib.Core.Path.{_≡_, refl, sym, _∙_, subst}
 use mathlib.Core.Logic.{_⊎_, inl, inr}
 use mathlib.Core.Bool.{Bool, true}
 use mathlib.Core.List.{List, []}
@@ -11,7 +11,7 @@ use lib.IntN.{ℤ, pos, negsuc}
 use lib.ListN.{length}
 use mir.Syntax.{w32}
 use mir.Val.{SFits}
-use Rattle.definitions.specs.Ints.{signedLess, wrappingSub}
+use Rattle.definitions.specs.Ints.{wrappingSub}
 use Rattle.definitions.specs.Refusals.{capacityError}
 use Rattle.definitions.specs.Warnings.{Counts, plus}
 use Rattle.definitions.specs.Outcome.{Outcome, ok, return, _>>=_}
@@ -27,21 +27,20 @@ use Rattle.definitions.specs.Manager.{Handled, emptyDelta, receivedDelta, fitti
 use Rattle.definitions.specs.Logbook.{Logbook, Note, refused, allCame, heldFor, complete}
 use Rattle.laws.specs.IntLaws.{bits-wrappingSub, wrappingSub-fits, same-bits, bits-lt}
 use Rattle.session.specs.Runs.{Accepted, packed, answerOf}
-use Rattle.session.specs.Statement.{Among, Rising, Base, empty, accepted, Suffices}
+use Rattle.session.specs.Statement.{Among, Rising, Base, empty, named, Suffices}
 use Rattle.session.specs.Lists.{either}
 use Rattle.session.specs.HeldTicks.{ticks}
 use Rattle.session.specs.Sending.{partsNeeded}
-use Rattle.session.specs.PrinterState.{numbered, one-accepted, storing, Held, Agree}
+use Rattle.session.specs.PrinterState.{Naming, storing, Held, Agree}
 use Rattle.session.specs.StoreSteps.{answer-is, suffices-is, reaches}
 use Rattle.session.specs.ReceiverSteps.{Gives, Refuses}
 
 -- ---- what a printer needs of an accepted table
 
 -- its delta was made against its base, and its packed form is read, and applied, as it
-pub record Ready (sizes : List ℤ) (es : List Accepted) (a : Accepted) : Type 0 where
+pub record Ready (sizes : List ℤ) (At : ℤ → Table → Type 0) (a : Accepted) : Type 0 where
   pub base : Table
-  pub named : Base es (a .base) base
-  pub older : signedLess (a .base) (a .tick) ≡ true
+  pub named : Base At (a .base) base
   pub read : DeltaRead
   pub reads : readDelta sizes (stream (packed sizes a)) ≡ return read
   pub delta-is : read .delta ≡ a .delta
@@ -49,27 +48,27 @@ pub record Ready (sizes : List ℤ) (es : List Accepted) (a : Accepted) : Type 0
   pub unchanged : (applyDelta base emptyDelta >>= typed) ≡ return base
 
 -- the table of a base tick is one
-pub one-base : {es : List Accepted} {b : ℤ} {t u : Table} → Rising es → Base es b t → Base es b u → t ≡ u
-one-base {es} {b} {t} {u} up p q = go t p u q
+pub one-base : {es : List Accepted} {At : ℤ → Table → Type 0} {b : ℤ} {t u : Table} → Naming es At → Base At b t → Base At b u → t ≡ u
+one-base {At = At} nm p q = go _ p _ q
   where
-    negative : {c : Accepted} → Among c es → c .tick ≡ negsuc 0 → ⊥
-    negative m e =
-        let k = numbered up m in
-        let z : _≡_ {A = ℤ} (pos (k .number)) (negsuc 0) = sym (k .tick-is) ∙ e in
+    negative : {c : ℤ} {v : Table} → At c v → c ≡ negsuc 0 → ⊥
+    negative at e =
+        let (k, q, h) = nm .number at in
+        let z : _≡_ {A = ℤ} (pos k) (negsuc 0) = sym q ∙ e in
         let y : _≡_ {A = ℕ} 0 1 = cc in
         omega arith
 
-    from : {c : ℤ} (v : Table) → Base es c v → (d : Accepted) → Among d es → c ≡ d .tick → v ≡ d .table
-    from v empty d m e = absurd (negative m (sym e))
-    from v (accepted {a = c} k) d m e = ap (λ (x : Accepted). x .table) (one-accepted up k m e)
-
-    none-named : {c : ℤ} (v : Table) → Base es c v → c ≡ negsuc 0 → v ≡ []
+    none-named : {c : ℤ} (v : Table) → Base At c v → c ≡ negsuc 0 → v ≡ []
     none-named v empty e = refl
-    none-named v (accepted k) e = absurd (negative k e)
+    none-named v (named at) e = absurd (negative at e)
 
-    go : {c : ℤ} (v : Table) → Base es c v → (w : Table) → Base es c w → v ≡ w
+    from : {c d : ℤ} {w : Table} (v : Table) → Base At c v → At d w → c ≡ d → v ≡ w
+    from v empty at e = absurd (negative at (sym e))
+    from v (named to) at e = nm .one (subst (λ (z : ℤ). At z v) e to) at
+
+    go : {c : ℤ} (v : Table) → Base At c v → (w : Table) → Base At c w → v ≡ w
     go v empty w q = sym (none-named w q refl)
-    go v (accepted {a = c} k) w q = sym (from w q c k refl)
+    go v (named at) w q = sym (from w q at refl)
 
 -- a distance leads back to the base
 distance-back : {a b : ℤ} → SFits w32 a → SFits w32 b → wrappingSub a (wrappingSub a b) ≡ b
@@ -77,12 +76,12 @@ distance-back {a} {b} f g =
     same-bits (wrappingSub-fits a (wrappingSub a b)) g
     (omega (arith, bits-wrappingSub a (wrappingSub a b), bits-wrappingSub a b, bits-lt f, bits-lt g))
 
--- a distance from an accepted table's tick leads back to its base
-pub base-back : {es : List Accepted} {b : ℤ} {t : Table} (n : ℕ) → Rising es → n ≤ 2147483647 → Base es b t → wrappingSub (pos n) (wrappingSub (pos n) b) ≡ b
-base-back n up h empty = distance-back {a = pos n} {b = negsuc 0} (record { sfits = omega arith }) (record { sfits = omega arith })
-base-back n up h (accepted {a = c} m) =
-    let k = numbered up m in
-    rw (k .tick-is) (distance-back {a = pos n} {b = pos (k .number)} (record { sfits = omega arith }) (record { sfits = omega (arith, k .int) }))
+-- a distance from a table's tick leads back to its base
+pub base-back : {es : List Accepted} {At : ℤ → Table → Type 0} {b : ℤ} {t : Table} (n : ℕ) → Naming es At → n ≤ 2147483647 → Base At b t → wrappingSub (pos n) (wrappingSub (pos n) b) ≡ b
+base-back n nm h empty = distance-back {a = pos n} {b = negsuc 0} (record { sfits = omega arith }) (record { sfits = omega arith })
+base-back n nm h (named at) =
+    let (k, q, i) = nm .number at in
+    rw q (distance-back {a = pos n} {b = pos k} (record { sfits = omega arith }) (record { sfits = omega arith }))
 
 -- ---- the steps behind the receiver
 
@@ -113,30 +112,30 @@ fitting sizes bytes n c r e =
     (λ q. inl (rw (e, q) (record { counts = _; gives = refl })))
     (λ q. inr (rw (e, q) (record { counts = _; refuses = refl })))
 
-module _ (sizes : List ℤ) (instead : ℤ → Bool) (es : List Accepted) (n : ℕ) where
+module _ (sizes : List ℤ) (instead : ℤ → Bool) (es : List Accepted) (At : ℤ → Table → Type 0) (n : ℕ) where
   -- a message's outcome is the logbook's, and printer and logbook agree afterwards
   pub record Same (h : Handled) (k : Note) : Type 0 where
     pub answer : answerOf (h .answer) ≡ k .answer
-    pub agree : Agree sizes instead es n (h .manager .receiver) (h .parts) (h .manager .storage) (k .logbook)
+    pub agree : Agree sizes instead es At n (h .manager .receiver) (h .parts) (h .manager .storage) (k .logbook)
 
   -- a refused message changes nothing
-  pub refused-same : {r : Receiver} {s : Storage} {area : List ℕ} {g : Logbook} (second : List ℕ) (delta : List ℤ) (o : Outcome Taken) (e : ℕ) → Refuses o e → Agree sizes instead es n r area s g → Same (taken sizes n r s area second delta o) (record { answer = refused e; logbook = g })
+  pub refused-same : {r : Receiver} {s : Storage} {area : List ℕ} {g : Logbook} (second : List ℕ) (delta : List ℤ) (o : Outcome Taken) (e : ℕ) → Refuses o e → Agree sizes instead es At n r area s g → Same (taken sizes n r s area second delta o) (record { answer = refused e; logbook = g })
   unfolding leaves afterReceiving
   refused-same second delta o e f i = rw (f .refuses) (record { answer = refl; agree = i })
 
-  module _ (up : Rising es) {a : Accepted} {t : ℕ} (m : Among a es) (is : a .tick ≡ pos t) (came : List ℕ) (whole : allCame (partsNeeded sizes instead a) came ≡ true) where
+  module _ (up : Rising es) (nm : Naming es At) {a : Accepted} {t : ℕ} (m : Among a es) (is : a .tick ≡ pos t) (came : List ℕ) (whole : allCame (partsNeeded sizes instead a) came ≡ true) where
     -- the delta was read, and fits, or not
-    stores : (l : List StoredSnap) (k o : Option ℤ) (area second : List ℕ) (delta : List ℤ) (w : Counts) (c : Option DataAndCrc) (d : Delta) (B : Table) (x : Outcome Delta) → Gives x d ⊎ Refuses x capacityError → sumFits (sumOf c) (a .table) ≡ true → Base es (a .base) B → (applyDelta B d >>= typed) ≡ return (a .table) → Held sizes instead es n t l → Suffices (afterReading n w (finishedWith a t c area second w) (deltaOf a t c) (storing l k o) delta x .answer) → Same (afterReading n w (finishedWith a t c area second w) (deltaOf a t c) (storing l k o) delta x) (complete (pos t) (a .base) came (heldFor (a .base) (ticks l)))
+    stores : (l : List StoredSnap) (k o : Option ℤ) (area second : List ℕ) (delta : List ℤ) (w : Counts) (c : Option DataAndCrc) (d : Delta) (B : Table) (x : Outcome Delta) → Gives x d ⊎ Refuses x capacityError → sumFits (sumOf c) (a .table) ≡ true → Base At (a .base) B → (applyDelta B d >>= typed) ≡ return (a .table) → Held sizes instead es At n t l → Suffices (afterReading n w (finishedWith a t c area second w) (deltaOf a t c) (storing l k o) delta x .answer) → Same (afterReading n w (finishedWith a t c area second w) (deltaOf a t c) (storing l k o) delta x) (complete (pos t) (a .base) came (heldFor (a .base) (ticks l)))
     unfolding afterReading
-    stores l k o area second delta w c d B x (inl y) fits named made h s =
+    stores l k o area second delta w c d B x (inl y) fits base made h s =
         let q = addDelta n (sumOf c) (a .base) (pos t) d (storing l k o) .answer in
-        let z = reaches sizes instead es n up m is area came whole (sumOf c) fits (a .base) B d l k o named made h (suffices-is (plus w (y .counts)) q (rw (y .gives) at s)) in
+        let z = reaches sizes instead es At n up nm m is area came whole (sumOf c) fits (a .base) B d l k o base made h (suffices-is (plus w (y .counts)) q (rw (y .gives) at s)) in
         rw (y .gives) (record { answer = answer-is (plus w (y .counts)) q ∙ z .answer; agree = z .agree })
-    stores l k o area second delta w c d B x (inr y) fits named made h s = absurd ((rw (y .refuses) at s) .0 refl)
+    stores l k o area second delta w c d B x (inr y) fits base made h s = absurd ((rw (y .refuses) at s) .0 refl)
 
     -- a finished tick reaches the store
-    pub finishes : (r : Receiver) (l : List StoredSnap) (k o : Option ℤ) (area second : List ℕ) (delta : List ℤ) (x : Outcome Taken) (c : Option DataAndCrc) (area′ second′ : List ℕ) (read : DeltaRead) (B : Table) → Gives x (finishing a t c area′ second′) → receivedDelta sizes second′ c ≡ return read → sumFits (sumOf c) (a .table) ≡ true → Base es (a .base) B → (applyDelta B (read .delta) >>= typed) ≡ return (a .table) → Held sizes instead es n t l → Suffices (taken sizes n r (storing l k o) area second delta x .answer) → Same (taken sizes n r (storing l k o) area second delta x) (complete (pos t) (a .base) came (heldFor (a .base) (ticks l)))
+    pub finishes : (r : Receiver) (l : List StoredSnap) (k o : Option ℤ) (area second : List ℕ) (delta : List ℤ) (x : Outcome Taken) (c : Option DataAndCrc) (area′ second′ : List ℕ) (read : DeltaRead) (B : Table) → Gives x (finishing a t c area′ second′) → receivedDelta sizes second′ c ≡ return read → sumFits (sumOf c) (a .table) ≡ true → Base At (a .base) B → (applyDelta B (read .delta) >>= typed) ≡ return (a .table) → Held sizes instead es At n t l → Suffices (taken sizes n r (storing l k o) area second delta x .answer) → Same (taken sizes n r (storing l k o) area second delta x) (complete (pos t) (a .base) came (heldFor (a .base) (ticks l)))
     unfolding leaves afterReceiving
-    finishes r l k o area second delta x c area′ second′ read B g got fits named made h s =
+    finishes r l k o area second delta x c area′ second′ read B g got fits base made h s =
         rw (g .gives)
-        (stores l k o area′ second′ delta (g .counts) c (read .delta) B (fittingDelta sizes second′ (length delta) c) (fitting sizes second′ (length delta) c read got) fits named made h (rw (g .gives) at s))
+        (stores l k o area′ second′ delta (g .counts) c (read .delta) B (fittingDelta sizes second′ (length delta) c) (fitting sizes second′ (length delta) c read got) fits base made h (rw (g .gives) at s))

@@ -24,17 +24,17 @@ use Rattle.session.specs.Statement.{Among, All, none, Rising, Fair, Base
 use Rattle.session.specs.Lists.{contra, either}
 use Rattle.session.specs.HeldTicks.{ticks, end}
 use Rattle.session.specs.Sending.{isLarge, partsNeeded}
-use Rattle.session.specs.PrinterState.{one-accepted, waitingFor, storing, notes, Held, held-weaken, Agree, fresh, finished, waiting, finished-old, finished-new, waiting-old, agree-form}
+use Rattle.session.specs.PrinterState.{Naming, one-accepted, waitingFor, storing, notes, Held, held-weaken, Agree, fresh, finished, waiting, finished-old, finished-new, waiting-old, agree-form}
 use Rattle.session.specs.LogbookSteps.{note-older, note-newer, note-full}
 use Rattle.session.specs.PrinterSteps.{Same, taken, refused-same, finishing, finishes}
 use Rattle.session.specs.ReceiverSteps.{Gives, Refuses}
 
 -- nothing is held
-pub held-nothing : (sizes : List ℤ) (instead : ℤ → Bool) (es : List Accepted) (n t : ℕ) → Held sizes instead es n t []
+pub held-nothing : (sizes : List ℤ) (instead : ℤ → Bool) (es : List Accepted) (At : ℤ → Table → Type 0) (n t : ℕ) → Held sizes instead es At n t []
 unfolding storeInts
-held-nothing sizes instead es n t = record { falls = end; accepted = none; few = omega arith; room = omega arith }
+held-nothing sizes instead es At n t = record { falls = end; accepted = none; few = omega arith; room = omega arith }
 
-module _ (sizes : List ℤ) (instead : ℤ → Bool) (es : List Accepted) (n : ℕ) (up : Rising es) (fair : All (Fair sizes instead es) es) {a : Accepted} {t : ℕ} (m : Among a es) (is : a .tick ≡ pos t) where
+module _ (sizes : List ℤ) (instead : ℤ → Bool) (es : List Accepted) (At : ℤ → Table → Type 0) (n : ℕ) (up : Rising es) (nm : Naming es At) (fair : All (Fair sizes instead At) es) {a : Accepted} {t : ℕ} (m : Among a es) (is : a .tick ≡ pos t) where
   -- the table accepted at this tick is this one
   pub same-entry : {c : Accepted} (u : ℕ) → Among c es → c .tick ≡ pos u → t ≡ u → c ≡ a
   same-entry u k e q = one-accepted up k m (e ∙ ap pos (sym q) ∙ sym is)
@@ -53,23 +53,23 @@ module _ (sizes : List ℤ) (instead : ℤ → Bool) (es : List Accepted) (n : �
     module _ (area second : List ℕ) (delta : List ℤ) (f : Receiver → Outcome Taken) (c : Option DataAndCrc) (second′ : List ℕ) (read : DeltaRead) (B : Table)
         (old : (r : Receiver) → receiverForm r ≡ true → isOld r (pos t) ≡ true → Refuses (f r) oldDelta)
         (new : (r : Receiver) → receiverForm r ≡ true → isOld r (pos t) ≡ false → Gives (f r) (finishing a t c area second′))
-        (got : receivedDelta sizes second′ c ≡ return read) (fits : sumFits (sumOf c) (a .table) ≡ true) (named : Base es (a .base) B) (made : (applyDelta B (read .delta) >>= typed) ≡ return (a .table)) where
+        (got : receivedDelta sizes second′ c ≡ return read) (fits : sumFits (sumOf c) (a .table) ≡ true) (named : Base At (a .base) B) (made : (applyDelta B (read .delta) >>= typed) ≡ return (a .table)) where
       -- a message that finishes its tick at once
-      pub whole-same : {r : Receiver} {s : Storage} {g : Logbook} → Agree sizes instead es n r area s g → Suffices (taken sizes n r s area second delta (f r) .answer) → Same sizes instead es n (taken sizes n r s area second delta (f r)) (note g (pos t) (a .base) 0 1)
+      pub whole-same : {r : Receiver} {s : Storage} {g : Logbook} → Agree sizes instead es At n r area s g → Suffices (taken sizes n r s area second delta (f r) .answer) → Same sizes instead es At n (taken sizes n r s area second delta (f r)) (note g (pos t) (a .base) 0 1)
       unfolding note partCame allCame isOld
       whole-same (fresh {o = o}) s =
-          let i = agree-form sizes instead es n fair (fresh {area = area} {o = o}) in
-          finishes sizes instead es n up m is (0 ∷ []) enough freshReceiver [] Option.none o area second delta (f freshReceiver) c area second′ read B (new freshReceiver i refl) got fits named made (held-nothing sizes instead es n t) s
+          let i = agree-form sizes instead es At n fair (fresh {area = area} {o = o}) in
+          finishes sizes instead es At n up nm m is (0 ∷ []) enough freshReceiver [] Option.none o area second delta (f freshReceiver) c area second′ read B (new freshReceiver i refl) got fits named made (held-nothing sizes instead es At n t) s
       whole-same (finished {a = y} {came = came} {l = l} {k = k} {o = o} {t = u} x e w h) s =
-          let g : Agree sizes instead es n (finishedAt (pos u)) area (storing l k o) (notes (pos u) came (ticks l) k) = finished x e w h in
-          let i = agree-form sizes instead es n fair g in
+          let g : Agree sizes instead es At n (finishedAt (pos u)) area (storing l k o) (notes (pos u) came (ticks l) k) = finished x e w h in
+          let i = agree-form sizes instead es At n fair g in
           either (ltb u t)
           (λ q.
           let z : u < t = ltb-true u t q in
           rw (note-newer t u (a .base) 0 1 came (ticks l) k z)
-          (finishes sizes instead es n up m is (0 ∷ []) enough (finishedAt (pos u)) l k o area second delta (f (finishedAt (pos u))) c area second′ read B (new (finishedAt (pos u)) i (finished-new u t q)) got fits named made (held-weaken sizes instead es n t z h) s))
+          (finishes sizes instead es At n up nm m is (0 ∷ []) enough (finishedAt (pos u)) l k o area second delta (f (finishedAt (pos u))) c area second′ read B (new (finishedAt (pos u)) i (finished-new u t q)) got fits named made (held-weaken sizes instead es At n t z h) s))
           (λ q.
-          let v = refused-same sizes instead es n second delta (f (finishedAt (pos u))) oldDelta (old (finishedAt (pos u)) i (finished-old u t q)) g in
+          let v = refused-same sizes instead es At n second delta (f (finishedAt (pos u))) oldDelta (old (finishedAt (pos u)) i (finished-old u t q)) g in
           either (ltb t u)
           (λ p. rw (note-older t u (a .base) 0 1 came (ticks l) k (ltb-true t u p)) v)
           (λ p.
@@ -78,16 +78,16 @@ module _ (sizes : List ℤ) (instead : ℤ → Bool) (es : List Accepted) (n : �
           rw (note-full t u (a .base) 0 1 came (ticks l) k z j) v))
       whole-same (waiting {a = y} {previous = previous} {lengths = lengths} {came = came} {l = l} {k = k} {o = o} {t = u} x e big hold w some-in above h) s =
           let r : Receiver = waitingFor sizes previous u y lengths in
-          let g : Agree sizes instead es n r area (storing l k o) (notes (pos u) came (ticks l) k) = waiting x e big hold w some-in above h in
-          let i = agree-form sizes instead es n fair g in
+          let g : Agree sizes instead es At n r area (storing l k o) (notes (pos u) came (ticks l) k) = waiting x e big hold w some-in above h in
+          let i = agree-form sizes instead es At n fair g in
           either (ltb t u)
           (λ q.
           rw (note-older t u (a .base) 0 1 came (ticks l) k (ltb-true t u q))
-          (refused-same sizes instead es n second delta (f r) oldDelta (old r i (waiting-old sizes previous u y lengths t true q)) g))
+          (refused-same sizes instead es At n second delta (f r) oldDelta (old r i (waiting-old sizes previous u y lengths t true q)) g))
           (λ q.
           either (eqb t u)
           (λ p. contra (rw (same-entry u x e (eqb-true t u p)) at big) small)
           (λ p.
           let z : u < t = omega (arith, ltb-false t u q, eqb-false t u p) in
           rw (note-newer t u (a .base) 0 1 came (ticks l) k z)
-          (finishes sizes instead es n up m is (0 ∷ []) enough r l k o area second delta (f r) c area second′ read B (new r i (waiting-old sizes previous u y lengths t false q)) got fits named made (held-weaken sizes instead es n t (omega arith) h) s)))
+          (finishes sizes instead es At n up nm m is (0 ∷ []) enough r l k o area second delta (f r) c area second′ read B (new r i (waiting-old sizes previous u y lengths t false q)) got fits named made (held-weaken sizes instead es At n t (omega arith) h) s)))

@@ -10,7 +10,7 @@ use lib.Dec.{ltb, leb, eqb}
 use lib.IntN.{ℤ}
 use lib.ListN.{length}
 use Rattle.definitions.specs.Ints.{wrappingSub}
-use Rattle.definitions.specs.Tables.{list, crc}
+use Rattle.definitions.specs.Tables.{Table, list, crc}
 use Rattle.definitions.specs.Deltas.{Delta, isEmptyDelta, deltaInts}
 use Rattle.definitions.specs.Packed.{packInts}
 use Rattle.definitions.specs.Messages.{SnapSingle, Message, numParts, partMessage, deltaChunks}
@@ -53,10 +53,10 @@ module _ (sizes : List ℤ) (instead : ℤ → Bool) where
       }
 
   -- a message of a table: a part of several, the single one, or the empty one
-  pub data Goes (l : List Accepted) (a : Accepted) : Message → Type 0 where
-    asPart : (p : ℕ) → isLarge a ≡ true → p < numParts (packed sizes a) → Goes l a (partOfTable a p)
-    asSingle : isLarge a ≡ false → length (packed sizes a) ≤ 900 → Goes l a (singleOfTable a)
-    asEmpty : isLarge a ≡ false → Base l (a .base) (a .table) ⊎ (a .delta ≡ emptyDelta) → Goes l a (emptyMessage a)
+  pub data Goes (At : ℤ → Table → Type 0) (a : Accepted) : Message → Type 0 where
+    asPart : (p : ℕ) → isLarge a ≡ true → p < numParts (packed sizes a) → Goes At a (partOfTable a p)
+    asSingle : isLarge a ≡ false → length (packed sizes a) ≤ 900 → Goes At a (singleOfTable a)
+    asEmpty : isLarge a ≡ false → Base At (a .base) (a .table) ⊎ (a .delta ≡ emptyDelta) → Goes At a (emptyMessage a)
 
   -- an empty delta fits one message
   empty-short : (a : Accepted) → isEmptyDelta (a .delta) ≡ true → length (packed sizes a) ≤ 900
@@ -65,37 +65,37 @@ module _ (sizes : List ℤ) (instead : ℤ → Bool) where
       rw z (omega arith)
 
   -- each message of a table's delta
-  chunk-goes : (l : List Accepted) (a : Accepted) (m : Message) → instead (a .tick) ≡ false → Among m (deltaChunks (a .tick) (a .base) (packed sizes a) (crc (a .table))) → Goes l a m
+  chunk-goes : (At : ℤ → Table → Type 0) (a : Accepted) (m : Message) → instead (a .tick) ≡ false → Among m (deltaChunks (a .tick) (a .base) (packed sizes a) (crc (a .table))) → Goes At a m
   unfolding deltaChunks isLarge
-  chunk-goes l a m q h =
+  chunk-goes At a m q h =
       either (eqb (length (packed sizes a)) 0)
       (λ u. absurd (omega (arith, eqb-true (length (packed sizes a)) 0 u, delta-packs sizes (a .delta))))
       (λ u.
       either (leb (length (packed sizes a)) 900)
       (λ v.
       let w : length (packed sizes a) ≤ 900 = leb-true (length (packed sizes a)) 900 v in
-      subst (Goes l a) (sym (among-one (rw (u, v) at h))) (asSingle (rw (q, le-ltb 900 (length (packed sizes a)) w) refl) w))
+      subst (Goes At a) (sym (among-one (rw (u, v) at h))) (asSingle (rw (q, le-ltb 900 (length (packed sizes a)) w) refl) w))
       (λ v. part v (among-list (partOfTable a) (numParts (packed sizes a)) m (rw (u, v) at h))))
     where
-      part : leb (length (packed sizes a)) 900 ≡ false → (p : ℕ) × (p < numParts (packed sizes a)) × (m ≡ partOfTable a p) → Goes l a m
+      part : leb (length (packed sizes a)) 900 ≡ false → (p : ℕ) × (p < numParts (packed sizes a)) × (m ≡ partOfTable a p) → Goes At a m
       part v (p, u, f) =
           unfold isLarge in
-          subst (Goes l a) (sym f) (asPart p (rw (q, lt-ltb 900 (length (packed sizes a)) (leb-false (length (packed sizes a)) 900 v)) refl) u)
+          subst (Goes At a) (sym f) (asPart p (rw (q, lt-ltb 900 (length (packed sizes a)) (leb-false (length (packed sizes a)) 900 v)) refl) u)
 
   -- each message of a table is one of these
-  pub message-goes : (l : List Accepted) (a : Accepted) (m : Message) → (instead (a .tick) ≡ true → Base l (a .base) (a .table)) → Among m (messagesOf sizes instead a) → Goes l a m
+  pub message-goes : (At : ℤ → Table → Type 0) (a : Accepted) (m : Message) → (instead (a .tick) ≡ true → Base At (a .base) (a .table)) → Among m (messagesOf sizes instead a) → Goes At a m
   unfolding messagesOf
-  message-goes l a m q h =
+  message-goes At a m q h =
       either (instead (a .tick))
-      (λ e. subst (Goes l a) (sym (among-one (rw e at h))) (asEmpty (unfold isLarge in rw e refl) (inl (q e))))
+      (λ e. subst (Goes At a) (sym (among-one (rw e at h))) (asEmpty (unfold isLarge in rw e refl) (inl (q e))))
       (λ e. go e (among-append (deltaChunks (a .tick) (a .base) (packed sizes a) (crc (a .table))) (rw e at h)))
     where
-      go : instead (a .tick) ≡ false → Among m (deltaChunks (a .tick) (a .base) (packed sizes a) (crc (a .table))) ⊎ Among m (cond (isEmptyDelta (a .delta)) (emptyMessage a ∷ []) []) → Goes l a m
-      go e (inl k) = chunk-goes l a m e k
+      go : instead (a .tick) ≡ false → Among m (deltaChunks (a .tick) (a .base) (packed sizes a) (crc (a .table))) ⊎ Among m (cond (isEmptyDelta (a .delta)) (emptyMessage a ∷ []) []) → Goes At a m
+      go e (inl k) = chunk-goes At a m e k
       go e (inr k) =
           either (isEmptyDelta (a .delta))
           (λ c.
           unfold isLarge in
-          subst (Goes l a) (sym (among-one (rw c at k)))
+          subst (Goes At a) (sym (among-one (rw c at k)))
           (asEmpty (rw (e, le-ltb 900 (length (packed sizes a)) (empty-short a c)) refl) (inr (empty-is (a .delta) c))))
           (λ c. absurd (among-nothing (rw c at k)))

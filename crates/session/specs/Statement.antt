@@ -45,16 +45,23 @@ pub data Rising : List Accepted → Type 0 where
   none : Rising []
   more : {a : Accepted} {l : List Accepted} (n : ℕ) → a .tick ≡ pos n → n ≤ 2147483647 → All (λ b. signedLess (b .tick) (a .tick) ≡ true) l → Rising l → Rising (a ∷ l)
 
--- the table that a base tick names among the accepted ones; -1 names the empty table
-pub data Base (l : List Accepted) : ℤ → Table → Type 0 where
-  empty : Base l (negsuc 0) []
-  accepted : {a : Accepted} → Among a l → Base l (a .tick) (a .table)
+-- the table that was accepted at a tick
+pub record AcceptedAt (l : List Accepted) (t : ℤ) (u : Table) : Type 0 where
+  pub table : Accepted
+  pub accepted : Among table l
+  pub tick-is : table .tick ≡ t
+  pub table-is : table .table ≡ u
+
+-- the table that a base tick names, where others are at their ticks; -1 names the empty table
+pub data Base (At : ℤ → Table → Type 0) : ℤ → Table → Type 0 where
+  empty : Base At (negsuc 0) []
+  named : {t : ℤ} {u : Table} → At t u → Base At t u
 
 -- "packed deltas are at most 28,800 bytes", with sizes known that are the data's; "an empty message stands only for a table equal to its base"
-pub record Fair (sizes : List ℤ) (instead : ℤ → Bool) (l : List Accepted) (a : Accepted) : Type 0 where
+pub record Fair (sizes : List ℤ) (instead : ℤ → Bool) (At : ℤ → Table → Type 0) (a : Accepted) : Type 0 where
   pub matches : sizesMatch sizes (a .delta .updated) ≡ true
   pub short : length (packed sizes a) ≤ 28800
-  pub equal : instead (a .tick) ≡ true → Base l (a .base) (a .table)
+  pub equal : instead (a .tick) ≡ true → Base At (a .base) (a .table)
 
 -- a message that the controller sent for an accepted table
 pub record Sent (sizes : List ℤ) (instead : ℤ → Bool) (l : List Accepted) (m : Message) : Type 0 where
@@ -92,7 +99,7 @@ pub record Holds (s : Session) : Type 0 where
   pub printerFresh : s .printer ≡ freshPrinter printerArea parts joined printerDelta
   pub built : All BuiltCall (s .calls)
   pub rising : Rising (acceptedIn s)
-  pub fair : All (Fair (s .lent .sizes) (s .instead) (acceptedIn s)) (acceptedIn s)
+  pub fair : All (Fair (s .lent .sizes) (s .instead) (AcceptedAt (acceptedIn s))) (acceptedIn s)
   pub sent : All (Sent (s .lent .sizes) (s .instead) (acceptedIn s)) (s .messages)
   pub controllerSuffices : (xs ys : List ControllerCall) (x : ControllerCall) → s .calls ≡ xs ++ x ∷ ys → Suffices (controllerCall (afterCalls (s .controller) xs) x .answer)
   pub printerSuffices : (xs ys : List Message) (m : Message) → s .messages ≡ xs ++ m ∷ ys → Suffices (printerCall (s .lent) (afterMessages (s .lent) (s .printer) xs) m .answer)
@@ -160,16 +167,13 @@ pub data Answered (s : Storage) : ControllerCall → Outcome (Option Added) → 
   unknown : {t : ℤ} {w : Counts} → signedLess t (pos 0) ≡ false → (HeldAt t (s .snaps) → ⊥) → Answered s (setDeltaTick t) (err unknownSnap w)
 
 -- a table that is held is, item for item, the one accepted at its tick
-pub record IsAccepted (l : List Accepted) (x : StoredSnap) : Type 0 where
-  pub table : Accepted
-  pub accepted : Among table l
-  pub tick-is : table .tick ≡ x .tick
-  pub table-is : table .table ≡ x .snap
+abbrev pub IsAccepted : List Accepted → StoredSnap → Type 0
+IsAccepted l x = AcceptedAt l (x .tick) (x .snap)
 
 -- an accepted table's delta was made against its base, which is the empty table or an older accepted one
 pub record BaseRight (l : List Accepted) (a : Accepted) : Type 0 where
   pub base : Table
-  pub named : Base l (a .base) base
+  pub named : Base (AcceptedAt l) (a .base) base
   pub older : signedLess (a .base) (a .tick) ≡ true
   pub made : createDelta base (a .table) ≡ return (a .delta)
 

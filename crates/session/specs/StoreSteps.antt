@@ -22,11 +22,11 @@ use Rattle.definitions.specs.Receiver.{finishedAt, same}
 use Rattle.definitions.specs.Storage.{StoredSnap, storeInts, dropOlder, oldestAt, isNegative, warnWeird, Keeps, sumFits, pushSnap, addTable, addOn, addDelta}
 use Rattle.definitions.specs.Logbook.{Answer, refused, acknowledges, Note, allCame, hasTick, heldFor, holding, complete}
 use Rattle.session.specs.Runs.{Accepted, answerOf}
-use Rattle.session.specs.Statement.{Among, All, more, Rising, Base, empty, accepted, IsAccepted, Suffices}
+use Rattle.session.specs.Statement.{Among, All, more, Rising, Base, empty, named, Suffices}
 use Rattle.session.specs.Lists.{either, all-among}
 use Rattle.session.specs.HeldTicks.{ticks, snapAt, Falls, next, falls-take, all-take, push-holding, above-newest, ticks-drop, dropped-atLeast, Found, found, missing, find-base}
 use Rattle.session.specs.Sending.{partsNeeded}
-use Rattle.session.specs.PrinterState.{numbered, one-accepted, storing, notes, Held, held-drop, held-weaken, Agree, finished}
+use Rattle.session.specs.PrinterState.{Naming, AtTick, storing, notes, Held, held-drop, held-weaken, Agree, finished}
 
 -- ---- answers
 
@@ -56,23 +56,23 @@ weird b o t e =
     let (w, q) = warned (isNegative b && not (same b (negsuc 0))) WeirdNegativeDeltaTick in
     (plus w Warnings.none, rw (q, e) refl)
 
-module _ (sizes : List ℤ) (instead : ℤ → Bool) (es : List Accepted) (n : ℕ) where
+module _ (sizes : List ℤ) (instead : ℤ → Bool) (es : List Accepted) (At : ℤ → Table → Type 0) (n : ℕ) where
   -- what the store makes of a finished tick is what the logbook notes
   pub record Stored (area : List ℕ) (t : ℕ) (k : Keeps ℤ) (x : Note) : Type 0 where
     pub answer : storeAnswer (k .answer) ≡ x .answer
-    pub agree : Agree sizes instead es n (finishedAt (pos t)) area (k .storage) (x .logbook)
+    pub agree : Agree sizes instead es At n (finishedAt (pos t)) area (k .storage) (x .logbook)
 
-  module _ (up : Rising es) {a : Accepted} {t : ℕ} (m : Among a es) (is : a .tick ≡ pos t) (area came : List ℕ) (whole : allCame (partsNeeded sizes instead a) came ≡ true) (sum : Option ℤ) (fits : sumFits sum (a .table) ≡ true) where
+  module _ (up : Rising es) (nm : Naming es At) {a : Accepted} {t : ℕ} (m : Among a es) (is : a .tick ≡ pos t) (area came : List ℕ) (whole : allCame (partsNeeded sizes instead a) came ≡ true) (sum : Option ℤ) (fits : sumFits sum (a .table) ≡ true) where
     -- the table at its tick is the accepted one
-    accepted-here : IsAccepted es (snapAt t (a .table))
-    accepted-here = record { table = a; accepted = m; tick-is = is; table-is = refl }
+    accepted-here : AtTick At (snapAt t (a .table))
+    accepted-here = subst (λ (z : ℤ). At z (a .table)) is (nm .covers m)
 
     -- the table is held
-    kept : (l : List StoredSnap) (k o : Option ℤ) (w : Counts) → Held sizes instead es n t l → Suffices (addTable n sum (pos t) (storing l k o) (ok (a .table) w) .answer) → Stored area t (addTable n sum (pos t) (storing l k o) (ok (a .table) w)) (record { answer = acknowledges (pos t); logbook = notes (pos t) came (holding (pos t) (ticks l)) (some (pos t)) })
+    kept : (l : List StoredSnap) (k o : Option ℤ) (w : Counts) → Held sizes instead es At n t l → Suffices (addTable n sum (pos t) (storing l k o) (ok (a .table) w) .answer) → Stored area t (addTable n sum (pos t) (storing l k o) (ok (a .table) w)) (record { answer = acknowledges (pos t); logbook = notes (pos t) came (holding (pos t) (ticks l)) (some (pos t)) })
     unfolding addTable
     kept l k o w h s =
         let f : Falls (suc t) (snapAt t (a .table) ∷ l) = next {k = suc t} {n = t} (omega arith) (h .falls) in
-        let i : All (IsAccepted es) (pushSnap (pos t) (a .table) l) = all-take 100 (snapAt t (a .table) ∷ l) (more accepted-here (h .accepted)) in
+        let i : All (AtTick At) (pushSnap (pos t) (a .table) l) = all-take 100 (snapAt t (a .table) ∷ l) (more accepted-here (h .accepted)) in
         rw (fits, ← (push-holding f (h .few)))
         (either (leb (length (storeInts (pushSnap (pos t) (a .table) l))) n)
         (λ e. rw e
@@ -90,10 +90,8 @@ module _ (sizes : List ℤ) (instead : ℤ → Bool) (es : List Accepted) (n : �
         (λ e. absurd ((rw (fits, e) at s) .0 refl)))
 
     -- the table that is held at a tick is the one accepted there
-    held-is : {c : Accepted} {l : List StoredSnap} {k : ℕ} (j : ℕ) (y : StoredSnap) → Among c es → c .tick ≡ pos j → Held sizes instead es n k l → Among y l → y .tick ≡ pos j → y .snap ≡ c .table
-    held-is {c} j y mc e h my q =
-        let i = all-among (h .accepted) my in
-        sym (i .table-is) ∙ ap (λ (z : Accepted). z .table) (one-accepted up (i .accepted) mc (i .tick-is ∙ q ∙ sym e))
+    held-is : {u : Table} {l : List StoredSnap} {k : ℕ} (j : ℕ) (y : StoredSnap) → At (pos j) u → Held sizes instead es At n k l → Among y l → y .tick ≡ pos j → y .snap ≡ u
+    held-is j y at h my q = nm .one (subst (λ (z : ℤ). At z (y .snap)) q (all-among (h .accepted) my)) at
 
     -- a delta on what is held at a tick
     abbrev Look : ℕ → Delta → List StoredSnap → Option ℤ → Option ℤ → Type 0
@@ -104,31 +102,31 @@ module _ (sizes : List ℤ) (instead : ℤ → Bool) (es : List Accepted) (n : �
         (record { answer = refused unknownSnap; logbook = notes (pos t) came (ticks l) Option.none }))
 
     -- whether its base is held or not
-    look : {c : Accepted} (j : ℕ) (x : Delta) (l : List StoredSnap) (k o : Option ℤ) → Among c es → c .tick ≡ pos j → (applyDelta (c .table) x >>= typed) ≡ return (a .table) → Held sizes instead es n t l → Found j l → Look j x l k o
+    look : {B : Table} (j : ℕ) (x : Delta) (l : List StoredSnap) (k o : Option ℤ) → At (pos j) B → (applyDelta B x >>= typed) ≡ return (a .table) → Held sizes instead es At n t l → Found j l → Look j x l k o
     unfolding addOn
-    look j x l k o mc e made h (missing p q) s =
-        rw (p, q) (record { answer = refl; agree = finished m is whole (held-weaken sizes instead es n (suc t) (omega arith) h) })
-    look {c} j x l k o mc e made h (found y my ey p q) s =
-        let d : y .snap ≡ c .table = held-is j y mc e h my ey in
-        let (w, u) = weird (pos j) (applyDelta (c .table) x >>= typed) (a .table) made in
+    look j x l k o at made h (missing p q) s =
+        rw (p, q) (record { answer = refl; agree = finished m is whole (held-weaken sizes instead es At n (suc t) (omega arith) h) })
+    look {B} j x l k o at made h (found y my ey p q) s =
+        let d : y .snap ≡ B = held-is j y at h my ey in
+        let (w, u) = weird (pos j) (applyDelta B x >>= typed) (a .table) made in
         rw (p, q, d, u) (kept l k o w h (rw (p, d, u) at s))
 
-    -- a delta on an accepted table
-    based : {c : Accepted} (j : ℕ) (x : Delta) (l : List StoredSnap) (k o : Option ℤ) → Among c es → c .tick ≡ pos j → (applyDelta (c .table) x >>= typed) ≡ return (a .table) → Held sizes instead es n t l → Suffices (addDelta n sum (pos j) (pos t) x (storing l k o) .answer) → Stored area t (addDelta n sum (pos j) (pos t) x (storing l k o)) (complete (pos t) (pos j) came (heldFor (pos j) (ticks l)))
+    -- a delta on the table at a tick
+    based : {B : Table} (j : ℕ) (x : Delta) (l : List StoredSnap) (k o : Option ℤ) → At (pos j) B → (applyDelta B x >>= typed) ≡ return (a .table) → Held sizes instead es At n t l → Suffices (addDelta n sum (pos j) (pos t) x (storing l k o) .answer) → Stored area t (addDelta n sum (pos j) (pos t) x (storing l k o)) (complete (pos t) (pos j) came (heldFor (pos j) (ticks l)))
     unfolding addDelta complete
-    based j x l k o mc e made h s =
+    based j x l k o at made h s =
         let z : ltb j 0 ≡ false = le-ltb j 0 (omega arith) in
-        let g = held-drop sizes instead es n j h in
+        let g = held-drop sizes instead es At n j h in
         rw (above-newest (h .falls), z, ← (ticks-drop j (h .falls)))
-        (look j x (dropOlder (pos j) l) k o mc e made g (find-base j (g .falls) (dropped-atLeast j l)) (rw (above-newest (h .falls), z) at s))
+        (look j x (dropOlder (pos j) l) k o at made g (find-base j (g .falls) (dropped-atLeast j l)) (rw (above-newest (h .falls), z) at s))
 
     -- a delta on its base reaches the store
-    pub reaches : (b : ℤ) (B : Table) (x : Delta) (l : List StoredSnap) (k o : Option ℤ) → Base es b B → (applyDelta B x >>= typed) ≡ return (a .table) → Held sizes instead es n t l → Suffices (addDelta n sum b (pos t) x (storing l k o) .answer) → Stored area t (addDelta n sum b (pos t) x (storing l k o)) (complete (pos t) b came (heldFor b (ticks l)))
+    pub reaches : (b : ℤ) (B : Table) (x : Delta) (l : List StoredSnap) (k o : Option ℤ) → Base At b B → (applyDelta B x >>= typed) ≡ return (a .table) → Held sizes instead es At n t l → Suffices (addDelta n sum b (pos t) x (storing l k o) .answer) → Stored area t (addDelta n sum b (pos t) x (storing l k o)) (complete (pos t) b came (heldFor b (ticks l)))
     unfolding addDelta addOn complete
     reaches b B x l k o empty made h s =
         let (w, e) = weird (negsuc 0) (applyDelta [] x >>= typed) (a .table) made in
         rw (above-newest (h .falls), e) (kept l k o w h (rw (above-newest (h .falls), e) at s))
-    reaches b B x l k o (accepted {a = c} mc) made h s =
-        let q = numbered up mc in
-        subst (λ (z : ℤ). Suffices (addDelta n sum z (pos t) x (storing l k o) .answer) → Stored area t (addDelta n sum z (pos t) x (storing l k o)) (complete (pos t) z came (heldFor z (ticks l)))) (sym (q .tick-is))
-        (based (q .number) x l k o mc (q .tick-is) made h) s
+    reaches b B x l k o (named at) made h s =
+        let (j, q, i) = nm .number at in
+        subst (λ (z : ℤ). Suffices (addDelta n sum z (pos t) x (storing l k o) .answer) → Stored area t (addDelta n sum z (pos t) x (storing l k o)) (complete (pos t) z came (heldFor z (ticks l)))) (sym q)
+        (based j x l k o (subst (λ (z : ℤ). At z B) q at) made h) s
