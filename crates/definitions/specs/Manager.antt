@@ -14,17 +14,14 @@ use Rattle.definitions.specs.Stream.{stream}
 use Rattle.definitions.specs.Deltas.{Delta, writtenDelta}
 use Rattle.definitions.specs.DeltaReading.{DeltaRead, readDelta}
 use Rattle.definitions.specs.Messages.{SnapMsg, Snap, SnapEmpty, SnapSingle, Message}
-use Rattle.definitions.specs.Receiver.{Receiver, freshReceiver, receiverForm, DataAndCrc, ReceivedDelta, Receives, snapCall, snapSingleCall, snapEmptyCall}
-use Rattle.definitions.specs.Storage.{Storage, freshStorage, Store, beside, storeArea, Keeps, addDelta, resetStorage}
+use Rattle.definitions.specs.Receiver.{Receiver, receiverForm, DataAndCrc, ReceivedDelta, Receives, snapCall, snapSingleCall, snapEmptyCall}
+use Rattle.definitions.specs.Storage.{Storage, Store, beside, storeArea, Keeps, addDelta}
 use Rattle.definitions.specs.StorageCalls.{heldStorage}
 
 -- a receiver and a store
 pub record Manager : Type 0 where
   pub receiver : Receiver
   pub storage : Storage
-
-abbrev pub freshManager : Manager
-freshManager = record { receiver = freshReceiver; storage = freshStorage }
 
 -- what a message leaves: its answer is the tick acknowledged, or that parts are missing
 pub record Handled : Type 0 where

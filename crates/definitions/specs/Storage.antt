@@ -214,7 +214,3 @@ setDeltaTick tick s =
     (cond (isHeld (baseFor tick (s .snaps)))
     (record { answer = return tt; storage = withDeltaTick (withSnaps s (dropFor tick (s .snaps))) (some tick) })
     (record { answer = refuse unknownSnap; storage = withDeltaTick (withSnaps s (dropFor tick (s .snaps))) none }))
-
--- nothing is held or acknowledged; the base tick stays
-abbrev pub resetStorage : Storage → Storage
-resetStorage s = record { snaps = []; ackTick = none; deltaTick = s .deltaTick }

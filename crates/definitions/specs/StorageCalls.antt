@@ -12,7 +12,7 @@ use Rattle.definitions.specs.Tables.{Table, written}
 use Rattle.definitions.specs.TableCalls.{orNotInForm, held}
 use Rattle.definitions.specs.Deltas.{Delta, writtenDelta}
 use Rattle.definitions.specs.DeltaCalls.{heldDelta}
-use Rattle.definitions.specs.Storage.{StoredSnap, Storage, Store, beside, storeArea, storageOf, Keeps, AddedSnap, addDelta, addSnap, setDeltaTick, resetStorage}
+use Rattle.definitions.specs.Storage.{StoredSnap, Storage, Store, beside, storeArea, storageOf, Keeps, AddedSnap, addDelta, addSnap, setDeltaTick}
 
 -- what a store and its area hold
 unfoldable pub heldStorage : Store → List ℤ → Outcome Storage

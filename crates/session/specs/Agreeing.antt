@@ -1,5 +1,5 @@
--- Printer and logbook agree on every link. Assumes nothing.
-use mathlib.Core.Path.{_≡_, refl, subst}
+-- Printer and logbook agree on every link, where no call lacks room, and where areas are long. Assumes nothing.
+use mathlib.Core.Path.{_≡_, refl, ap, subst}
 use mathlib.Core.Bool.{true}
 use mathlib.Core.List.{List, [], _∷_}
 use lib.IntN.{ℤ}
@@ -8,14 +8,34 @@ use Rattle.definitions.specs.Tables.{Table}
 use Rattle.definitions.specs.DeltaCalls.{sizesMatch}
 use Rattle.laws.specs.Clean.{Clean, empty-clean}
 use Rattle.laws.specs.DeltaReadBack.{readBack}
-use Rattle.laws.specs.SessionLaws.{packDelta, read-packed-delta, apply-create-typed, apply-empty-typed}
-use Rattle.session.specs.Runs.{Accepted, packed, freshPrinter, Printer}
-use Rattle.session.specs.Statement.{Among, here, there, All, none, more, Base, empty, named}
+use Rattle.laws.specs.SessionLaws.{packDelta, read-packed-delta, created-short, apply-create-typed, apply-empty-typed}
+use Rattle.session.specs.Runs.{Accepted, packed, freshPrinter, Printer, PrinterCall, message, left, printerCall, afterReceived}
+use Rattle.session.specs.Statement.{Among, here, there, All, none, more, Base, empty, named, ReceivedSuffices, PrinterLong, ScratchLong}
 use Rattle.session.specs.LinkStatement.{Link, LinkHolds, Agreement}
 use Rattle.session.specs.Lists.{all-among}
+use Rattle.session.specs.Room.{told, long}
 use Rattle.session.specs.PrinterState.{Naming}
 use Rattle.session.specs.PrinterSteps.{Ready}
-use Rattle.session.specs.PrinterRuns.{AllSuffice, held-named, acknowledged-when, answers-noted, acknowledgement-noted, ticks-noted}
+use Rattle.session.specs.PrinterRuns.{AllRoom, end, next, held-noted, acknowledged-when, answers-noted}
+use Rattle.session.specs.AreaLengths.{long-left}
+
+-- ---- room
+
+-- calls that are not refused for want of room have it
+pub told-room : (sizes : List ℤ) (p : Printer) (cs : List PrinterCall) → ReceivedSuffices sizes p cs → AllRoom sizes p cs
+unfolding afterReceived
+told-room sizes p [] f = end
+told-room sizes p (message m n ∷ cs) f =
+    next (told (f [] cs m n refl))
+    (told-room sizes (left (printerCall sizes p m n)) cs (λ xs ys x k e. f (message m n ∷ xs) ys x k (ap (λ (l : List PrinterCall). message m n ∷ l) e)))
+
+-- calls with areas that always suffice have it too
+pub long-room : (sizes : List ℤ) (p : Printer) (cs : List PrinterCall) → PrinterLong p → All ScratchLong cs → AllRoom sizes p cs
+long-room sizes p [] l none = end
+long-room sizes p (message m n ∷ cs) l (more s ss) =
+    next (long (l, s)) (long-room sizes (left (printerCall sizes p m n)) cs (long-left sizes p m n l) ss)
+
+-- ---- agreement
 
 -- what each of a list has, all of it have
 all-of : {A : Type 0} {P : A → Type 0} (l : List A) → ((a : A) → Among a l → P a) → All P l
@@ -37,10 +57,10 @@ module _ (At : ℤ → Table → Type 0) (k : Link) (h : LinkHolds At k) where
   naming = record { one = h .one; number = h .number; sounds = λ at. h .clean at .is-sound; covers = h .covers }
 
   -- what the printer needs of each delta
-  ready : All (Ready (k .lent .sizes) At) (k .deltas)
+  ready : All (Ready (k .sizes) At) (k .deltas)
   ready = all-of (k .deltas) each
     where
-      each : (a : Accepted) → Among a (k .deltas) → Ready (k .lent .sizes) At a
+      each : (a : Accepted) → Among a (k .deltas) → Ready (k .sizes) At a
       each a m =
           let r = all-among (h .made) m in
           let t = h .clean (h .covers m) in
@@ -49,23 +69,27 @@ module _ (At : ℤ → Table → Type 0) (k : Link) (h : LinkHolds At k) where
             base = r .base;
             named = r .named;
             read = readBack (a .delta);
-            reads = read-packed-delta (r .base) (a .table) (a .delta) b t (r .made) (k .lent .sizes) (packed (k .lent .sizes) a) (packs (k .lent .sizes) a (all-among (h .fair) m .matches));
+            reads = λ e. read-packed-delta (r .base) (a .table) (a .delta) b t (r .made) (k .sizes) (packed (k .sizes) a) (packs (k .sizes) a e);
             delta-is = refl;
+            room = created-short (r .base) (a .table) (a .delta) b t (r .made);
             applies = apply-create-typed (r .base) (a .table) (a .delta) b t (r .made);
             unchanged = apply-empty-typed (r .base) b;
           }
 
-  -- no message is refused for want of room
-  suffice : AllSuffice (k .lent) (freshPrinter (h .area) (h .parts) (h .joined) (h .delta)) (k .messages)
-  suffice = subst (λ (p : Printer). AllSuffice (k .lent) p (k .messages)) (h .fresh) (h .suffices)
-
-  -- printer and logbook agree
-  pub agreement : Agreement At k
-  agreement =
+  -- printer and logbook agree, where each call has room
+  agreement-with : AllRoom (k .sizes) (k .printer) (k .received) → Agreement At k
+  agreement-with room =
+      let f : AllRoom (k .sizes) (freshPrinter (h .area) (h .parts) (h .joined) (h .delta)) (k .received) = subst (λ (p : Printer). AllRoom (k .sizes) p (k .received)) (h .fresh) room in
       record {
-        tables = λ xs ys e. rw (h .fresh) (held-named (k .lent) (k .instead) (k .deltas) At (h .area) (h .rising) naming (h .fair) ready (h .parts) (h .joined) (h .delta) (k .messages) (h .sent) suffice xs ys e);
-        acknowledgements = λ xs ys m e. rw (h .fresh) (acknowledged-when (k .lent) (k .instead) (k .deltas) At (h .area) (h .rising) naming (h .fair) ready (h .parts) (h .joined) (h .delta) (k .messages) (h .sent) suffice xs ys m e);
-        sameAnswers = rw (h .fresh) (answers-noted (k .lent) (k .instead) (k .deltas) At (h .area) (h .rising) naming (h .fair) ready (h .parts) (h .joined) (h .delta) (k .messages) (h .sent) suffice);
-        sameAcknowledgement = rw (h .fresh) (acknowledgement-noted (k .lent) (k .instead) (k .deltas) At (h .area) (h .rising) naming (h .fair) ready (h .parts) (h .joined) (h .delta) (k .messages) (h .sent) suffice);
-        sameTicks = rw (h .fresh) (ticks-noted (k .lent) (k .instead) (k .deltas) At (h .area) (h .rising) naming (h .fair) ready (h .parts) (h .joined) (h .delta) (k .messages) (h .sent) suffice);
+        printer = λ xs ys e. rw (h .fresh) (held-noted (k .sizes) (k .instead) (k .deltas) At (h .area) (h .rising) naming ready (h .parts) (h .joined) (h .delta) (k .received) (h .sent) f xs ys e);
+        acknowledgements = λ xs ys m n e. rw (h .fresh) (acknowledged-when (k .sizes) (k .instead) (k .deltas) At (h .area) (h .rising) naming ready (h .parts) (h .joined) (h .delta) (k .received) (h .sent) f xs ys m n e);
+        sameAnswers = rw (h .fresh) (answers-noted (k .sizes) (k .instead) (k .deltas) At (h .area) (h .rising) naming ready (h .parts) (h .joined) (h .delta) (k .received) (h .sent) f);
       }
+
+  -- they agree where no call is refused for want of room
+  pub agreement : ReceivedSuffices (k .sizes) (k .printer) (k .received) → Agreement At k
+  agreement f = agreement-with (told-room (k .sizes) (k .printer) (k .received) f)
+
+  -- and where areas and scratch are long
+  pub agreement-long : PrinterLong (k .printer) → All ScratchLong (k .received) → Agreement At k
+  agreement-long l s = agreement-with (long-room (k .sizes) (k .printer) (k .received) l s)

@@ -1,31 +1,44 @@
--- The controller's part of demand 3: how its calls are answered, and that each base is right. Assumes nothing.
+-- The controller's part of demand 3: what its store holds, how its calls are answered, that each base is right, and what is sent. Assumes nothing.
 use mathlib.Core.Path.{_≡_, refl, sym, _∙_, ap, subst}
 use mathlib.Core.Bool.{true, false}
 use mathlib.Core.List.{List, [], _∷_, _++_, append-nil}
 use mathlib.Core.Option.{Option, some}
 use mathlib.Core.Option as Option
-use Prim.Native.Nat.{ℕ}
+use Prim.Native.Nat.{ℕ, _≤_, _<_}
+use native.Mathlib.Omega.{arith}
+use borrow.Author.Tests.{le-leb}
 use lib.IntN.{ℤ, pos}
-use lib.ListN.{length}
+use lib.ListN.{length, drop}
 use Rattle.definitions.specs.Ints.{signedLess}
-use Rattle.definitions.specs.Outcome.{Outcome, return}
+use Rattle.definitions.specs.Areas.{lay}
+use Rattle.definitions.specs.Refusals.{capacityError}
+use Rattle.definitions.specs.Warnings.{Counts}
+use Rattle.definitions.specs.Outcome.{Outcome, ok, err, return}
 use Rattle.definitions.specs.Tables.{Table, sound, tableOf}
-use Rattle.definitions.specs.Deltas.{writtenDelta}
-use Rattle.definitions.specs.DeltaMaking.{createDelta, deltaFrom}
-use Rattle.definitions.specs.Storage.{StoredSnap, Storage, dropOlder, oldestOr, oldestAt, baseFor, isHeld, chosenBase, AddedSnap, adding, Keeps}
+use Rattle.definitions.specs.Deltas.{Delta, writtenDelta, deltaOf}
+use Rattle.definitions.specs.DeltaMaking.{alike, deltaFrom}
+use Rattle.definitions.specs.Storage.{StoredSnap, Storage, storageOf, storeInts, dropOlder, oldestOr, oldestAt, baseFor, isHeld, chosenBase, AddedSnap, adding, Keeps}
 use Rattle.definitions.specs.Storage as Storage
-use Rattle.definitions.specs.StorageCalls.{addStep}
+use Rattle.definitions.specs.StorageCalls.{Added, addStep}
+use Rattle.laws.specs.AreaLaws.{lay-append}
+use Rattle.laws.specs.TableRoundTrip.{soundly}
 use Rattle.laws.specs.TableReadBack.{holds}
-use Rattle.laws.specs.BuilderForm.{Built}
-use Rattle.session.specs.Runs.{ControllerCall, addSnap, setDeltaTick, Controller, ControllerStep, controllerCall, afterCalls, Accepted, acceptedFrom}
-use Rattle.session.specs.Statement.{Among, All, BuiltCall, Rising, AcceptedAt, Base, Suffices, Session, acceptedIn, Holds, HeldAt, BaseIn, Answered, BaseRight, controllerHolds}
+use Rattle.laws.specs.DeltaMade.{made-short, made-held}
+use Rattle.laws.specs.StoreForm as StoreForm
+use Rattle.session.specs.Runs.{ControllerCall, addSnap, setDeltaTick, Controller, ControllerStep, controllerCall, afterCalls, Accepted, acceptedAs, acceptedFrom, packed, chunksOf}
+use Rattle.session.specs.ControllerList.{Told, toldFrom}
+use Rattle.session.specs.SendingCalls.{sendCalls}
+use Rattle.session.specs.Statement.{Among, All, Rising, AcceptedAt, Base, Session, acceptedIn, Holds, AreasSuffice, AreasLong, HeldAt, BaseIn, Answered, BaseRight, SentRight, Carried, controllerTold}
 use Rattle.session.specs.Statement as Statement
-use Rattle.session.specs.Lists.{contra, all-among, all-map, all-front, all-at}
+use Rattle.session.specs.Lists.{contra, all-among, all-map}
+use Rattle.session.specs.Room.{Room, told, long, store-most}
 use Rattle.session.specs.HeldTicks.{oldest-among}
 use Rattle.session.specs.Dropping.{among-drop, held-found}
-use Rattle.session.specs.ControllerSteps.{base-left, baseOf, Adds, full, clashes, fits, made-not, made-is, adding-is, addedStep, call-adds, Sets, unsets, sets, setting-is, setStep, call-sets}
+use Rattle.session.specs.SendingGives.{send-gives, empty-cut}
+use Rattle.session.specs.AreaLengths.{ControllerLong, call-long}
+use Rattle.session.specs.ControllerSteps.{base-left, baseOf, hasRoom, Adds, full, clashes, fits, made-not, made-is, adding-is, addedStep, call-adds, call-unformed, Sets, unsets, sets, setting-is, setStep, call-sets}
 use Rattle.session.specs.ControllerSteps as ControllerSteps
-use Rattle.session.specs.ControllerState.{Based, unset, set, Chain, none, more, Keeping, Controls, base-tick, at-more}
+use Rattle.session.specs.ControllerState.{Based, unset, set, Chain, none, more, Keeping, Controls, delta-there, base-sound, base-tick, at-more}
 use Rattle.session.specs.ControllerRun.{not-negative, set-based, calls-control, accepted-append, fresh-controls, rises-from}
 
 -- ---- answers
@@ -37,19 +50,43 @@ base-in s x Option.none l e q unset = Statement.empty e
 base-in s x (some t) (y ∷ l) e q (set h) =
     Statement.held {x = oldestOr y l} (e ∙ ap some (sym h)) (subst (Among (oldestOr y l)) (sym q) (oldest-among y l))
 
--- how adding a table is answered
-adds-answered : (c : Controller) (tick : ℤ) (table : List ℤ) (t : Table) (s : Storage) → tableOf table ≡ some t → Based (s .deltaTick) (s .snaps) → (o : Outcome AddedSnap) → let x : StoredSnap = record { tick = tick; snap = t } in Adds (length (c .area)) (length (c .delta)) x s o → Suffices (addedStep c x s o .answer) → Answered s (addSnap tick table) (addedStep c x s o .answer)
-unfolding addStep
-adds-answered c tick table t s e b o (full n) r = Statement.full n
-adds-answered c tick table t s e b o (clashes n a) r =
-    let x : StoredSnap = record { tick = tick; snap = t } in
-    Statement.clash n (base-in s x (s .deltaTick) (s .snaps) refl refl b) (ap (createDelta (baseOf x s .snap)) (holds table t e .1) ∙ made-not (baseOf x s .snap) t a)
-adds-answered c tick table t s e b o ControllerSteps.lacks r = absurd (r .0 refl)
-adds-answered c tick table t s e b o (fits n a h) r =
-    let x : StoredSnap = record { tick = tick; snap = t } in
-    let d = deltaFrom (baseOf x s .snap) t in
-    subst (λ (z : ℤ). Answered s (addSnap tick table) (return (some (record { base = z; ints = length (writtenDelta d) })))) (sym (base-tick (s .deltaTick) x (s .snaps) b))
-    (Statement.adds n (base-in s x (s .deltaTick) (s .snaps) refl refl b) (ap (createDelta (baseOf x s .snap)) (holds table t e .1) ∙ made-is (baseOf x s .snap) t a))
+module _ (c : Controller) (tick : ℤ) (table : List ℤ) (t : Table) (s : Storage) (l : List Accepted) (e : tableOf table ≡ some t) (k : Keeping s l) where
+  -- the table at its tick
+  abbrev x : StoredSnap
+  x = record { tick = tick; snap = t }
+
+  -- the table that it is measured against
+  abbrev b : Table
+  b = baseOf x s .snap
+
+  -- both are sound
+  t-sound : sound t ≡ true
+  t-sound = soundly table t e .1
+
+  b-sound : sound b ≡ true
+  b-sound = base-sound (s .deltaTick) x (s .snaps) (k .based) (k .sounds)
+
+  -- long areas have room for the table and its delta
+  long-room : ControllerLong c → length (s .snaps) < 100 → alike b t ≡ true → hasRoom (length (c .area)) (length (c .delta)) x s ≡ true
+  long-room h few a =
+      let i : length (storeInts (x ∷ s .snaps)) ≤ length (c .area) = let m = h .0 in omega (arith, store-most (StoreForm.more {x = x} t-sound (k .sounds)) few) in
+      let j : length (writtenDelta (deltaFrom b t)) ≤ length (c .delta) = let m = h .1 in omega (arith, made-short b t b-sound t-sound a) in
+      rw (le-leb (length (storeInts (x ∷ s .snaps))) (length (c .area)) i, le-leb (length (writtenDelta (deltaFrom b t))) (length (c .delta)) j) refl
+
+  -- so no table is refused for want of room
+  not-lacking : {w : Counts} → length (s .snaps) < 100 → alike b t ≡ true → hasRoom (length (c .area)) (length (c .delta)) x s ≡ false → Room {A = Option Added} (ControllerLong c) (err capacityError w) → ⊥
+  not-lacking few a q (told r) = r .0 refl
+  not-lacking few a q (long h) = contra (long-room h few a) q
+
+  -- how adding a table is answered
+  adds-answered : (o : Outcome AddedSnap) → Adds (length (c .area)) (length (c .delta)) x s o → Room (ControllerLong c) (addedStep c x s o .answer) → Answered s (addSnap tick table) (addedStep c x s o .answer)
+  unfolding addStep
+  adds-answered o (full n) r = Statement.full e n
+  adds-answered o (clashes n a) r = Statement.clash e n (base-in s x (s .deltaTick) (s .snaps) refl refl (k .based)) (made-not b t a)
+  adds-answered o (ControllerSteps.lacks n a q) r = absurd (not-lacking n a q r)
+  adds-answered o (fits n a h) r =
+      subst (λ (z : ℤ). Answered s (addSnap tick table) (return (some (record { base = z; ints = length (writtenDelta (deltaFrom b t)) })))) (sym (base-tick (s .deltaTick) x (s .snaps) (k .based)))
+      (Statement.adds e n (base-in s x (s .deltaTick) (s .snaps) refl refl (k .based)) (made-is b t a))
 
 -- a base tick that is set is held
 held-at : (t : ℤ) (l : List StoredSnap) → Based (some t) l → HeldAt t l
@@ -64,22 +101,79 @@ found-at tick s l k e h =
 
 -- how setting a base tick is answered
 sets-answered : (c : Controller) (tick : ℤ) (s : Storage) (l : List Accepted) → Keeping s l → (o : Keeps (Unit {0})) → Sets tick s o → Answered s (setDeltaTick tick) (setStep c o .answer)
-sets-answered c tick s l k o (unsets e) = Statement.unset e
+sets-answered c tick s l k o (unsets e (Statement.minusOne u)) = Statement.unset e (Statement.minusOne u)
+sets-answered c tick s l k o (unsets e (Statement.other u)) = Statement.unset e (Statement.other u)
 sets-answered c tick s l k o (sets e h) =
     let a = held-at tick (dropOlder tick (s .snaps)) (set-based tick s l k e h) in
     Statement.sets e (record { snap = a .snap; among = among-drop tick (s .snaps) (a .among); tick-is = a .tick-is })
 sets-answered c tick s l k o (ControllerSteps.lacks e h) = Statement.unknown e (λ a. contra (found-at tick s l k e a) h)
 
--- a call is answered from what is held
-call-answered : (c : Controller) (x : ControllerCall) (l : List Accepted) → BuiltCall x → (k : Controls c l) → Suffices (controllerCall c x .answer) → Answered (k .storage) x (controllerCall c x .answer)
-call-answered c (addSnap tick table) l (t, e, b) k =
+-- an area is added, if it holds a table
+area-answered : (c : Controller) (tick : ℤ) (table : List ℤ) (l : List Accepted) (k : List Told) (h : Controls c l k) (o : Option Table) → tableOf table ≡ o → Room (ControllerLong c) (controllerCall c (addSnap tick table) .answer) → Answered (h .storage) (addSnap tick table) (controllerCall c (addSnap tick table) .answer)
+area-answered c tick table l k h (some t) e =
     let x : StoredSnap = record { tick = tick; snap = t } in
-    let o = adding (length (c .area)) (length (c .delta)) x (k .storage) in
-    subst (λ (y : ControllerStep). Suffices (y .answer) → Answered (k .storage) (addSnap tick table) (y .answer)) (sym (call-adds c tick table t (k .storage) (k .held) e))
-    (adds-answered c tick table t (k .storage) e (k .keeping .based) o (adding-is (length (c .area)) (length (c .delta)) x (k .storage)))
-call-answered c (setDeltaTick tick) l b k =
-    subst (λ (y : ControllerStep). Suffices (y .answer) → Answered (k .storage) (setDeltaTick tick) (y .answer)) (sym (call-sets c tick (k .storage) (k .held)))
-    (λ r. sets-answered c tick (k .storage) l (k .keeping) (Storage.setDeltaTick tick (k .storage)) (setting-is tick (k .storage)))
+    let o = adding (length (c .area)) (length (c .delta)) x (h .storage) in
+    subst (λ (y : ControllerStep). Room (ControllerLong c) (y .answer) → Answered (h .storage) (addSnap tick table) (y .answer)) (sym (call-adds c tick table t (h .storage) (h .held) e))
+    (adds-answered c tick table t (h .storage) l e (h .keeping) o (adding-is (length (c .area)) (length (c .delta)) x (h .storage)))
+area-answered c tick table l k h Option.none e = λ r. rw (call-unformed c tick table (h .storage) (h .held) e) (Statement.unformed e)
+
+-- a call is answered from what is held
+call-answered : (c : Controller) (x : ControllerCall) (l : List Accepted) (k : List Told) (h : Controls c l k) → Room (ControllerLong c) (controllerCall c x .answer) → Answered (h .storage) x (controllerCall c x .answer)
+call-answered c (addSnap tick table) l k h = area-answered c tick table l k h (tableOf table) refl
+call-answered c (setDeltaTick tick) l k h = λ r.
+    rw (call-sets c tick (h .storage) (h .held)) (sets-answered c tick (h .storage) l (h .keeping) (Storage.setDeltaTick tick (h .storage)) (setting-is tick (h .storage)))
+
+-- ---- what is sent
+
+-- what the calls that send give for a table that a step added
+abbrev Sends : List ℤ → ℤ → List ℤ → ControllerStep → Type 0
+Sends sizes tick table y =
+    (a : Added) (w : Counts) → y .answer ≡ ok (some a) w → SentRight sizes table (y .next .delta) (acceptedAs tick table a (y .next .delta))
+
+-- a refusal is no answer
+not-refused : {A : Type 0} {n : ℕ} {v w : Counts} {a : A} → err n v ≡ ok a w → ⊥
+not-refused e = let z : _≡_ {A = ℕ} 0 1 = cc in omega arith
+
+-- an area that begins with the delta between two sound tables holds it
+delta-in : (b t : Table) (area : List ℤ) → sound b ≡ true → sound t ≡ true → alike b t ≡ true → length (writtenDelta (deltaFrom b t)) ≤ length area → deltaOf (lay (writtenDelta (deltaFrom b t)) area) ≡ some (deltaFrom b t)
+delta-in b t area sb st e h =
+    let w = writtenDelta (deltaFrom b t) in
+    ap deltaOf (lay-append w area h) ∙ made-held b t sb st (drop (length w) area) e
+
+-- the messages of a table and a delta that areas hold
+chunks-sent : (sizes table delta : List ℤ) (a : Accepted) (t : Table) (d : Delta) → tableOf table ≡ some t → deltaOf delta ≡ some d → a .table ≡ t → a .delta ≡ d → (out : List ℕ) → Carried sizes a → length (packed sizes a) ≤ length out → sendCalls sizes (a .tick) (a .base) table delta out ≡ return (chunksOf sizes a)
+chunks-sent sizes table delta a t d e q t-is d-is out c h =
+    rw (d-is, t-is)
+    (send-gives sizes (a .tick) (a .base) table delta out t d e q (rw d-is at (c .matches)) (rw d-is at h) (let s = rw d-is at (c .short) in omega arith))
+
+-- so are they sent
+sends-held : (sizes : List ℤ) (tick : ℤ) (table delta : List ℤ) (a : Added) (t : Table) (d : Delta) → tableOf table ≡ some t → deltaOf delta ≡ some d → SentRight sizes table delta (acceptedAs tick table a delta)
+sends-held sizes tick table delta a t d e q =
+    record {
+      chunks = chunks-sent sizes table delta (acceptedAs tick table a delta) t d e q (holds table t e .1) (delta-there delta d q);
+      empty = λ crc. empty-cut tick (a .base) crc;
+    }
+
+-- what is sent for a table of an area
+adds-sent : (sizes : List ℤ) (c : Controller) (tick : ℤ) (table : List ℤ) (t : Table) (s : Storage) (l : List Accepted) → tableOf table ≡ some t → Keeping s l → (o : Outcome AddedSnap) → let x : StoredSnap = record { tick = tick; snap = t } in Adds (length (c .area)) (length (c .delta)) x s o → Sends sizes tick table (addedStep c x s o)
+unfolding addStep
+adds-sent sizes c tick table t s l e k o (full n) a w q = absurd (not-refused q)
+adds-sent sizes c tick table t s l e k o (clashes n i) a w q = absurd (not-refused q)
+adds-sent sizes c tick table t s l e k o (ControllerSteps.lacks n i j) a w q = absurd (not-refused q)
+adds-sent sizes c tick table t s l e k o (fits n i h) a w q =
+    let x : StoredSnap = record { tick = tick; snap = t } in
+    let b = baseOf x s .snap in
+    sends-held sizes tick table _ a t (deltaFrom b t) e (delta-in b t (c .delta) (base-sound (s .deltaTick) x (s .snaps) (k .based) (k .sounds)) (soundly table t e .1) i h)
+
+-- what is sent for an area, if it holds a table
+area-sent : (sizes : List ℤ) (c : Controller) (tick : ℤ) (table : List ℤ) (l : List Accepted) (k : List Told) (h : Controls c l k) (o : Option Table) → tableOf table ≡ o → Sends sizes tick table (controllerCall c (addSnap tick table))
+area-sent sizes c tick table l k h (some t) e =
+    let x : StoredSnap = record { tick = tick; snap = t } in
+    let o = adding (length (c .area)) (length (c .delta)) x (h .storage) in
+    subst (Sends sizes tick table) (sym (call-adds c tick table t (h .storage) (h .held) e))
+    (adds-sent sizes c tick table t (h .storage) l e (h .keeping) o (adding-is (length (c .area)) (length (c .delta)) x (h .storage)))
+area-sent sizes c tick table l k h Option.none e =
+    subst (Sends sizes tick table) (sym (call-unformed c tick table (h .storage) (h .held) e)) (λ a w q. absurd (not-refused q))
 
 -- ---- bases
 
@@ -107,32 +201,49 @@ bases-right (Statement.more {a = a} {l = l} n q le r rs) (more m ch) =
 
 -- ---- a session
 
--- the controller after the first of its calls
-controls-after : (s : Session) → Holds s → (xs ys : List ControllerCall) → s .calls ≡ xs ++ ys → Controls (afterCalls (s .controller) xs) (acceptedFrom (s .controller) xs [])
-controls-after s h xs ys e =
-    let r : Rising (acceptedFrom (afterCalls (s .controller) xs) ys (acceptedFrom (s .controller) xs [])) =
-    subst Rising (ap (λ (l : List ControllerCall). acceptedFrom (s .controller) l []) e ∙ accepted-append xs ys (s .controller) []) (h .rising) in
-    calls-control xs (s .controller) [] (all-front xs ys (subst (All BuiltCall) e (h .built))) (rises-from ys (afterCalls (s .controller) xs) _ r)
-    (subst (λ (c : Controller). Controls c []) (sym (h .controllerFresh)) (fresh-controls (h .area) (h .delta)))
+module _ (s : Session) (h : Holds s) where
+  -- the controller after the first of its calls
+  controls-after : (xs ys : List ControllerCall) → s .calls ≡ xs ++ ys → Controls (afterCalls (s .controller) xs) (acceptedFrom (s .controller) xs []) (toldFrom (s .controller) xs [])
+  controls-after xs ys e =
+      let r : Rising (acceptedFrom (afterCalls (s .controller) xs) ys (acceptedFrom (s .controller) xs [])) =
+      subst Rising (ap (λ (l : List ControllerCall). acceptedFrom (s .controller) l []) e ∙ accepted-append xs ys (s .controller) []) (h .rising) in
+      calls-control xs (s .controller) [] [] (rises-from ys (afterCalls (s .controller) xs) _ r)
+      (subst (λ (c : Controller). Controls c [] []) (sym (h .controllerFresh)) (fresh-controls (h .area) (h .delta)))
 
--- the controller's calls are answered from what its store holds
-pub controller-answered : (s : Session) → Holds s → (xs ys : List ControllerCall) (x : ControllerCall) → s .calls ≡ xs ++ x ∷ ys → (g : Storage) × controllerHolds s xs g × Answered g x (controllerCall (afterCalls (s .controller) xs) x .answer)
-controller-answered s h xs ys x e =
-    let k = controls-after s h xs (x ∷ ys) e in
-    (k .storage, k .held, call-answered (afterCalls (s .controller) xs) x _ (all-at xs ys x (subst (All BuiltCall) e (h .built))) k (h .controllerSuffices xs ys x e))
+  -- its store holds what its calls tell
+  pub controller-holds : (xs ys : List ControllerCall) → s .calls ≡ xs ++ ys → storageOf (afterCalls (s .controller) xs .store) (afterCalls (s .controller) xs .area) ≡ some (controllerTold s xs)
+  controller-holds xs ys e = let k = controls-after xs ys e in k .held ∙ ap some (k .told)
 
--- the controller after all its calls
-controls-all : (s : Session) → Holds s → Controls (afterCalls (s .controller) (s .calls)) (acceptedIn s)
-controls-all s h = controls-after s h (s .calls) [] (sym (append-nil (s .calls)))
+  -- each call has room
+  abbrev pub CallsRoom : Type 0
+  CallsRoom =
+      (xs ys : List ControllerCall) (x : ControllerCall) → s .calls ≡ xs ++ x ∷ ys → Room (ControllerLong (afterCalls (s .controller) xs)) (controllerCall (afterCalls (s .controller) xs) x .answer)
 
--- each accepted table's delta was made against its base, the empty table or an older accepted one
-pub accepted-bases : (s : Session) → Holds s → All (BaseRight (acceptedIn s)) (acceptedIn s)
-accepted-bases s h = bases-right (h .rising) (controls-all s h .keeping .chain)
+  -- the calls are answered from what its store holds
+  pub controller-answered : CallsRoom → (xs ys : List ControllerCall) (x : ControllerCall) → s .calls ≡ xs ++ x ∷ ys → Answered (controllerTold s xs) x (controllerCall (afterCalls (s .controller) xs) x .answer)
+  controller-answered room xs ys x e =
+      let k = controls-after xs (x ∷ ys) e in
+      subst (λ (g : Storage). Answered g x (controllerCall (afterCalls (s .controller) xs) x .answer)) (k .told) (call-answered (afterCalls (s .controller) xs) x _ _ k (room xs ys x e))
 
--- each accepted table was built
-pub accepted-built : (s : Session) → Holds s → All (λ (a : Accepted). Built (a .table)) (acceptedIn s)
-accepted-built s h = controls-all s h .keeping .built
+  -- the calls that send give the messages of an added table
+  pub controller-sent : (xs ys : List ControllerCall) (tick : ℤ) (table : List ℤ) → s .calls ≡ xs ++ addSnap tick table ∷ ys → Sends (s .sizes) tick table (controllerCall (afterCalls (s .controller) xs) (addSnap tick table))
+  controller-sent xs ys tick table e =
+      area-sent (s .sizes) (afterCalls (s .controller) xs) tick table _ _ (controls-after xs (addSnap tick table ∷ ys) e) (tableOf table) refl
 
--- each accepted table is sound
-pub accepted-sound : (s : Session) → Holds s → All (λ (a : Accepted). sound (a .table) ≡ true) (acceptedIn s)
-accepted-sound s h = controls-all s h .keeping .sound-all
+  -- each accepted table's delta was made against its base, the empty table or an older accepted one
+  pub accepted-bases : All (BaseRight (acceptedIn s)) (acceptedIn s)
+  accepted-bases = bases-right (h .rising) (controls-after (s .calls) [] (sym (append-nil (s .calls))) .keeping .chain)
+
+-- calls that are not refused for want of room have it
+pub told-calls : (s : Session) (h : Holds s) → AreasSuffice s → CallsRoom s h
+told-calls s h a xs ys x e = told (a .controller xs ys x e)
+
+-- long areas stay long
+long-after : (xs : List ControllerCall) (c : Controller) → ControllerLong c → ControllerLong (afterCalls c xs)
+unfolding afterCalls
+long-after [] c l = l
+long-after (x ∷ xs) c l = long-after xs (controllerCall c x .next) (call-long c x l)
+
+-- so calls on them have room
+pub long-calls : (s : Session) (h : Holds s) → AreasLong s → CallsRoom s h
+long-calls s h a xs ys x e = long (long-after xs (s .controller) (a .area, a .delta))

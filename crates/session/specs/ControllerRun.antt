@@ -4,25 +4,31 @@ use mathlib.Core.Bool.{true, false}
 use mathlib.Core.List.{List, [], _∷_, _++_}
 use mathlib.Core.Option.{Option, some}
 use mathlib.Core.Option as Option
-use Prim.Native.Nat.{ℕ}
+use Prim.Native.Nat.{ℕ, _≤_}
 use native.Mathlib.Omega.{arith}
+use borrow.Author.Tests.{ltb-true, lt-ltb}
+use lib.Dec.{ltb}
 use lib.IntN.{ℤ, pos, negsuc}
 use lib.ListN.{length}
 use Rattle.definitions.specs.Ints.{signedLess}
 use Rattle.definitions.specs.Outcome.{Outcome, ok, err}
-use Rattle.definitions.specs.Storage.{StoredSnap, Storage, freshStorage, dropOlder, oldestAt, baseFor, dropFor, isHeld, withSnaps, withDeltaTick, adding, Keeps}
+use Rattle.definitions.specs.Tables.{Table, tableOf}
+use Rattle.definitions.specs.Receiver.{same}
+use Rattle.definitions.specs.Storage.{StoredSnap, Storage, freshStorage, dropOlder, oldestAt, isNegative, baseFor, dropFor, isHeld, withSnaps, withDeltaTick, adding, Keeps}
 use Rattle.definitions.specs.Storage as Storage
 use Rattle.definitions.specs.StorageCalls.{Added}
+use Rattle.laws.specs.TableReadBack.{holds}
 use Rattle.laws.specs.StoreForm.{nothing, fresh-found}
 use Rattle.session.specs.Runs.{ControllerCall, addSnap, setDeltaTick, Controller, ControllerStep, controllerCall, freshController, afterCalls, Accepted, acceptedBy, acceptedFrom}
-use Rattle.session.specs.Statement.{All, BuiltCall, Rising}
+use Rattle.session.specs.ControllerList.{Told, toldBy, toldFrom, lastBase, notOlder, tablesLeft, storageTold}
+use Rattle.session.specs.Statement.{Rising}
 use Rattle.session.specs.Statement as Statement
-use Rattle.session.specs.Lists.{contra}
-use Rattle.session.specs.HeldTicks.{end, falls-drop, all-drop}
+use Rattle.session.specs.Lists.{contra, either}
+use Rattle.session.specs.HeldTicks.{snapAt, Falls, end, next, falls-drop, all-drop}
 use Rattle.session.specs.Dropping.{sounds-drop, length-dropOlder, Oldest, oldest-found}
-use Rattle.session.specs.ControllerSteps.{drops, base-left, adding-is, call-adds, Sets, unsets, sets, setting-is, setStep, call-sets}
+use Rattle.session.specs.ControllerSteps.{drops, base-left, adding-is, call-adds, call-unformed, Sets, unsets, sets, setting-is, setStep, call-sets}
 use Rattle.session.specs.ControllerSteps as ControllerSteps
-use Rattle.session.specs.ControllerState.{Based, unset, set, none, more, Keeping, Controls, laid-out, adds-controls}
+use Rattle.session.specs.ControllerState.{Based, unset, set, none, more, Keeping, Controls, laid-out, told-refused, told-adding, adds-controls}
 
 -- ---- the base tick is set
 
@@ -37,7 +43,6 @@ keeping-dropped b s l o k h =
       sounds = sounds-drop (pos b) (s .snaps) (k .sounds);
       few = omega (arith, length-dropOlder (pos b) (s .snaps), k .few);
       chain = k .chain;
-      built = k .built;
       sound-all = k .sound-all;
     }
 
@@ -66,42 +71,87 @@ set-based tick s l k e h =
     let q : isHeld (oldestAt (pos (n .0)) (dropOlder (pos (n .0)) (s .snaps))) ≡ true = subst (λ (z : ℤ). isHeld (oldestAt z (dropOlder z (s .snaps))) ≡ true) (n .1) left in
     subst (λ (z : ℤ). Based (some z) (dropOlder z (s .snaps))) (sym (n .1)) (based-set (n .0) _ (oldest-found (n .0) (dropOlder (pos (n .0)) (s .snaps)) (falls-drop (n .0) (k .falls)) q))
 
+-- of tables below a tick none is left
+none-left : (b : ℕ) {j : ℕ} {l : List StoredSnap} → Falls j l → j ≤ b → notOlder (pos b) l ≡ []
+unfolding notOlder
+none-left b end h = refl
+none-left b (next {n = n} p f) h = rw (lt-ltb n b (omega arith)) (none-left b f (omega arith))
+
+-- dropping from the newest side drops all that is older, where ticks fall
+drop-notOlder : (b : ℕ) {j : ℕ} {l : List StoredSnap} → Falls j l → dropOlder (pos b) l ≡ notOlder (pos b) l
+unfolding dropOlder notOlder
+drop-notOlder b end = refl
+drop-notOlder b (next {n = n} {t = t} p f) =
+    either (ltb n b)
+    (λ e. rw e (sym (none-left b f (omega (arith, ltb-true n b e)))))
+    (λ e. rw e (ap (λ (z : List StoredSnap). snapAt n t ∷ z) (drop-notOlder b f)))
+
+module _ (c : Controller) (tick : ℤ) (s : Storage) (k : List Told) {j : ℕ} (f : Falls j (s .snaps)) (q : s ≡ storageTold k) where
+  -- tables older than a tick that is not negative are dropped
+  dropped : signedLess tick (pos 0) ≡ false → dropOlder tick (s .snaps) ≡ notOlder tick (tablesLeft k)
+  dropped e =
+      let n = not-negative tick e in
+      subst (λ (z : ℤ). dropOlder z (s .snaps) ≡ notOlder z (s .snaps)) (sym (n .1)) (drop-notOlder (n .0) f)
+      ∙ ap (λ (z : Storage). notOlder tick (z .snaps)) q
+
+  -- what is left then, whatever base is set
+  left-with : (o : Option ℤ) → signedLess tick (pos 0) ≡ false → withDeltaTick (withSnaps s (dropOlder tick (s .snaps))) o ≡ record { snaps = notOlder tick (tablesLeft k); ackTick = Option.none; deltaTick = o }
+  left-with o e = rw (dropped e, ap (λ (z : Storage). z .ackTick) q) refl
+
+  -- what setting a base tick leaves is what is told
+  told-setting : Storage.setDeltaTick tick s .storage ≡ storageTold (toldBy (setDeltaTick tick) (setStep c (Storage.setDeltaTick tick s)) k)
+  unfolding Storage.setDeltaTick tablesLeft lastBase
+  told-setting =
+      either (isNegative tick)
+      (λ e. either (same tick (negsuc 0)) (λ z. rw (e, z, e, q) refl) (λ z. rw (e, z, e, q) refl))
+      (λ e.
+      either (isHeld (oldestAt tick (dropOlder tick (s .snaps))))
+      (λ h. rw (e, h, e) (left-with (some tick) e))
+      (λ h. rw (e, h) (left-with Option.none e)))
+
 -- what setting a base tick leaves
-sets-controls : (c : Controller) (tick : ℤ) (s : Storage) (l : List Accepted) → Keeping s l → (o : Keeps (Unit {0})) → Sets tick s o → Controls (setStep c o .next) l
-sets-controls c tick s l k o (unsets e) =
-    laid-out (length (c .area)) (c .delta) (withDeltaTick s Option.none) l
+sets-controls : (c : Controller) (tick : ℤ) (s : Storage) (l : List Accepted) (k : List Told) → Keeping s l → (o : Keeps (Unit {0})) → o .storage ≡ storageTold (toldBy (setDeltaTick tick) (setStep c o) k) → Sets tick s o → Controls (setStep c o .next) l (toldBy (setDeltaTick tick) (setStep c o) k)
+sets-controls c tick s l k h o q (unsets e u) =
+    laid-out (length (c .area)) (c .delta) (withDeltaTick s Option.none) l _
     (record {
-      top = k .top;
-      falls = k .falls;
+      top = h .top;
+      falls = h .falls;
       based = unset;
-      accepted = k .accepted;
-      sounds = k .sounds;
-      few = k .few;
-      chain = k .chain;
-      built = k .built;
-      sound-all = k .sound-all;
+      accepted = h .accepted;
+      sounds = h .sounds;
+      few = h .few;
+      chain = h .chain;
+      sound-all = h .sound-all;
     })
-sets-controls c tick s l k o (sets e h) =
-    laid-out (length (c .area)) (c .delta) _ l (keeping-for tick s l (some tick) k e (set-based tick s l k e h))
-sets-controls c tick s l k o (ControllerSteps.lacks e h) =
-    laid-out (length (c .area)) (c .delta) _ l (keeping-for tick s l Option.none k e unset)
+    q
+sets-controls c tick s l k h o q (sets e i) =
+    laid-out (length (c .area)) (c .delta) _ l _ (keeping-for tick s l (some tick) h e (set-based tick s l h e i)) q
+sets-controls c tick s l k h o q (ControllerSteps.lacks e i) =
+    laid-out (length (c .area)) (c .delta) _ l _ (keeping-for tick s l Option.none h e unset) q
 
 -- ---- a call, and a list of calls
 
 -- what a step leaves is in order, where the tables accepted then rise
-abbrev Leaves : ControllerCall → List Accepted → ControllerStep → Type 0
-Leaves x l y = Rising (acceptedBy x y (y .answer) l) → Controls (y .next) (acceptedBy x y (y .answer) l)
+abbrev Leaves : ControllerCall → List Accepted → List Told → ControllerStep → Type 0
+Leaves x l k y = Rising (acceptedBy x y (y .answer) l) → Controls (y .next) (acceptedBy x y (y .answer) l) (toldBy x y k)
+
+-- what adding the table of an area leaves, if it holds one
+area-controls : (c : Controller) (tick : ℤ) (table : List ℤ) (l : List Accepted) (k : List Told) → Controls c l k → (o : Option Table) → tableOf table ≡ o → Leaves (addSnap tick table) l k (controllerCall c (addSnap tick table))
+area-controls c tick table l k h (some t) e =
+    let x : StoredSnap = record { tick = tick; snap = t } in
+    let o = adding (length (c .area)) (length (c .delta)) x (h .storage) in
+    subst (Leaves (addSnap tick table) l k) (sym (call-adds c tick table t (h .storage) (h .held) e))
+    (adds-controls c tick table t (h .storage) l k e (h .keeping) o (told-adding c tick table t (h .storage) k o (holds table t e .1) (h .told)) (adding-is (length (c .area)) (length (c .delta)) x (h .storage)))
+area-controls c tick table l k h Option.none e =
+    subst (Leaves (addSnap tick table) l k) (sym (call-unformed c tick table (h .storage) (h .held) e))
+    (λ r. record { storage = h .storage; held = h .held; keeping = h .keeping; told = told-refused (h .storage) k tick table (h .told) })
 
 -- what a call leaves, from what was there before
-call-controls : (c : Controller) (x : ControllerCall) (l : List Accepted) → BuiltCall x → Controls c l → Leaves x l (controllerCall c x)
-call-controls c (addSnap tick table) l (t, e, b) k =
-    let x : StoredSnap = record { tick = tick; snap = t } in
-    let o = adding (length (c .area)) (length (c .delta)) x (k .storage) in
-    subst (Leaves (addSnap tick table) l) (sym (call-adds c tick table t (k .storage) (k .held) e))
-    (adds-controls c tick table t (k .storage) l e b (k .keeping) o (adding-is (length (c .area)) (length (c .delta)) x (k .storage)))
-call-controls c (setDeltaTick tick) l b k =
-    subst (Leaves (setDeltaTick tick) l) (sym (call-sets c tick (k .storage) (k .held)))
-    (λ r. sets-controls c tick (k .storage) l (k .keeping) (Storage.setDeltaTick tick (k .storage)) (setting-is tick (k .storage)))
+call-controls : (c : Controller) (x : ControllerCall) (l : List Accepted) (k : List Told) → Controls c l k → Leaves x l k (controllerCall c x)
+call-controls c (addSnap tick table) l k h = area-controls c tick table l k h (tableOf table) refl
+call-controls c (setDeltaTick tick) l k h =
+    subst (Leaves (setDeltaTick tick) l k) (sym (call-sets c tick (h .storage) (h .held)))
+    (λ r. sets-controls c tick (h .storage) l k (h .keeping) (Storage.setDeltaTick tick (h .storage)) (told-setting c tick (h .storage) k (h .keeping .falls) (h .told)) (setting-is tick (h .storage)))
 
 -- those accepted before rise where those accepted then do
 rises-before : (x : ControllerCall) (y : ControllerStep) (o : Outcome (Option Added)) (l : List Accepted) → Rising (acceptedBy x y o l) → Rising l
@@ -117,11 +167,11 @@ rises-from [] c l r = r
 rises-from (x ∷ xs) c l r = rises-before x (controllerCall c x) (controllerCall c x .answer) l (rises-from xs (controllerCall c x .next) _ r)
 
 -- what a list of calls leaves
-pub calls-control : (xs : List ControllerCall) (c : Controller) (l : List Accepted) → All BuiltCall xs → Rising (acceptedFrom c xs l) → Controls c l → Controls (afterCalls c xs) (acceptedFrom c xs l)
-unfolding acceptedFrom afterCalls
-calls-control [] c l b r k = k
-calls-control (x ∷ xs) c l (Statement.more b bs) r k =
-    calls-control xs (controllerCall c x .next) _ bs r (call-controls c x l b k (rises-from xs (controllerCall c x .next) _ r))
+pub calls-control : (xs : List ControllerCall) (c : Controller) (l : List Accepted) (k : List Told) → Rising (acceptedFrom c xs l) → Controls c l k → Controls (afterCalls c xs) (acceptedFrom c xs l) (toldFrom c xs k)
+unfolding acceptedFrom afterCalls toldFrom
+calls-control [] c l k r h = h
+calls-control (x ∷ xs) c l k r h =
+    calls-control xs (controllerCall c x .next) _ _ r (call-controls c x l k h (rises-from xs (controllerCall c x .next) _ r))
 
 -- the tables accepted in two lists of calls
 pub accepted-append : (xs ys : List ControllerCall) (c : Controller) (l : List Accepted) → acceptedFrom c (xs ++ ys) l ≡ acceptedFrom (afterCalls c xs) ys (acceptedFrom c xs l)
@@ -130,7 +180,8 @@ accepted-append [] ys c l = refl
 accepted-append (x ∷ xs) ys c l = accepted-append xs ys (controllerCall c x .next) _
 
 -- an empty store holds nothing, and nothing was accepted
-pub fresh-controls : (n : ℕ) (delta : List ℤ) → Controls (freshController n delta) []
+pub fresh-controls : (n : ℕ) (delta : List ℤ) → Controls (freshController n delta) [] []
+unfolding tablesLeft lastBase
 fresh-controls n delta =
     record {
       storage = freshStorage;
@@ -143,7 +194,7 @@ fresh-controls n delta =
         sounds = nothing;
         few = omega arith;
         chain = none;
-        built = Statement.none;
         sound-all = Statement.none;
       };
+      told = refl;
     }

@@ -1,6 +1,6 @@
 -- What a controller's store holds at every moment, and how the tables accepted so far were made. Assumes nothing.
 use mathlib.Core.Path.{_≡_, refl, sym, _∙_, ap, subst}
-use mathlib.Core.Bool.{true}
+use mathlib.Core.Bool.{true, false}
 use mathlib.Core.List.{List, [], _∷_, _++_}
 use mathlib.Core.Option.{Option, some}
 use mathlib.Core.Option as Option
@@ -11,11 +11,11 @@ use lib.IntN.{ℤ, pos}
 use lib.ListN.{length, drop}
 use Rattle.definitions.specs.Ints.{signedLess}
 use Rattle.definitions.specs.Areas.{lay}
-use Rattle.definitions.specs.Outcome.{Outcome, return}
+use Rattle.definitions.specs.Outcome.{Outcome, ok, err, return}
 use Rattle.definitions.specs.Tables.{Table, body, offsets, written, rising, sound, items, tableOf}
 use Rattle.definitions.specs.Deltas.{Delta, writtenDelta, deltaForm, deltaIn, deltaOf}
 use Rattle.definitions.specs.DeltaMaking.{alike, deltaFrom, createDelta}
-use Rattle.definitions.specs.Storage.{StoredSnap, Storage, storeArea, beside, storageOf, oldestOr, withSnaps, chosenBase, AddedSnap}
+use Rattle.definitions.specs.Storage.{StoredSnap, Storage, storeArea, beside, storageOf, oldestOr, withSnaps, chosenBase, AddedSnap, addedTo}
 use Rattle.definitions.specs.StorageCalls.{addStep}
 use Rattle.laws.specs.AreaLaws.{lay-append}
 use Rattle.laws.specs.TableRoundTrip.{soundly}
@@ -23,10 +23,10 @@ use Rattle.laws.specs.TableReadBack.{holds}
 use Rattle.laws.specs.DeltaMade.{made-held}
 use Rattle.laws.specs.StoreForm.{Sounds, storage-found}
 use Rattle.laws.specs.StoreForm as StoreForm
-use Rattle.laws.specs.BuilderForm.{Built}
 use Rattle.session.specs.Runs.{Controller, Accepted, acceptedBy}
 use Rattle.session.specs.Runs as Runs
-use Rattle.session.specs.Statement.{All, Rising, AcceptedAt, Base, orNone, IsAccepted}
+use Rattle.session.specs.ControllerList.{Told, toldBy, lastBase, tablesLeft, storageTold}
+use Rattle.session.specs.Statement.{All, Rising, AcceptedAt, Base, orNone}
 use Rattle.session.specs.Statement as Statement
 use Rattle.session.specs.Lists.{either, all-among, all-map}
 use Rattle.session.specs.HeldTicks.{Falls, end, next, oldest-among}
@@ -52,6 +52,10 @@ pub data Chain : List Accepted → Type 0 where
   none : Chain []
   more : {a : Accepted} {l : List Accepted} → MadeFrom l a → Chain l → Chain (a ∷ l)
 
+-- a table that is held is, item for item, the one accepted at its tick
+abbrev pub IsAccepted : List Accepted → StoredSnap → Type 0
+IsAccepted l x = AcceptedAt l (x .tick) (x .snap)
+
 -- what a store holds that took the tables accepted so far
 pub record Keeping (s : Storage) (l : List Accepted) : Type 0 where
   pub top : ℕ
@@ -61,23 +65,24 @@ pub record Keeping (s : Storage) (l : List Accepted) : Type 0 where
   pub sounds : Sounds (s .snaps)
   pub few : length (s .snaps) ≤ 100
   pub chain : Chain l
-  pub built : All (λ (a : Accepted). Built (a .table)) l
   pub sound-all : All (λ (a : Accepted). sound (a .table) ≡ true) l
 
--- a controller's store and area hold that
-pub record Controls (c : Controller) (l : List Accepted) : Type 0 where
+-- a controller's store and area hold that, and what the calls k tell
+pub record Controls (c : Controller) (l : List Accepted) (k : List Told) : Type 0 where
   pub storage : Storage
   pub held : storageOf (c .store) (c .area) ≡ some storage
   pub keeping : Keeping storage l
+  pub told : storage ≡ storageTold k
 
 -- a store that was laid out is held
-pub laid-out : (n : ℕ) (delta : List ℤ) (s : Storage) (l : List Accepted) → Keeping s l → Controls (record { store = beside s; area = storeArea n (s .snaps); delta = delta }) l
-laid-out n delta s l k = record { storage = s; held = storage-found n s (k .sounds) (k .few); keeping = k }
+pub laid-out : (n : ℕ) (delta : List ℤ) (s : Storage) (l : List Accepted) (k : List Told) → Keeping s l → s ≡ storageTold k → Controls (record { store = beside s; area = storeArea n (s .snaps); delta = delta }) l k
+laid-out n delta s l k keeps told =
+    record { storage = s; held = storage-found n s (keeps .sounds) (keeps .few); keeping = keeps; told = told }
 
 -- ---- the delta that was made
 
 -- the delta that an area is known to hold
-delta-there : (a : List ℤ) (d : Delta) → deltaOf a ≡ some d → deltaIn [] a ≡ d
+pub delta-there : (a : List ℤ) (d : Delta) → deltaOf a ≡ some d → deltaIn [] a ≡ d
 unfolding deltaOf
 delta-there a d e =
     either (deltaForm [] a)
@@ -147,18 +152,17 @@ tighten n es (next {n = j} h f) (Statement.more p ps) r =
     next (ltb-true j n q) f
 
 -- a newer table that was accepted is held beside the others
-pub keeping-more : (s : Storage) (l : List Accepted) (x : StoredSnap) (a : Accepted) → Keeping s l → length (s .snaps) < 100 → sound (x .snap) ≡ true → Built (a .table) → a .tick ≡ x .tick → a .table ≡ x .snap → MadeFrom l a → Rising (a ∷ l) → Keeping (withSnaps s (x ∷ s .snaps)) (a ∷ l)
-keeping-more s l x a k lt ok b t-is s-is m (Statement.more n q le r rs) =
+pub keeping-more : (s : Storage) (l : List Accepted) (x : StoredSnap) (a : Accepted) → Keeping s l → length (s .snaps) < 100 → sound (x .snap) ≡ true → a .tick ≡ x .tick → a .table ≡ x .snap → MadeFrom l a → Rising (a ∷ l) → Keeping (withSnaps s (x ∷ s .snaps)) (a ∷ l)
+keeping-more s l x a k lt fine t-is s-is m (Statement.more n q le r rs) =
     record {
       top = suc n;
       falls = falls-next {k = suc n} n x (s .snaps) (sym t-is ∙ q) (omega arith) (tighten n l (k .falls) (k .accepted) (all-map (λ (y : Accepted) (p : signedLess (y .tick) (a .tick) ≡ true). subst (λ (z : ℤ). signedLess (y .tick) z ≡ true) q p) r));
       based = based-more x (s .deltaTick) (s .snaps) (k .based);
       accepted = Statement.more (record { table = a; accepted = Statement.here; tick-is = t-is; table-is = s-is }) (all-map (accepted-more a l) (k .accepted));
-      sounds = StoreForm.more ok (k .sounds);
+      sounds = StoreForm.more fine (k .sounds);
       few = lt;
       chain = more m (k .chain);
-      built = Statement.more b (k .built);
-      sound-all = Statement.more (subst (λ (t : Table). sound t ≡ true) (sym s-is) ok) (k .sound-all);
+      sound-all = Statement.more (subst (λ (t : Table). sound t ≡ true) (sym s-is) fine) (k .sound-all);
     }
 
 -- the delta of a table that fits is the one that was made
@@ -173,15 +177,27 @@ made-from c tick table t s l e k a h =
       made = ap (createDelta b) (holds table t e .1) ∙ (made-is b t a ∙ ap (λ (d : Delta). return d) (sym d-is));
     }
 
+-- a refused table leaves what is told
+pub told-refused : (s : Storage) (k : List Told) (tick : ℤ) (table : List ℤ) → s ≡ storageTold k → s ≡ storageTold (record { call = Runs.addSnap tick table; answered = false } ∷ k)
+unfolding tablesLeft lastBase
+told-refused s k tick table e = e
+
+-- what adding the table of an area leaves is what is told
+pub told-adding : (c : Controller) (tick : ℤ) (table : List ℤ) (t : Table) (s : Storage) (k : List Told) (o : Outcome AddedSnap) → items table ≡ t → s ≡ storageTold k → let x : StoredSnap = record { tick = tick; snap = t } in addedTo x s o .storage ≡ storageTold (toldBy (Runs.addSnap tick table) (addedStep c x s o) k)
+unfolding addStep tablesLeft lastBase
+told-adding c tick table t s k (ok a w) q e = rw (q, e) refl
+told-adding c tick table t s k (err n w) q e = e
+
 -- what adding a table leaves
-pub adds-controls : (c : Controller) (tick : ℤ) (table : List ℤ) (t : Table) (s : Storage) (l : List Accepted) → tableOf table ≡ some t → Built t → Keeping s l → (o : Outcome AddedSnap) → let x : StoredSnap = record { tick = tick; snap = t } in Adds (length (c .area)) (length (c .delta)) x s o → Rising (acceptedBy (Runs.addSnap tick table) (addedStep c x s o) (addedStep c x s o .answer) l) → Controls (addedStep c x s o .next) (acceptedBy (Runs.addSnap tick table) (addedStep c x s o) (addedStep c x s o .answer) l)
+pub adds-controls : (c : Controller) (tick : ℤ) (table : List ℤ) (t : Table) (s : Storage) (l : List Accepted) (k : List Told) → tableOf table ≡ some t → Keeping s l → (o : Outcome AddedSnap) → let x : StoredSnap = record { tick = tick; snap = t } in let y = addedStep c x s o in addedTo x s o .storage ≡ storageTold (toldBy (Runs.addSnap tick table) y k) → Adds (length (c .area)) (length (c .delta)) x s o → Rising (acceptedBy (Runs.addSnap tick table) y (y .answer) l) → Controls (y .next) (acceptedBy (Runs.addSnap tick table) y (y .answer) l) (toldBy (Runs.addSnap tick table) y k)
 unfolding addStep
-adds-controls c tick table t s l e b k o (full n) r = laid-out (length (c .area)) (c .delta) s l k
-adds-controls c tick table t s l e b k o (clashes n a) r = laid-out (length (c .area)) (c .delta) s l k
-adds-controls c tick table t s l e b k o ControllerSteps.lacks r = laid-out (length (c .area)) (c .delta) s l k
-adds-controls c tick table t s l e b k o (fits n a h) r =
+adds-controls c tick table t s l k e h o q (full n) r = laid-out (length (c .area)) (c .delta) s l _ h q
+adds-controls c tick table t s l k e h o q (clashes n a) r = laid-out (length (c .area)) (c .delta) s l _ h q
+adds-controls c tick table t s l k e h o q (ControllerSteps.lacks n a f) r = laid-out (length (c .area)) (c .delta) s l _ h q
+adds-controls c tick table t s l k e h o q (fits n a f) r =
     let x : StoredSnap = record { tick = tick; snap = t } in
     let t-is : items table ≡ t = holds table t e .1 in
     let w = lay (writtenDelta (deltaFrom (baseOf x s .snap) t)) (c .delta) in
-    laid-out (length (c .area)) w (withSnaps s (x ∷ s .snaps)) _
-    (keeping-more s l x (record { tick = tick; base = baseOf x s .tick; table = items table; delta = deltaIn [] w }) k n (soundly table t e .1) (subst Built (sym t-is) b) refl t-is (made-from c tick table t s l e k a h) r)
+    laid-out (length (c .area)) w (withSnaps s (x ∷ s .snaps)) _ _
+    (keeping-more s l x (record { tick = tick; base = baseOf x s .tick; table = items table; delta = deltaIn [] w }) h n (soundly table t e .1) refl t-is (made-from c tick table t s l e h a f) r)
+    q

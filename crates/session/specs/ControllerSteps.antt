@@ -1,6 +1,6 @@
 -- A controller's call on a store in form, by what it comes to. Assumes nothing.
 use mathlib.Core.Path.{_≡_, refl}
-use mathlib.Core.Bool.{Bool, true, false, cond, not, _&&_}
+use mathlib.Core.Bool.{Bool, true, false, cond, _&&_}
 use mathlib.Core.List.{List, [], _∷_}
 use mathlib.Core.Option.{some, none}
 use Prim.Native.Nat.{ℕ, _≤_, _<_}
@@ -9,10 +9,10 @@ use lib.Dec.{ltb, leb}
 use lib.IntN.{ℤ, pos, negsuc}
 use lib.ListN.{length}
 use Rattle.definitions.specs.Ints.{signedLess}
-use Rattle.definitions.specs.Refusals.{deltaDifferingSizes, capacityError, storeFull, unknownSnap}
+use Rattle.definitions.specs.Refusals.{deltaDifferingSizes, capacityError, storeFull, unknownSnap, notInForm}
 use Rattle.definitions.specs.Warnings.{Counts, WeirdNegativeDeltaTick}
 use Rattle.definitions.specs.Warnings as Warnings
-use Rattle.definitions.specs.Outcome.{Outcome, ok, return, refuse, require, warnIf, _>>_}
+use Rattle.definitions.specs.Outcome.{Outcome, ok, return, refuse, require, _>>_}
 use Rattle.definitions.specs.Tables.{Table, tableOf}
 use Rattle.definitions.specs.TableCalls.{held}
 use Rattle.definitions.specs.Deltas.{writtenDelta}
@@ -23,6 +23,7 @@ use Rattle.definitions.specs.StorageCalls.{laidOut, afterJudging, heldStorage, 
 use Rattle.laws.specs.TableShape.{both}
 use Rattle.session.specs.Runs.{Controller, ControllerStep, added, baseSet, controllerCall}
 use Rattle.session.specs.Runs as Runs
+use Rattle.session.specs.Statement.{Weird, minusOne, other}
 use Rattle.session.specs.Lists.{contra, either}
 
 -- ---- a table is added
@@ -31,11 +32,17 @@ use Rattle.session.specs.Lists.{contra, either}
 abbrev pub baseOf : StoredSnap → Storage → StoredSnap
 baseOf x s = chosenBase (s .deltaTick) x (s .snaps)
 
+-- whether the table and its delta have room
+abbrev pub hasRoom : ℕ → ℕ → StoredSnap → Storage → Bool
+hasRoom n m x s =
+    leb (length (storeInts (x ∷ s .snaps))) n
+    && leb (length (writtenDelta (deltaFrom (baseOf x s .snap) (x .snap)))) m
+
 -- what adding a table comes to, for a store area of n ints and a delta area of m
 pub data Adds (n m : ℕ) (x : StoredSnap) (s : Storage) : Outcome AddedSnap → Type 0 where
   full : 100 ≤ length (s .snaps) → Adds n m x s (refuse storeFull)
   clashes : length (s .snaps) < 100 → alike (baseOf x s .snap) (x .snap) ≡ false → Adds n m x s (refuse deltaDifferingSizes)
-  lacks : Adds n m x s (refuse capacityError)
+  lacks : length (s .snaps) < 100 → alike (baseOf x s .snap) (x .snap) ≡ true → hasRoom n m x s ≡ false → Adds n m x s (refuse capacityError)
   fits : length (s .snaps) < 100 → alike (baseOf x s .snap) (x .snap) ≡ true → length (writtenDelta (deltaFrom (baseOf x s .snap) (x .snap))) ≤ m → Adds n m x s (return (record { base = baseOf x s .tick; delta = deltaFrom (baseOf x s .snap) (x .snap) }))
 
 -- tables of which one item clashes make no delta
@@ -48,17 +55,11 @@ pub made-is : (b t : Table) → alike b t ≡ true → createDelta b t ≡ retur
 unfolding createDelta
 made-is b t e = rw e
 
--- whether the table and its delta have room
-abbrev hasRoom : ℕ → ℕ → StoredSnap → Storage → Bool
-hasRoom n m x s =
-    leb (length (storeInts (x ∷ s .snaps))) n
-    && leb (length (writtenDelta (deltaFrom (baseOf x s .snap) (x .snap)))) m
-
 -- what the three tests come to: fewer than 100 tables, no clash, room
 tests-are : (n m : ℕ) (x : StoredSnap) (s : Storage) (few same room : Bool) → ltb (length (s .snaps)) 100 ≡ few → alike (baseOf x s .snap) (x .snap) ≡ same → hasRoom n m x s ≡ room → Adds n m x s (require few storeFull >> (require same deltaDifferingSizes >> (require room capacityError >> return (record { base = baseOf x s .tick; delta = deltaFrom (baseOf x s .snap) (x .snap) }))))
 tests-are n m x s false same room f a r = full (ltb-false (length (s .snaps)) 100 f)
 tests-are n m x s true false room f a r = clashes (ltb-true (length (s .snaps)) 100 f) a
-tests-are n m x s true true false f a r = lacks
+tests-are n m x s true true false f a r = lacks (ltb-true (length (s .snaps)) 100 f) a r
 tests-are n m x s true true true f a r =
     fits (ltb-true (length (s .snaps)) 100 f) a (leb-true _ m (both (leb (length (storeInts (x ∷ s .snaps))) n) _ r .1))
 
@@ -79,11 +80,16 @@ pub call-adds : (c : Controller) (tick : ℤ) (table : List ℤ) (t : Table) (s 
 unfolding controllerCall addSnapStep judgeTable heldStorage held afterJudging addSnap
 call-adds c tick table t s e d = rw (e, d)
 
+-- an area that holds no table is refused, and nothing changes
+pub call-unformed : (c : Controller) (tick : ℤ) (table : List ℤ) (s : Storage) → storageOf (c .store) (c .area) ≡ some s → tableOf table ≡ none → controllerCall c (Runs.addSnap tick table) ≡ record { answer = refuse notInForm; next = c }
+unfolding controllerCall addSnapStep addStep judgeTable heldStorage held afterJudging
+call-unformed c tick table s e d = rw (e, d) refl
+
 -- ---- the base tick is set
 
 -- what setting a base tick comes to
 pub data Sets (tick : ℤ) (s : Storage) : Keeps (Unit {0}) → Type 0 where
-  unsets : {w : Counts} → signedLess tick (pos 0) ≡ true → Sets tick s (record { answer = ok tt w; storage = withDeltaTick s none })
+  unsets : {w : Counts} → signedLess tick (pos 0) ≡ true → Weird tick w → Sets tick s (record { answer = ok tt w; storage = withDeltaTick s none })
   sets : signedLess tick (pos 0) ≡ false → isHeld (baseFor tick (s .snaps)) ≡ true → Sets tick s (record { answer = return tt; storage = withDeltaTick (withSnaps s (dropFor tick (s .snaps))) (some tick) })
   lacks : signedLess tick (pos 0) ≡ false → isHeld (baseFor tick (s .snaps)) ≡ false → Sets tick s (record { answer = refuse unknownSnap; storage = withDeltaTick (withSnaps s (dropFor tick (s .snaps))) none })
 
@@ -100,20 +106,19 @@ base-left tick l e = go (signedLess tick (pos 0)) e
     go false q = refl
 
 -- a negative tick is taken, with or without a warning
-weird-is : (tick : ℤ) → (w : Counts) × (warnWeird tick ≡ ok tt w)
-weird-is tick = go (isNegative tick && not (same tick (negsuc 0)))
-  where
-    go : (b : Bool) → (w : Counts) × (warnIf b WeirdNegativeDeltaTick ≡ ok tt w)
-    go true = (Warnings.one WeirdNegativeDeltaTick, refl)
-    go false = (Warnings.none, refl)
+weird-is : (tick : ℤ) → isNegative tick ≡ true → (w : Counts) × (warnWeird tick ≡ ok tt w) × Weird tick w
+weird-is tick e =
+    either (same tick (negsuc 0))
+    (λ q. (Warnings.none, rw (e, q) refl, minusOne q))
+    (λ q. (Warnings.one WeirdNegativeDeltaTick, rw (e, q) refl, other q))
 
 -- setting a base tick comes to one of these
 pub setting-is : (tick : ℤ) (s : Storage) → Sets tick s (setDeltaTick tick s)
 unfolding setDeltaTick
 setting-is tick s = go (isNegative tick) (isHeld (baseFor tick (s .snaps))) refl refl (weird-is tick)
   where
-    go : (n h : Bool) → isNegative tick ≡ n → isHeld (baseFor tick (s .snaps)) ≡ h → (w : Counts) × (warnWeird tick ≡ ok tt w) → Sets tick s (cond n (record { answer = warnWeird tick; storage = withDeltaTick s none }) (cond h (record { answer = return tt; storage = withDeltaTick (withSnaps s (dropFor tick (s .snaps))) (some tick) }) (record { answer = refuse unknownSnap; storage = withDeltaTick (withSnaps s (dropFor tick (s .snaps))) none })))
-    go true h e q (w, r) = rw r (unsets {w = w} e)
+    go : (n h : Bool) → isNegative tick ≡ n → isHeld (baseFor tick (s .snaps)) ≡ h → (isNegative tick ≡ true → (w : Counts) × (warnWeird tick ≡ ok tt w) × Weird tick w) → Sets tick s (cond n (record { answer = warnWeird tick; storage = withDeltaTick s none }) (cond h (record { answer = return tt; storage = withDeltaTick (withSnaps s (dropFor tick (s .snaps))) (some tick) }) (record { answer = refuse unknownSnap; storage = withDeltaTick (withSnaps s (dropFor tick (s .snaps))) none })))
+    go true h e q f = let (w, r, u) = f e in rw r (unsets {w = w} e u)
     go false true e q w = sets e q
     go false false e q w = lacks e q
 

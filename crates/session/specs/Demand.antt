@@ -5,17 +5,17 @@ use lib.IntN.{ℤ, pos}
 use Rattle.definitions.specs.Tables.{Table}
 use Rattle.laws.specs.Clean.{Clean, built-clean}
 use Rattle.session.specs.Runs.{Accepted}
-use Rattle.session.specs.Statement.{Among, AcceptedAt, BaseRight, Session, acceptedIn, Holds, Demand3}
-use Rattle.session.specs.LinkStatement.{Link, MadeOn, LinkHolds, Agreement}
+use Rattle.session.specs.Statement.{AcceptedAt, BaseRight, Session, acceptedIn, Holds, AreasSuffice, AreasLong, Demand3}
+use Rattle.session.specs.LinkStatement.{Link, LinkHolds, Agreement}
 use Rattle.session.specs.Lists.{all-among, all-map}
 use Rattle.session.specs.PrinterState.{one-accepted, numbered}
-use Rattle.session.specs.Agreeing.{agreement}
-use Rattle.session.specs.ControllerClaims.{controller-answered, accepted-bases, accepted-built}
+use Rattle.session.specs.Agreeing.{agreement, agreement-long}
+use Rattle.session.specs.ControllerClaims.{CallsRoom, controller-holds, controller-answered, controller-sent, accepted-bases, told-calls, long-calls}
 
 -- the link of a session
 abbrev pub linkOf : Session → Link
 linkOf s =
-    record { lent = s .lent; instead = s .instead; deltas = acceptedIn s; printer = s .printer; messages = s .messages }
+    record { sizes = s .sizes; instead = s .instead; deltas = acceptedIn s; printer = s .printer; received = s .received }
 
 module _ (s : Session) (h : Holds s) where
   -- the table accepted at a tick is one
@@ -30,7 +30,7 @@ module _ (s : Session) (h : Holds s) where
 
   -- it is clean
   clean-at : {t : ℤ} {u : Table} → AcceptedAt (acceptedIn s) t u → Clean u
-  clean-at a = subst Clean (a .table-is) (built-clean (all-among (accepted-built s h) (a .accepted)))
+  clean-at a = subst Clean (a .table-is) (built-clean (all-among (h .built) (a .accepted)))
 
   -- what is asked of the link holds
   link-holds : LinkHolds (AcceptedAt (acceptedIn s)) (linkOf s)
@@ -42,26 +42,32 @@ module _ (s : Session) (h : Holds s) where
         covers = λ m. record { table = _; accepted = m; tick-is = refl; table-is = refl };
         rising = h .rising;
         made = all-map (λ (a : Accepted) (r : BaseRight (acceptedIn s) a). record { base = r .base; named = r .named; made = r .made }) (accepted-bases s h);
-        fair = h .fair;
         area = h .printerArea;
         parts = h .parts;
         joined = h .joined;
         delta = h .printerDelta;
         fresh = h .printerFresh;
         sent = h .sent;
-        suffices = h .printerSuffices;
       }
 
-  -- the claim holds of every session
-  pub demand3 : Demand3 s
-  demand3 =
-      let g = agreement (AcceptedAt (acceptedIn s)) (linkOf s) link-holds in
+  -- the claim, where the controller's calls have room and printer and logbook agree
+  claimed : CallsRoom s h → Agreement (AcceptedAt (acceptedIn s)) (linkOf s) → Demand3 s
+  claimed room g =
       record {
-        controller = controller-answered s h;
+        holds = controller-holds s h;
+        controller = controller-answered s h room;
         bases = accepted-bases s h;
-        tables = g .tables;
+        sending = λ xs ys tick table a w e q. controller-sent s h xs ys tick table e a w q;
+        printer = g .printer;
         acknowledgements = g .acknowledgements;
         sameAnswers = g .sameAnswers;
-        sameAcknowledgement = g .sameAcknowledgement;
-        sameTicks = g .sameTicks;
       }
+
+  -- the claim holds of every session in which no call is refused for want of room
+  pub demand3 : AreasSuffice s → Demand3 s
+  demand3 a = claimed (told-calls s h a) (agreement (AcceptedAt (acceptedIn s)) (linkOf s) link-holds (a .printer))
+
+  -- and of every session with areas and scratch of the lengths that always suffice
+  pub demand3-long : AreasLong s → Demand3 s
+  demand3-long a =
+      claimed (long-calls s h a) (agreement-long (AcceptedAt (acceptedIn s)) (linkOf s) link-holds (a .printer) (a .scratch))

@@ -1,12 +1,17 @@
 -- Demand 3: a controller, a printer and a radio that loses, repeats and reorders. Assumes nothing.
+pub mod Lengths
 pub mod Runs
+pub mod ControllerList
+pub mod SendingCalls
 pub mod Statement
 pub mod LinkStatement
 pub mod Lists
+pub mod Room
 pub mod PartsCame
 pub mod HeldTicks
 pub mod PartsHeld
 pub mod Sending
+pub mod SendingGives
 pub mod PrinterState
 pub mod StoreSteps
 pub mod ReceiverSteps
@@ -18,6 +23,7 @@ pub mod PrinterMessages
 pub mod PrinterCalls
 pub mod History
 pub mod Acknowledging
+pub mod AreaLengths
 pub mod PrinterRuns
 pub mod Agreeing
 pub mod Dropping
@@ -28,3 +34,4 @@ pub mod ControllerClaims
 pub mod Demand
 pub mod Sufficing
 pub mod Example
+pub mod ExampleKinds

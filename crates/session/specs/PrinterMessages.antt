@@ -22,7 +22,8 @@ use Rattle.definitions.specs.Manager.{handle, emptyDelta, emptyRead}
 use Rattle.definitions.specs.Logbook.{Logbook, noteMessage}
 use Rattle.laws.specs.AreaLaws.{laid-there}
 use Rattle.session.specs.Runs.{Accepted, packed, emptyMessage}
-use Rattle.session.specs.Statement.{Among, All, Rising, Fair, Base, Suffices}
+use Rattle.session.specs.Statement.{Among, Rising, Base, Carried}
+use Rattle.session.specs.Room.{Room, BothLong}
 use Rattle.session.specs.HeldTicks.{same-self}
 use Rattle.session.specs.Sending.{isLarge, Goes, asPart, asSingle, asEmpty, partOfTable, singleOfTable}
 use Rattle.session.specs.PrinterState.{Naming, Numbered, numbered, Agree}
@@ -31,12 +32,12 @@ use Rattle.session.specs.PrinterSteps.{Ready, one-base, base-back, Same}
 use Rattle.session.specs.PrinterWhole.{whole-same}
 use Rattle.session.specs.PrinterParts.{part-same}
 
-module _ (sizes : List ℤ) (instead : ℤ → Bool) (es : List Accepted) (At : ℤ → Table → Type 0) (n : ℕ) (up : Rising es) (nm : Naming es At) (fair : All (Fair sizes instead At) es) where
+module _ (sizes : List ℤ) (instead : ℤ → Bool) (es : List Accepted) (At : ℤ → Table → Type 0) (n : ℕ) (up : Rising es) (nm : Naming es At) where
   module _ (a : Accepted) (m : Among a es) (y : Ready sizes At a) (r : Receiver) (s : Storage) (g : Logbook) (area second : List ℕ) (delta : List ℤ) (first : 28800 ≤ length area) (other : 28800 ≤ length second) (agree : Agree sizes instead es At n r area s g) where
     -- what is claimed of a message
     abbrev Claim : Message → Type 0
     Claim x =
-        Suffices (handle sizes n (record { receiver = r; storage = s }) x area second delta .answer) → Same sizes instead es At n (handle sizes n (record { receiver = r; storage = s }) x area second delta) (noteMessage g (x .numbers))
+        Room (BothLong n (length delta)) (handle sizes n (record { receiver = r; storage = s }) x area second delta .answer) → Same sizes instead es At n (handle sizes n (record { receiver = r; storage = s }) x area second delta) (noteMessage g (x .numbers))
 
     -- the table's tick as a number
     k : Numbered a
@@ -52,26 +53,26 @@ module _ (sizes : List ℤ) (instead : ℤ → Bool) (es : List Accepted) (At : 
     empty-made (inr e) = rw (← e) (y .applies)
 
     -- a part of several
-    part : (p : ℕ) → isLarge sizes instead a ≡ true → p < numParts (packed sizes a) → Claim (partOfTable sizes instead a p)
+    part : (p : ℕ) → isLarge sizes instead a ≡ true → p < numParts (packed sizes a) → Carried sizes a → Claim (partOfTable sizes instead a p)
     unfolding handle num
-    part p large below =
+    part p large below carried =
         subst (λ (t : ℤ). Claim (record { numbers = Snap t (wrappingSub t (a .base)) (pos (numParts (packed sizes a))) (pos p) (crc (a .table)); bytes = partBytes (packed sizes a) p })) (sym (k .tick-is))
-        (λ s. rw back (part-same sizes instead es At n up nm fair m (k .tick-is) large y p below area second delta first other back agree s))
+        (λ s. rw back (part-same sizes instead es At n up nm m (k .tick-is) large carried y p below area second delta first other back agree s))
 
     -- the single message
-    single : isLarge sizes instead a ≡ false → length (packed sizes a) ≤ 900 → Claim (singleOfTable sizes instead a)
+    single : isLarge sizes instead a ≡ false → length (packed sizes a) ≤ 900 → Carried sizes a → Claim (singleOfTable sizes instead a)
     unfolding handle
-    single small short =
+    single small short carried =
         subst (λ (t : ℤ). Claim (record { numbers = SnapSingle t (wrappingSub t (a .base)) (crc (a .table)); bytes = packed sizes a })) (sym (k .tick-is))
         (λ s.
         rw back
-        (whole-same sizes instead es At n up nm fair m (k .tick-is) small area second delta
+        (whole-same sizes instead es At n up nm m (k .tick-is) small area second delta
         (λ r. takeSingle r (pos (k .number)) (wrappingSub (pos (k .number)) (a .base)) (crc (a .table)) (packed sizes a) area second)
         (some (record { length = length (packed sizes a); crc = crc (a .table) }))
-        (lay (packed sizes a) second) (y .read) (y .base)
+        (lay (packed sizes a) second) (y .read) (y .base) (y .room)
         (λ r form o. single-old r (pos (k .number)) (wrappingSub (pos (k .number)) (a .base)) (crc (a .table)) (packed sizes a) area second form other short o)
         (λ r form o. rw back at (single-takes r (pos (k .number)) (wrappingSub (pos (k .number)) (a .base)) (crc (a .table)) (packed sizes a) area second form other short o))
-        (rw (laid-there 0 (packed sizes a) second (omega arith)) (y .reads))
+        (rw (laid-there 0 (packed sizes a) second (omega arith)) (y .reads (carried .matches)))
         (same-self (crc (a .table))) (y .named) (rw (y .delta-is) (y .applies)) agree s))
 
     -- the empty message
@@ -81,15 +82,15 @@ module _ (sizes : List ℤ) (instead : ℤ → Bool) (es : List Accepted) (At : 
         subst (λ (t : ℤ). Claim (record { numbers = SnapEmpty t (wrappingSub t (a .base)); bytes = [] })) (sym (k .tick-is))
         (λ s.
         rw back
-        (whole-same sizes instead es At n up nm fair m (k .tick-is) small area second delta
+        (whole-same sizes instead es At n up nm m (k .tick-is) small area second delta
         (λ r. takeEmpty r (pos (k .number)) (wrappingSub (pos (k .number)) (a .base)) area second)
-        Option.none second emptyRead (y .base)
+        Option.none second emptyRead (y .base) (omega arith)
         (λ r form o. empty-old r (pos (k .number)) (wrappingSub (pos (k .number)) (a .base)) area second form o)
         (λ r form o. rw back at (empty-takes r (pos (k .number)) (wrappingSub (pos (k .number)) (a .base)) area second form o))
         refl refl (y .named) (empty-made e) agree s))
 
     -- a message of an accepted table
     pub message-same : (x : Message) → Goes sizes instead At a x → Claim x
-    message-same x (asPart p large below) = part p large below
-    message-same x (asSingle small short) = single small short
+    message-same x (asPart p large below carried) = part p large below carried
+    message-same x (asSingle small short carried) = single small short carried
     message-same x (asEmpty small e) = empty small e

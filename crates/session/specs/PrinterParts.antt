@@ -25,8 +25,9 @@ use Rattle.definitions.specs.Logbook.{Logbook, allCame, note, partCame}
 use Rattle.laws.specs.AreaLaws.{laid-there}
 use Rattle.laws.specs.CutLaws.{part-short}
 use Rattle.session.specs.Runs.{Accepted, packed}
-use Rattle.session.specs.Statement.{Among, All, none, Rising, Fair, Suffices}
-use Rattle.session.specs.Lists.{either, all-among}
+use Rattle.session.specs.Statement.{Among, Rising, Carried}
+use Rattle.session.specs.Lists.{either}
+use Rattle.session.specs.Room.{Room, BothLong}
 use Rattle.session.specs.HeldTicks.{ticks, same-pos, same-self}
 use Rattle.session.specs.PartsHeld.{Holding, holding-none, holding-all, holding-put, holding-joined}
 use Rattle.session.specs.Sending.{isLarge, partsNeeded}
@@ -42,7 +43,7 @@ higher Option.none h e = refl
 higher (some (pos v)) {u} {t} h e = lt-ltb v t (omega (arith, ltb-true v u e))
 higher (some (negsuc v)) h e = refl
 
-module _ (sizes : List ℤ) (instead : ℤ → Bool) (es : List Accepted) (At : ℤ → Table → Type 0) (n : ℕ) (up : Rising es) (nm : Naming es At) (fair : All (Fair sizes instead At) es) {a : Accepted} {t : ℕ} (m : Among a es) (is : a .tick ≡ pos t) (large : isLarge sizes instead a ≡ true) (y : Ready sizes At a)
+module _ (sizes : List ℤ) (instead : ℤ → Bool) (es : List Accepted) (At : ℤ → Table → Type 0) (n : ℕ) (up : Rising es) (nm : Naming es At) {a : Accepted} {t : ℕ} (m : Among a es) (is : a .tick ≡ pos t) (large : isLarge sizes instead a ≡ true) (carried : Carried sizes a) (y : Ready sizes At a)
     (p : ℕ) (below : p < numParts (packed sizes a)) (area second : List ℕ) (delta : List ℤ) (first : 28800 ≤ length area) (other : 28800 ≤ length second) where
   -- the table's bytes, and how many parts they make
   abbrev bytes : List ℕ
@@ -54,7 +55,7 @@ module _ (sizes : List ℤ) (instead : ℤ → Bool) (es : List Accepted) (At : 
 
   -- at most 32
   few : count ≤ 32
-  few = few-parts sizes instead es At n fair m
+  few = few-parts sizes instead es At n carried
 
   -- as many finish the tick
   parts-needed : partsNeeded sizes instead a ≡ count
@@ -84,25 +85,25 @@ module _ (sizes : List ℤ) (instead : ℤ → Bool) (es : List Accepted) (At : 
     more-in = holding-put hold p few below missing first
 
     -- with the last part
-    last-same : (r : Receiver) (x : Outcome Taken) (newest : Option ℤ) (before : List ℕ) → Gives x (putting previous lengths) → allCame count (p ∷ came) ≡ true → Suffices (taken sizes n r (storing l k o) area second delta x .answer) → Same sizes instead es At n (taken sizes n r (storing l k o) area second delta x) (partCame (noting newest before l k) (pos t) (a .base) count (p ∷ came))
+    last-same : (r : Receiver) (x : Outcome Taken) (newest : Option ℤ) (before : List ℕ) → Gives x (putting previous lengths) → allCame count (p ∷ came) ≡ true → Room (BothLong n (length delta)) (taken sizes n r (storing l k o) area second delta x .answer) → Same sizes instead es At n (taken sizes n r (storing l k o) area second delta x) (partCame (noting newest before l k) (pos t) (a .base) count (p ∷ came))
     unfolding partCame
     last-same r x newest before g e s =
         let c : eqb (countIn (set lengths p (length (partBytes bytes p))) 32) count ≡ true = holding-all more-in few ∙ e in
-        let j : joined (set lengths p (length (partBytes bytes p))) (layAt (900 * p) (partBytes bytes p) area) 32 ≡ bytes = holding-joined more-in e (all-among fair m .short) in
+        let j : joined (set lengths p (length (partBytes bytes p))) (layAt (900 * p) (partBytes bytes p) area) 32 ≡ bytes = holding-joined more-in e (carried .short) in
         let q : Gives x (finishing a t (some (record { length = length bytes; crc = crc (a .table) })) (layAt (900 * p) (partBytes bytes p) area) (lay bytes second)) = rw (put-finishes previous (withPart (openedWith lengths) p (length (partBytes bytes p))) (layAt (900 * p) (partBytes bytes p) area) second c, j) at g in
-        let z : readDelta sizes (stream (take (length bytes) (lay bytes second))) ≡ return (y .read) = rw (laid-there 0 bytes second (omega (arith, all-among fair m .short))) (y .reads) in
+        let z : readDelta sizes (stream (take (length bytes) (lay bytes second))) ≡ return (y .read) = rw (laid-there 0 bytes second (omega (arith, carried .short))) (y .reads (carried .matches)) in
         rw e
-        (finishes sizes instead es At n up nm m is (p ∷ came) (rw parts-needed e) r l k o area second delta x (some (record { length = length bytes; crc = crc (a .table) })) (layAt (900 * p) (partBytes bytes p) area) (lay bytes second) (y .read) (y .base) q z (same-self (crc (a .table))) (y .named) (rw (y .delta-is) (y .applies)) h s)
+        (finishes sizes instead es At n up nm m is (p ∷ came) (rw parts-needed e) r l k o area second delta x (some (record { length = length bytes; crc = crc (a .table) })) (layAt (900 * p) (partBytes bytes p) area) (lay bytes second) (y .read) (y .base) (y .room) q z (same-self (crc (a .table))) (y .named) (rw (y .delta-is) (y .applies)) h s)
 
     -- with another part
     wait-same : (r : Receiver) (x : Outcome Taken) (newest : Option ℤ) (before : List ℕ) → Gives x (putting previous lengths) → allCame count (p ∷ came) ≡ false → Same sizes instead es At n (taken sizes n r (storing l k o) area second delta x) (partCame (noting newest before l k) (pos t) (a .base) count (p ∷ came))
     unfolding partCame leaves afterReceiving
     wait-same r x newest before g e =
         let c : eqb (countIn (set lengths p (length (partBytes bytes p))) 32) count ≡ false = holding-all more-in few ∙ e in
-        rw (e, g .gives, put-waits previous (withPart (openedWith lengths) p (length (partBytes bytes p))) (layAt (900 * p) (partBytes bytes p) area) second c) (record { answer = refl; agree = waiting m is large more-in e (omega arith) above h })
+        rw (e, g .gives, put-waits previous (withPart (openedWith lengths) p (length (partBytes bytes p))) (layAt (900 * p) (partBytes bytes p) area) second c) (record { answer = refl; agree = waiting m is large carried more-in e (omega arith) above h })
 
     -- a part that was missing
-    put-same : (r : Receiver) (x : Outcome Taken) (newest : Option ℤ) (before : List ℕ) → Gives x (putting previous lengths) → Suffices (taken sizes n r (storing l k o) area second delta x .answer) → Same sizes instead es At n (taken sizes n r (storing l k o) area second delta x) (partCame (noting newest before l k) (pos t) (a .base) count (p ∷ came))
+    put-same : (r : Receiver) (x : Outcome Taken) (newest : Option ℤ) (before : List ℕ) → Gives x (putting previous lengths) → Room (BothLong n (length delta)) (taken sizes n r (storing l k o) area second delta x .answer) → Same sizes instead es At n (taken sizes n r (storing l k o) area second delta x) (partCame (noting newest before l k) (pos t) (a .base) count (p ∷ came))
     put-same r x newest before g s =
         either (allCame count (p ∷ came)) (λ e. last-same r x newest before g e s) (λ e. wait-same r x newest before g e)
 
@@ -161,7 +162,7 @@ module _ (sizes : List ℤ) (instead : ℤ → Bool) (es : List Accepted) (At : 
     -- a part of the tick for which the receiver waits
     abbrev Again : Option ℤ → List ℕ → List ℕ → List StoredSnap → Option ℤ → Option ℤ → Accepted → ℕ → Type 0
     Again previous lengths came l k o c u =
-        receiverForm (waitingFor sizes previous u c lengths) ≡ true → Holding (packed sizes c) lengths area came → allCame (numParts (packed sizes c)) came ≡ false → 0 < length came → abovePrevious previous (pos u) ≡ true → Held sizes instead es At n u l → Suffices (taken sizes n (waitingFor sizes previous u c lengths) (storing l k o) area second delta (partTaken (waitingFor sizes previous u c lengths)) .answer) → Same sizes instead es At n (taken sizes n (waitingFor sizes previous u c lengths) (storing l k o) area second delta (partTaken (waitingFor sizes previous u c lengths))) (note (notes (pos u) came (ticks l) k) (pos t) (a .base) p count)
+        receiverForm (waitingFor sizes previous u c lengths) ≡ true → Holding (packed sizes c) lengths area came → allCame (numParts (packed sizes c)) came ≡ false → 0 < length came → abovePrevious previous (pos u) ≡ true → Held sizes instead es At n u l → Room (BothLong n (length delta)) (taken sizes n (waitingFor sizes previous u c lengths) (storing l k o) area second delta (partTaken (waitingFor sizes previous u c lengths)) .answer) → Same sizes instead es At n (taken sizes n (waitingFor sizes previous u c lengths) (storing l k o) area second delta (partTaken (waitingFor sizes previous u c lengths))) (note (notes (pos u) came (ticks l) k) (pos t) (a .base) p count)
 
     -- a part of the tick that is waited for, which came already or not
     again : (previous : Option ℤ) (lengths came : List ℕ) (l : List StoredSnap) (k o : Option ℤ) → Again previous lengths came l k o a t
@@ -173,21 +174,21 @@ module _ (sizes : List ℤ) (instead : ℤ → Bool) (es : List Accepted) (At : 
         either (elem p came)
         (λ q.
         rw (note-twice t t (a .base) p count came (ticks l) k refl c q)
-        (refused-same sizes instead es At n second delta (partTaken r) duplicatePart (twice r lengths form new (goes-on previous lengths) (i ∙ q)) (waiting m is large hold c some-in above h)))
+        (refused-same sizes instead es At n second delta (partTaken r) duplicatePart (twice r lengths form new (goes-on previous lengths) (i ∙ q)) (waiting m is large carried hold c some-in above h)))
         (λ q.
         rw (note-more t t (a .base) p count came (ticks l) k refl c q)
         (put-same previous l k o hold q above h r (partTaken r) (some (pos t)) came (takes r lengths form new (goes-on previous lengths) (i ∙ q)) s))
 
     -- a part, in whatever state
-    pub part-same : {r : Receiver} {s : Storage} {g : Logbook} → Agree sizes instead es At n r area s g → Suffices (taken sizes n r s area second delta (partTaken r) .answer) → Same sizes instead es At n (taken sizes n r s area second delta (partTaken r)) (note g (pos t) (a .base) p count)
+    pub part-same : {r : Receiver} {s : Storage} {g : Logbook} → Agree sizes instead es At n r area s g → Room (BothLong n (length delta)) (taken sizes n r s area second delta (partTaken r) .answer) → Same sizes instead es At n (taken sizes n r s area second delta (partTaken r)) (note g (pos t) (a .base) p count)
     unfolding note isOld
     part-same (fresh {o = o}) s =
-        let form = agree-form sizes instead es At n fair (fresh {area = area} {o = o}) in
+        let form = agree-form sizes instead es At n (fresh {area = area} {o = o}) in
         put-same Option.none [] Option.none o (holding-none bytes area) refl refl (held-nothing sizes instead es At n t) freshReceiver (partTaken freshReceiver) Option.none [] (takes freshReceiver noParts form refl (begins Option.none noParts) nothing-in) s
     part-same (finished {a = c} {came = came} {l = l} {k = k} {o = o} {t = u} x e w h) s =
         let r : Receiver = finishedAt (pos u) in
         let g : Agree sizes instead es At n r area (storing l k o) (notes (pos u) came (ticks l) k) = finished x e w h in
-        let form = agree-form sizes instead es At n fair g in
+        let form = agree-form sizes instead es At n g in
         either (ltb u t)
         (λ q.
         let z : u < t = ltb-true u t q in
@@ -199,12 +200,12 @@ module _ (sizes : List ℤ) (instead : ℤ → Bool) (es : List Accepted) (At : 
         (λ j. rw (note-older t u (a .base) p count came (ticks l) k (ltb-true t u j)) v)
         (λ j.
         let z : t ≡ u = omega (arith, ltb-false u t q, ltb-false t u j) in
-        let i : allCame count came ≡ true = rw (same-entry sizes instead es At n up nm fair m is u x e z, parts-needed) at w in
+        let i : allCame count came ≡ true = rw (same-entry sizes instead es At n up nm m is u x e z, parts-needed) at w in
         rw (note-full t u (a .base) p count came (ticks l) k z i) v))
-    part-same (waiting {a = c} {previous = previous} {lengths = lengths} {came = came} {l = l} {k = k} {o = o} {t = u} x e big hold w some-in above h) s =
+    part-same (waiting {a = c} {previous = previous} {lengths = lengths} {came = came} {l = l} {k = k} {o = o} {t = u} x e big carried hold w some-in above h) s =
         let r : Receiver = waitingFor sizes previous u c lengths in
-        let g : Agree sizes instead es At n r area (storing l k o) (notes (pos u) came (ticks l) k) = waiting x e big hold w some-in above h in
-        let form = agree-form sizes instead es At n fair g in
+        let g : Agree sizes instead es At n r area (storing l k o) (notes (pos u) came (ticks l) k) = waiting x e big carried hold w some-in above h in
+        let form = agree-form sizes instead es At n g in
         either (ltb t u)
         (λ q.
         rw (note-older t u (a .base) p count came (ticks l) k (ltb-true t u q))
@@ -213,7 +214,7 @@ module _ (sizes : List ℤ) (instead : ℤ → Bool) (es : List Accepted) (At : 
         either (eqb t u)
         (λ j.
         let z : t ≡ u = eqb-true t u j in
-        let d : a ≡ c = sym (same-entry sizes instead es At n up nm fair m is u x e z) in
+        let d : a ≡ c = sym (same-entry sizes instead es At n up nm m is u x e z) in
         subst (λ (b : Accepted). Again previous lengths came l k o b u) d
         (subst (λ (v : ℕ). Again previous lengths came l k o a v) z (again previous lengths came l k o))
         form hold w some-in above h s)

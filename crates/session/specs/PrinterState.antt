@@ -16,8 +16,10 @@ use Rattle.definitions.specs.Messages.{numParts}
 use Rattle.definitions.specs.Receiver.{Receiver, freshReceiver, finishedAt, countIn, abovePrevious, receiverForm, isOld}
 use Rattle.definitions.specs.Storage.{StoredSnap, Storage, storeInts, dropOlder}
 use Rattle.definitions.specs.Logbook.{Logbook, freshLogbook, allCame}
+use Rattle.laws.specs.StoreForm.{Sounds}
+use Rattle.laws.specs.StoreForm as StoreForm
 use Rattle.session.specs.Runs.{Accepted, packed}
-use Rattle.session.specs.Statement.{Among, here, there, All, none, more, Rising, Fair}
+use Rattle.session.specs.Statement.{Among, here, there, All, none, more, Rising, Carried}
 use Rattle.session.specs.Lists.{all-among}
 use Rattle.session.specs.PartsHeld.{Holding, holding-count, holding-few}
 use Rattle.session.specs.HeldTicks.{ticks, Falls, falls-drop, falls-weaken, all-drop}
@@ -63,6 +65,11 @@ pub record Naming (es : List Accepted) (At : ℤ → Table → Type 0) : Type 0 
 -- a table that is held is the one at its tick
 abbrev pub AtTick : (ℤ → Table → Type 0) → StoredSnap → Type 0
 AtTick At x = At (x .tick) (x .snap)
+
+-- tables at their ticks are sound
+pub named-sounds : {es : List Accepted} {At : ℤ → Table → Type 0} {l : List StoredSnap} → Naming es At → All (AtTick At) l → Sounds l
+named-sounds nm none = StoreForm.nothing
+named-sounds nm (more p ps) = StoreForm.more (nm .sounds p) (named-sounds nm ps)
 
 -- ---- what is held
 
@@ -145,17 +152,17 @@ module _ (sizes : List ℤ) (instead : ℤ → Bool) (es : List Accepted) (At : 
   pub data Agree : Receiver → List ℕ → Storage → Logbook → Type 0 where
     fresh : {area : List ℕ} {o : Option ℤ} → Agree freshReceiver area (storing [] Option.none o) freshLogbook
     finished : {a : Accepted} {area came : List ℕ} {l : List StoredSnap} {k o : Option ℤ} {t : ℕ} → Among a es → a .tick ≡ pos t → allCame (partsNeeded sizes instead a) came ≡ true → Held (suc t) l → Agree (finishedAt (pos t)) area (storing l k o) (notes (pos t) came (ticks l) k)
-    waiting : {a : Accepted} {previous : Option ℤ} {lengths area came : List ℕ} {l : List StoredSnap} {k o : Option ℤ} {t : ℕ} → Among a es → a .tick ≡ pos t → isLarge sizes instead a ≡ true → Holding (packed sizes a) lengths area came → allCame (numParts (packed sizes a)) came ≡ false → 0 < length came → abovePrevious previous (pos t) ≡ true → Held t l → Agree (waitingFor sizes previous t a lengths) area (storing l k o) (notes (pos t) came (ticks l) k)
+    waiting : {a : Accepted} {previous : Option ℤ} {lengths area came : List ℕ} {l : List StoredSnap} {k o : Option ℤ} {t : ℕ} → Among a es → a .tick ≡ pos t → isLarge sizes instead a ≡ true → Carried sizes a → Holding (packed sizes a) lengths area came → allCame (numParts (packed sizes a)) came ≡ false → 0 < length came → abovePrevious previous (pos t) ≡ true → Held t l → Agree (waitingFor sizes previous t a lengths) area (storing l k o) (notes (pos t) came (ticks l) k)
 
   -- few parts, where packed deltas are short
-  pub few-parts : {a : Accepted} → All (Fair sizes instead At) es → Among a es → numParts (packed sizes a) ≤ 32
-  few-parts fair m = omega (arith, all-among fair m .short)
+  pub few-parts : {a : Accepted} → Carried sizes a → numParts (packed sizes a) ≤ 32
+  few-parts c = omega (arith, c .short)
 
   -- the receiver is in form
-  pub agree-form : {r : Receiver} {area : List ℕ} {s : Storage} {g : Logbook} → All (Fair sizes instead At) es → Agree r area s g → receiverForm r ≡ true
+  pub agree-form : {r : Receiver} {area : List ℕ} {s : Storage} {g : Logbook} → Agree r area s g → receiverForm r ≡ true
   unfolding receiverForm countIn
-  agree-form fair fresh = refl
-  agree-form fair (finished m e c h) = refl
-  agree-form fair (waiting {a = a} {lengths = lengths} {came = came} m e big hold c some-in above h) =
-      let f = few-parts fair m in
+  agree-form fresh = refl
+  agree-form (finished m e c h) = refl
+  agree-form (waiting {a = a} {lengths = lengths} {came = came} m e big carried hold c some-in above h) =
+      let f = few-parts carried in
       rw (above, le-leb (numParts (packed sizes a)) 32 f, holding-count hold f, lt-ltb 0 (length came) some-in, lt-ltb (length came) (numParts (packed sizes a)) (holding-few hold c)) refl

@@ -1,7 +1,6 @@
 -- What the manager makes of what its receiver took, beside the logbook. Assumes nothing.
 use mathlib.Core.Path.{_≡_, refl, sym, _∙_, subst}
-use mathlib.Core.Logic.{_⊎_, inl, inr}
-use mathlib.Core.Bool.{Bool, true}
+use mathlib.Core.Bool.{Bool, true, false}
 use mathlib.Core.List.{List, []}
 use mathlib.Core.Option.{Option, some}
 use Prim.Native.Nat.{ℕ, _≤_}
@@ -18,6 +17,7 @@ use Rattle.definitions.specs.Outcome.{Outcome, ok, return, _>>=_}
 use Rattle.definitions.specs.Stream.{stream}
 use Rattle.definitions.specs.Tables.{Table}
 use Rattle.definitions.specs.Deltas.{Delta}
+use Rattle.definitions.specs.DeltaCalls.{sizesMatch}
 use Rattle.definitions.specs.DeltaReading.{DeltaRead, readDelta}
 use Rattle.definitions.specs.Applying.{applyDelta}
 use Rattle.definitions.specs.Types.{typed}
@@ -27,23 +27,26 @@ use Rattle.definitions.specs.Manager.{Handled, emptyDelta, receivedDelta, fitti
 use Rattle.definitions.specs.Logbook.{Logbook, Note, refused, allCame, heldFor, complete}
 use Rattle.laws.specs.IntLaws.{bits-wrappingSub, wrappingSub-fits, same-bits, bits-lt}
 use Rattle.session.specs.Runs.{Accepted, packed, answerOf}
-use Rattle.session.specs.Statement.{Among, Rising, Base, empty, named, Suffices}
+use Rattle.session.specs.Statement.{Among, Rising, Base, empty, named}
 use Rattle.session.specs.Lists.{either}
 use Rattle.session.specs.HeldTicks.{ticks}
 use Rattle.session.specs.Sending.{partsNeeded}
 use Rattle.session.specs.PrinterState.{Naming, storing, Held, Agree}
-use Rattle.session.specs.StoreSteps.{answer-is, suffices-is, reaches}
+use Rattle.session.specs.Lengths.{deltaAreaInts}
+use Rattle.session.specs.Room.{Room, BothLong, no-room}
+use Rattle.session.specs.StoreSteps.{answer-is, room-is, reaches}
 use Rattle.session.specs.ReceiverSteps.{Gives, Refuses}
 
 -- ---- what a printer needs of an accepted table
 
--- its delta was made against its base, and its packed form is read, and applied, as it
+-- its delta was made against its base; its packed form, under sizes that are its data's, is read, and applied, as it
 pub record Ready (sizes : List ℤ) (At : ℤ → Table → Type 0) (a : Accepted) : Type 0 where
   pub base : Table
   pub named : Base At (a .base) base
   pub read : DeltaRead
-  pub reads : readDelta sizes (stream (packed sizes a)) ≡ return read
+  pub reads : sizesMatch sizes (a .delta .updated) ≡ true → readDelta sizes (stream (packed sizes a)) ≡ return read
   pub delta-is : read .delta ≡ a .delta
+  pub room : read .room ≤ deltaAreaInts
   pub applies : (applyDelta base (a .delta) >>= typed) ≡ return (a .table)
   pub unchanged : (applyDelta base emptyDelta >>= typed) ≡ return base
 
@@ -105,12 +108,16 @@ taken sizes n r s area second delta o =
     afterReceiving sizes n (leaves r area second o) s delta (leaves r area second o .answer)
 
 -- a delta that was read fits the delta area, or is refused for want of room
-fitting : (sizes : List ℤ) (bytes : List ℕ) (n : ℕ) (c : Option DataAndCrc) (r : DeltaRead) → receivedDelta sizes bytes c ≡ return r → Gives (fittingDelta sizes bytes n c) (r .delta) ⊎ Refuses (fittingDelta sizes bytes n c) capacityError
+pub data Fits (x : Outcome Delta) (r : DeltaRead) (n : ℕ) : Type 0 where
+  fits : Gives x (r .delta) → Fits x r n
+  lacks : leb (r .room) n ≡ false → Refuses x capacityError → Fits x r n
+
+fitting : (sizes : List ℤ) (bytes : List ℕ) (n : ℕ) (c : Option DataAndCrc) (r : DeltaRead) → receivedDelta sizes bytes c ≡ return r → Fits (fittingDelta sizes bytes n c) r n
 unfolding fittingDelta
 fitting sizes bytes n c r e =
     either (leb (r .room) n)
-    (λ q. inl (rw (e, q) (record { counts = _; gives = refl })))
-    (λ q. inr (rw (e, q) (record { counts = _; refuses = refl })))
+    (λ q. fits (rw (e, q) (record { counts = _; gives = refl })))
+    (λ q. lacks q (rw (e, q) (record { counts = _; refuses = refl })))
 
 module _ (sizes : List ℤ) (instead : ℤ → Bool) (es : List Accepted) (At : ℤ → Table → Type 0) (n : ℕ) where
   -- a message's outcome is the logbook's, and printer and logbook agree afterwards
@@ -125,17 +132,18 @@ module _ (sizes : List ℤ) (instead : ℤ → Bool) (es : List Accepted) (At : 
 
   module _ (up : Rising es) (nm : Naming es At) {a : Accepted} {t : ℕ} (m : Among a es) (is : a .tick ≡ pos t) (came : List ℕ) (whole : allCame (partsNeeded sizes instead a) came ≡ true) where
     -- the delta was read, and fits, or not
-    stores : (l : List StoredSnap) (k o : Option ℤ) (area second : List ℕ) (delta : List ℤ) (w : Counts) (c : Option DataAndCrc) (d : Delta) (B : Table) (x : Outcome Delta) → Gives x d ⊎ Refuses x capacityError → sumFits (sumOf c) (a .table) ≡ true → Base At (a .base) B → (applyDelta B d >>= typed) ≡ return (a .table) → Held sizes instead es At n t l → Suffices (afterReading n w (finishedWith a t c area second w) (deltaOf a t c) (storing l k o) delta x .answer) → Same (afterReading n w (finishedWith a t c area second w) (deltaOf a t c) (storing l k o) delta x) (complete (pos t) (a .base) came (heldFor (a .base) (ticks l)))
+    stores : (l : List StoredSnap) (k o : Option ℤ) (area second : List ℕ) (delta : List ℤ) (w : Counts) (c : Option DataAndCrc) (r : DeltaRead) (B : Table) (x : Outcome Delta) → r .room ≤ deltaAreaInts → Fits x r (length delta) → sumFits (sumOf c) (a .table) ≡ true → Base At (a .base) B → (applyDelta B (r .delta) >>= typed) ≡ return (a .table) → Held sizes instead es At n t l → Room (BothLong n (length delta)) (afterReading n w (finishedWith a t c area second w) (deltaOf a t c) (storing l k o) delta x .answer) → Same (afterReading n w (finishedWith a t c area second w) (deltaOf a t c) (storing l k o) delta x) (complete (pos t) (a .base) came (heldFor (a .base) (ticks l)))
     unfolding afterReading
-    stores l k o area second delta w c d B x (inl y) fits base made h s =
-        let q = addDelta n (sumOf c) (a .base) (pos t) d (storing l k o) .answer in
-        let z = reaches sizes instead es At n up nm m is area came whole (sumOf c) fits (a .base) B d l k o base made h (suffices-is (plus w (y .counts)) q (rw (y .gives) at s)) in
+    stores l k o area second delta w c r B x short (fits y) sum base made h s =
+        let q = addDelta n (sumOf c) (a .base) (pos t) (r .delta) (storing l k o) .answer in
+        let z = reaches sizes instead es At n up nm m is area came whole (sumOf c) sum (a .base) B (r .delta) l k o base made h (room-is (λ z. z .0) (plus w (y .counts)) q (rw (y .gives) at s)) in
         rw (y .gives) (record { answer = answer-is (plus w (y .counts)) q ∙ z .answer; agree = z .agree })
-    stores l k o area second delta w c d B x (inr y) fits base made h s = absurd ((rw (y .refuses) at s) .0 refl)
+    stores l k o area second delta w c r B x short (lacks e y) sum base made h s =
+        absurd (no-room (r .room) (length delta) (λ z. let m = z .1 in omega arith) e (rw (y .refuses) at s))
 
     -- a finished tick reaches the store
-    pub finishes : (r : Receiver) (l : List StoredSnap) (k o : Option ℤ) (area second : List ℕ) (delta : List ℤ) (x : Outcome Taken) (c : Option DataAndCrc) (area′ second′ : List ℕ) (read : DeltaRead) (B : Table) → Gives x (finishing a t c area′ second′) → receivedDelta sizes second′ c ≡ return read → sumFits (sumOf c) (a .table) ≡ true → Base At (a .base) B → (applyDelta B (read .delta) >>= typed) ≡ return (a .table) → Held sizes instead es At n t l → Suffices (taken sizes n r (storing l k o) area second delta x .answer) → Same (taken sizes n r (storing l k o) area second delta x) (complete (pos t) (a .base) came (heldFor (a .base) (ticks l)))
+    pub finishes : (r : Receiver) (l : List StoredSnap) (k o : Option ℤ) (area second : List ℕ) (delta : List ℤ) (x : Outcome Taken) (c : Option DataAndCrc) (area′ second′ : List ℕ) (read : DeltaRead) (B : Table) → read .room ≤ deltaAreaInts → Gives x (finishing a t c area′ second′) → receivedDelta sizes second′ c ≡ return read → sumFits (sumOf c) (a .table) ≡ true → Base At (a .base) B → (applyDelta B (read .delta) >>= typed) ≡ return (a .table) → Held sizes instead es At n t l → Room (BothLong n (length delta)) (taken sizes n r (storing l k o) area second delta x .answer) → Same (taken sizes n r (storing l k o) area second delta x) (complete (pos t) (a .base) came (heldFor (a .base) (ticks l)))
     unfolding leaves afterReceiving
-    finishes r l k o area second delta x c area′ second′ read B g got fits base made h s =
+    finishes r l k o area second delta x c area′ second′ read B short g got sum base made h s =
         rw (g .gives)
-        (stores l k o area′ second′ delta (g .counts) c (read .delta) B (fittingDelta sizes second′ (length delta) c) (fitting sizes second′ (length delta) c read got) fits base made h (rw (g .gives) at s))
+        (stores l k o area′ second′ delta (g .counts) c read B (fittingDelta sizes second′ (length delta) c) short (fitting sizes second′ (length delta) c read got) sum base made h (rw (g .gives) at s))

@@ -4,7 +4,7 @@ use mathlib.Core.List.{List, [], _∷_, _++_}
 use mathlib.Core.Option.{Option, some, none}
 use Prim.Native.Nat.{ℕ}
 use lib.IntN.{ℤ, pos}
-use lib.ListN.{length, replicate}
+use lib.ListN.{replicate}
 use Rattle.definitions.specs.Ints.{wrappingSub}
 use Rattle.definitions.specs.Outcome.{Outcome, ok, err, return, _>>=_}
 use Rattle.definitions.specs.Packed.{packInts}
@@ -12,7 +12,7 @@ use Rattle.definitions.specs.Tables.{Table, items, crc}
 use Rattle.definitions.specs.Deltas.{Delta, isEmptyDelta, deltaInts, deltaIn}
 use Rattle.definitions.specs.Messages.{SnapEmpty, Message, deltaChunks}
 use Rattle.definitions.specs.Receiver.{Receiver, freshReceiver}
-use Rattle.definitions.specs.Storage.{StoredSnap, Storage, freshStorage, Store, beside, storageOf}
+use Rattle.definitions.specs.Storage.{freshStorage, Store, beside}
 use Rattle.definitions.specs.StorageCalls.{Added, AddStep, StoreStep, addSnapCall, setDeltaTickCall}
 use Rattle.definitions.specs.Manager.{ManagerStep, messageCall}
 use Rattle.definitions.specs.Logbook.{Answer, refused, notYet, acknowledges, Logbook, noteMessage}
@@ -70,10 +70,14 @@ pub record Accepted : Type 0 where
   pub table : Table
   pub delta : Delta
 
+-- the table of an area that was added at a tick, with the base that was told and the delta that the delta area holds
+abbrev pub acceptedAs : ℤ → List ℤ → Added → List ℤ → Accepted
+acceptedAs tick table a delta =
+    record { tick = tick; base = a .base; table = items table; delta = deltaIn [] delta }
+
 -- the table that a call added, if it did, before those accepted already
 abbrev pub acceptedBy : ControllerCall → ControllerStep → Outcome (Option Added) → List Accepted → List Accepted
-acceptedBy (addSnap tick table) x (ok (some a) w) l =
-    record { tick = tick; base = a .base; table = items table; delta = deltaIn [] (x .next .delta) } ∷ l
+acceptedBy (addSnap tick table) x (ok (some a) w) l = acceptedAs tick table a (x .next .delta) ∷ l
 acceptedBy (addSnap tick table) x (ok none w) l = l
 acceptedBy (addSnap tick table) x (err n w) l = l
 acceptedBy (setDeltaTick tick) x o l = l
@@ -94,12 +98,15 @@ packed sizes a = packInts (deltaInts sizes (a .delta))
 abbrev pub emptyMessage : Accepted → Message
 emptyMessage a = record { numbers = SnapEmpty (a .tick) (wrappingSub (a .tick) (a .base)); bytes = [] }
 
--- the messages of a table: its delta cut; or an empty message instead of them; or beside them, where the delta is empty
+-- the messages of a table's delta
+abbrev pub chunksOf : List ℤ → Accepted → List Message
+chunksOf sizes a = deltaChunks (a .tick) (a .base) (packed sizes a) (crc (a .table))
+
+-- the messages of a table: those of its delta; or an empty message instead of them; or beside them, where the delta is empty
 unfoldable pub messagesOf : List ℤ → (ℤ → Bool) → Accepted → List Message
 messagesOf sizes instead a =
     cond (instead (a .tick)) (emptyMessage a ∷ [])
-    (deltaChunks (a .tick) (a .base) (packed sizes a) (crc (a .table))
-    ++ cond (isEmptyDelta (a .delta)) (emptyMessage a ∷ []) [])
+    (chunksOf sizes a ++ cond (isEmptyDelta (a .delta)) (emptyMessage a ∷ []) [])
 
 -- ---- the printer
 
@@ -135,20 +142,24 @@ left x =
       area = x .area;
     }
 
--- what the printer may rely on: known sizes, and scratch of a length
-pub record Lent : Type 0 where
-  pub sizes : List ℤ
-  pub scratch : ℕ
+-- a call of the printer: a message, with scratch of a length
+pub data PrinterCall : Type 0 where
+  message : Message → ℕ → PrinterCall
 
--- a message, as the manager's calls are defined
-abbrev pub printerCall : Lent → Printer → Message → ManagerStep
-printerCall lent p m =
-    messageCall (lent .sizes) (p .receiver) (p .store) m (p .parts) (p .joined) (p .delta) (p .area) (lent .scratch)
+-- a message under known sizes, as the manager's calls are defined
+abbrev pub printerCall : List ℤ → Printer → Message → ℕ → ManagerStep
+printerCall sizes p m scratch =
+    messageCall sizes (p .receiver) (p .store) m (p .parts) (p .joined) (p .delta) (p .area) scratch
 
--- the printer after some messages
-unfoldable pub afterMessages : Lent → Printer → List Message → Printer
-afterMessages lent p [] = p
-afterMessages lent p (m ∷ ms) = afterMessages lent (left (printerCall lent p m)) ms
+-- the printer after some calls
+unfoldable pub afterReceived : List ℤ → Printer → List PrinterCall → Printer
+afterReceived sizes p [] = p
+afterReceived sizes p (message m n ∷ xs) = afterReceived sizes (left (printerCall sizes p m n)) xs
+
+-- the messages of some calls
+unfoldable pub messagesIn : List PrinterCall → List Message
+messagesIn [] = []
+messagesIn (message m n ∷ xs) = m ∷ messagesIn xs
 
 -- an answer as the logbook gives it
 abbrev pub answerOf : Outcome (Option ℤ) → Answer
@@ -156,19 +167,11 @@ answerOf (ok (some tick) w) = acknowledges tick
 answerOf (ok none w) = notYet
 answerOf (err n w) = refused n
 
--- the answers to some messages
-unfoldable pub answers : Lent → Printer → List Message → List Answer
-answers lent p [] = []
-answers lent p (m ∷ ms) =
-    answerOf (printerCall lent p m .answer) ∷ answers lent (left (printerCall lent p m)) ms
-
--- the tables that a printer holds
-abbrev pub snapsIn : Option Storage → List StoredSnap
-snapsIn (some s) = s .snaps
-snapsIn none = []
-
-abbrev pub heldBy : Printer → List StoredSnap
-heldBy p = snapsIn (storageOf (p .store) (p .area))
+-- the answers to some calls
+unfoldable pub answers : List ℤ → Printer → List PrinterCall → List Answer
+answers sizes p [] = []
+answers sizes p (message m n ∷ xs) =
+    answerOf (printerCall sizes p m n .answer) ∷ answers sizes (left (printerCall sizes p m n)) xs
 
 -- ---- the logbook
 

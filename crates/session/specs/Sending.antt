@@ -17,8 +17,8 @@ use Rattle.definitions.specs.Messages.{SnapSingle, Message, numParts, partMessa
 use Rattle.definitions.specs.Manager.{emptyDelta}
 use Rattle.laws.specs.DeltaLaws.{delta-packs, empty-packs}
 use Rattle.laws.specs.SessionLaws.{empty-is}
-use Rattle.session.specs.Runs.{Accepted, packed, emptyMessage, messagesOf}
-use Rattle.session.specs.Statement.{Among, Base}
+use Rattle.session.specs.Runs.{Accepted, packed, chunksOf, emptyMessage, messagesOf}
+use Rattle.session.specs.Statement.{Among, Base, carries, Carried}
 use Rattle.session.specs.Lists.{either, among-nothing, among-append, among-one}
 
 -- one of what is listed
@@ -54,8 +54,8 @@ module _ (sizes : List ℤ) (instead : ℤ → Bool) where
 
   -- a message of a table: a part of several, the single one, or the empty one
   pub data Goes (At : ℤ → Table → Type 0) (a : Accepted) : Message → Type 0 where
-    asPart : (p : ℕ) → isLarge a ≡ true → p < numParts (packed sizes a) → Goes At a (partOfTable a p)
-    asSingle : isLarge a ≡ false → length (packed sizes a) ≤ 900 → Goes At a (singleOfTable a)
+    asPart : (p : ℕ) → isLarge a ≡ true → p < numParts (packed sizes a) → Carried sizes a → Goes At a (partOfTable a p)
+    asSingle : isLarge a ≡ false → length (packed sizes a) ≤ 900 → Carried sizes a → Goes At a (singleOfTable a)
     asEmpty : isLarge a ≡ false → Base At (a .base) (a .table) ⊎ (a .delta ≡ emptyDelta) → Goes At a (emptyMessage a)
 
   -- an empty delta fits one message
@@ -65,37 +65,38 @@ module _ (sizes : List ℤ) (instead : ℤ → Bool) where
       rw z (omega arith)
 
   -- each message of a table's delta
-  chunk-goes : (At : ℤ → Table → Type 0) (a : Accepted) (m : Message) → instead (a .tick) ≡ false → Among m (deltaChunks (a .tick) (a .base) (packed sizes a) (crc (a .table))) → Goes At a m
+  chunk-goes : (At : ℤ → Table → Type 0) (a : Accepted) (m : Message) → instead (a .tick) ≡ false → (carries (m .numbers) ≡ true → Carried sizes a) → Among m (chunksOf sizes a) → Goes At a m
   unfolding deltaChunks isLarge
-  chunk-goes At a m q h =
+  chunk-goes At a m q c h =
       either (eqb (length (packed sizes a)) 0)
       (λ u. absurd (omega (arith, eqb-true (length (packed sizes a)) 0 u, delta-packs sizes (a .delta))))
       (λ u.
       either (leb (length (packed sizes a)) 900)
       (λ v.
       let w : length (packed sizes a) ≤ 900 = leb-true (length (packed sizes a)) 900 v in
-      subst (Goes At a) (sym (among-one (rw (u, v) at h))) (asSingle (rw (q, le-ltb 900 (length (packed sizes a)) w) refl) w))
+      let e : m ≡ singleOfTable a = among-one (rw (u, v) at h) in
+      subst (Goes At a) (sym e) (asSingle (rw (q, le-ltb 900 (length (packed sizes a)) w) refl) w (c (ap (λ (x : Message). carries (x .numbers)) e))))
       (λ v. part v (among-list (partOfTable a) (numParts (packed sizes a)) m (rw (u, v) at h))))
     where
       part : leb (length (packed sizes a)) 900 ≡ false → (p : ℕ) × (p < numParts (packed sizes a)) × (m ≡ partOfTable a p) → Goes At a m
       part v (p, u, f) =
           unfold isLarge in
-          subst (Goes At a) (sym f) (asPart p (rw (q, lt-ltb 900 (length (packed sizes a)) (leb-false (length (packed sizes a)) 900 v)) refl) u)
+          subst (Goes At a) (sym f) (asPart p (rw (q, lt-ltb 900 (length (packed sizes a)) (leb-false (length (packed sizes a)) 900 v)) refl) u (c (ap (λ (x : Message). carries (x .numbers)) f)))
 
   -- each message of a table is one of these
-  pub message-goes : (At : ℤ → Table → Type 0) (a : Accepted) (m : Message) → (instead (a .tick) ≡ true → Base At (a .base) (a .table)) → Among m (messagesOf sizes instead a) → Goes At a m
+  pub message-goes : (At : ℤ → Table → Type 0) (a : Accepted) (m : Message) → (instead (a .tick) ≡ true → Base At (a .base) (a .table)) → (carries (m .numbers) ≡ true → Carried sizes a) → Among m (messagesOf sizes instead a) → Goes At a m
   unfolding messagesOf
-  message-goes At a m q h =
+  message-goes At a m q c h =
       either (instead (a .tick))
       (λ e. subst (Goes At a) (sym (among-one (rw e at h))) (asEmpty (unfold isLarge in rw e refl) (inl (q e))))
-      (λ e. go e (among-append (deltaChunks (a .tick) (a .base) (packed sizes a) (crc (a .table))) (rw e at h)))
+      (λ e. go e (among-append (chunksOf sizes a) (rw e at h)))
     where
-      go : instead (a .tick) ≡ false → Among m (deltaChunks (a .tick) (a .base) (packed sizes a) (crc (a .table))) ⊎ Among m (cond (isEmptyDelta (a .delta)) (emptyMessage a ∷ []) []) → Goes At a m
-      go e (inl k) = chunk-goes At a m e k
+      go : instead (a .tick) ≡ false → Among m (chunksOf sizes a) ⊎ Among m (cond (isEmptyDelta (a .delta)) (emptyMessage a ∷ []) []) → Goes At a m
+      go e (inl k) = chunk-goes At a m e c k
       go e (inr k) =
           either (isEmptyDelta (a .delta))
-          (λ c.
+          (λ z.
           unfold isLarge in
-          subst (Goes At a) (sym (among-one (rw c at k)))
-          (asEmpty (rw (e, le-ltb 900 (length (packed sizes a)) (empty-short a c)) refl) (inr (empty-is (a .delta) c))))
-          (λ c. absurd (among-nothing (rw c at k)))
+          subst (Goes At a) (sym (among-one (rw z at k)))
+          (asEmpty (rw (e, le-ltb 900 (length (packed sizes a)) (empty-short a z)) refl) (inr (empty-is (a .delta) z))))
+          (λ z. absurd (among-nothing (rw z at k)))

@@ -1,16 +1,17 @@
 -- A test of whole lists of calls: none is refused for want of room. Assumes nothing.
 use mathlib.Core.Path.{_≡_, subst}
-use mathlib.Core.Bool.{Bool, true, false, not, _&&_}
+use mathlib.Core.Bool.{Bool, true, not, _&&_}
 use mathlib.Core.List.{List, [], _∷_, _++_}
 use Prim.Native.Nat.{ℕ}
 use borrow.Author.Tests.{eqb-false, not-true}
 use lib.Dec.{eqb}
+use lib.IntN.{ℤ}
 use Rattle.definitions.specs.Refusals.{capacityError, scratchTooShort}
 use Rattle.definitions.specs.Outcome.{Outcome, ok, err}
 use Rattle.definitions.specs.Messages.{Message}
 use Rattle.laws.specs.TableShape.{both}
-use Rattle.session.specs.Runs.{ControllerCall, Controller, controllerCall, afterCalls, Printer, Lent, left, printerCall, afterMessages}
-use Rattle.session.specs.Statement.{Suffices}
+use Rattle.session.specs.Runs.{ControllerCall, Controller, controllerCall, afterCalls, Printer, PrinterCall, message, left, printerCall, afterReceived}
+use Rattle.session.specs.Statement.{Suffices, ReceivedSuffices}
 
 -- whether an outcome is no refusal for want of room
 abbrev pub isFine : {A : Type 0} → Outcome A → Bool
@@ -25,28 +26,28 @@ fine-suffices (err n w) e =
     (eqb-false n capacityError (not-true _ (p .0)), eqb-false n scratchTooShort (not-true _ (p .1)))
 
 -- whether none of a printer's calls is refused so
-unfoldable pub messagesFine : Lent → Printer → List Message → Bool
-messagesFine lent p [] = true
-messagesFine lent p (m ∷ ms) =
-    isFine (printerCall lent p m .answer) && messagesFine lent (left (printerCall lent p m)) ms
+unfoldable pub receivedFine : List ℤ → Printer → List PrinterCall → Bool
+receivedFine sizes p [] = true
+receivedFine sizes p (message m n ∷ cs) =
+    isFine (printerCall sizes p m n .answer) && receivedFine sizes (left (printerCall sizes p m n)) cs
 
 -- whether none of a controller's calls is refused so
 unfoldable pub callsFine : Controller → List ControllerCall → Bool
 callsFine c [] = true
 callsFine c (x ∷ xs) = isFine (controllerCall c x .answer) && callsFine (controllerCall c x .next) xs
 
--- the message at a place
-message-fine : (lent : Lent) (p : Printer) (xs ys : List Message) (m : Message) → messagesFine lent p (xs ++ m ∷ ys) ≡ true → Suffices (printerCall lent (afterMessages lent p xs) m .answer)
-unfolding messagesFine afterMessages
-message-fine lent p [] ys m e =
-    fine-suffices (printerCall lent p m .answer) (both (isFine (printerCall lent p m .answer)) _ e .0)
-message-fine lent p (x ∷ xs) ys m e =
-    message-fine lent (left (printerCall lent p x)) xs ys m (both (isFine (printerCall lent p x .answer)) _ e .1)
+-- the printer's call at a place
+message-fine : (sizes : List ℤ) (p : Printer) (xs ys : List PrinterCall) (m : Message) (n : ℕ) → receivedFine sizes p (xs ++ message m n ∷ ys) ≡ true → Suffices (printerCall sizes (afterReceived sizes p xs) m n .answer)
+unfolding receivedFine afterReceived
+message-fine sizes p [] ys m n e =
+    fine-suffices (printerCall sizes p m n .answer) (both (isFine (printerCall sizes p m n .answer)) _ e .0)
+message-fine sizes p (message x k ∷ xs) ys m n e =
+    message-fine sizes (left (printerCall sizes p x k)) xs ys m n (both (isFine (printerCall sizes p x k .answer)) _ e .1)
 
 -- none of them is refused so
-pub messages-suffice : (lent : Lent) (p : Printer) (ms : List Message) → messagesFine lent p ms ≡ true → (xs ys : List Message) (m : Message) → ms ≡ xs ++ m ∷ ys → Suffices (printerCall lent (afterMessages lent p xs) m .answer)
-messages-suffice lent p ms f xs ys m e =
-    message-fine lent p xs ys m (subst (λ (l : List Message). messagesFine lent p l ≡ true) e f)
+pub received-suffices : (sizes : List ℤ) (p : Printer) (cs : List PrinterCall) → receivedFine sizes p cs ≡ true → ReceivedSuffices sizes p cs
+received-suffices sizes p cs f xs ys m n e =
+    message-fine sizes p xs ys m n (subst (λ (l : List PrinterCall). receivedFine sizes p l ≡ true) e f)
 
 -- the call at a place
 call-fine : (c : Controller) (xs ys : List ControllerCall) (x : ControllerCall) → callsFine c (xs ++ x ∷ ys) ≡ true → Suffices (controllerCall (afterCalls c xs) x .answer)
