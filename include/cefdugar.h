@@ -603,6 +603,13 @@ uint32_t cef_apply_item_delta(uint32_t has_from, const int32_t *from,
 #define CEF_PART_BYTES 900
 #define CEF_PARTS 32
 
+/*
+ * The most bytes of a packed delta that a printer takes: an output area of
+ * this length suffices for cef_delta_write. Longer deltas can be written and
+ * cut too, but the receiver refuses their parts (CEF_INVALID_NUM_PARTS).
+ */
+#define CEF_PACKED_BYTES (CEF_PARTS * CEF_PART_BYTES)
+
 /* What a message is. */
 #define CEF_MESSAGE_NONE 0u
 #define CEF_MESSAGE_SNAP 1u
@@ -739,6 +746,9 @@ uint32_t cef_receiver_snap_empty(int32_t ticks[4], uint32_t counts[3],
 
 /* The most tables that a store holds. */
 #define CEF_STORED_TABLES 100
+
+/* The most ints of a store's area that tables can take. */
+#define CEF_STORE_INTS (CEF_STORED_TABLES * (2 + CEF_TABLE_INTS))
 
 /*
  * A store of tables by tick, the newest first. cef_storage_new sets it;

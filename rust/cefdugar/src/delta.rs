@@ -13,6 +13,9 @@ use std::fmt;
 /// The most ints that a delta between two tables takes.
 pub const INTS: usize = 18_433;
 
+/// The most bytes of a packed delta that a printer takes: 32 parts of 900.
+pub const PACKED_BYTES: usize = 28_800;
+
 /// Why there is no delta between two tables.
 #[derive(Clone, Copy, Debug, Eq, Hash, PartialEq)]
 pub enum NoDelta {

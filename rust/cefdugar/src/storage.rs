@@ -9,6 +9,9 @@ use crate::Warnings;
 /// The most tables that a store holds.
 pub const SNAPS: usize = 100;
 
+/// The most ints of a store's area that tables can take.
+pub const AREA_INTS: usize = SNAPS * (2 + 16_384);
+
 /// A store, as it stands in `include/cefdugar.h`. Between calls its area is
 /// kept beside it: an area of zeros for a new one, with 2 ints and the table's
 /// ints for each table that is to be held.
