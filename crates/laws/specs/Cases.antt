@@ -1,33 +1,53 @@
--- Document 01's marked cases, proved of the definitions. Assumes nothing.
+-- Document 01's marked cases in one table, proved of the definitions. Assumes nothing.
 use mathlib.Core.Path.{_≡_, refl, ap, _∙_}
 use mathlib.Core.List.{List, [], _∷_}
-use mathlib.Core.Option.{none}
-use Prim.Native.Nat.{ℕ, _+_, _*_, _≤_}
+use mathlib.Core.Option.{some, none}
+use Prim.Native.Nat.{ℕ, _+_, _*_}
 use native.Mathlib.Omega.{arith}
-use borrow.Author.Tests.{lt-ltb, le-ltb, le-leb, lt-leb}
+use borrow.Author.Tests.{le-ltb, le-leb, lt-leb}
 use lib.IntN.{ℤ, pos, negsuc}
 use lib.ListN.{length, take, drop, length-append, length-drop}
 use lib.Seq.{take-all}
-use Rattle.definitions.specs.Ints.{fromBits, wrappingSub}
+use Rattle.definitions.specs.Ints.{bits, fromBits, wrappingSub}
 use Rattle.definitions.specs.Warnings.{OverlongIntEncoding, NonZeroIntPadding, one}
 use Rattle.definitions.specs.Refusals.{tooLongSnap, tooManyItems, invalidOffset}
 use Rattle.definitions.specs.Outcome.{ok, return, refuse}
-use Rattle.definitions.specs.Packed.{Read, signed, more, readInt, writeMore, writeInt}
-use Rattle.definitions.specs.Tables.{Item, Table, body, written, num, nat, edge, find, insert, list}
+use Rattle.definitions.specs.Packed.{signed, more, readInt, writeMore, writeInt}
+use Rattle.definitions.specs.Tables.{Item, Table, body, offsets, written, num, nat, edge, start, keyAt, valuesAt, all, items, ends, lowest, fits, inForm, tableOf, find, insert, list}
 use Rattle.definitions.specs.TableReading.{headerInt, readItems, readTable, addItem}
 use Rattle.definitions.specs.Messages.{Message, Snap, SnapEmpty, SnapSingle, numParts, deltaChunks}
 use Rattle.laws.specs.TableForm.{length-written}
 use Rattle.laws.specs.CutLaws.{chunks-none, chunks-single, chunks-parts}
 
--- ---- packed integers
+-- ---- what the cases speak of
 
 -- x is written as the bytes l, and l is read as x without a warning
 pub record Packs (x : ℤ) (l : List ℕ) : Type 0 where
   pub written : writeInt x ≡ l
   pub read : readInt l ≡ return (record { value = x; rest = [] })
 
--- the marked cases of packed integers; negsuc n is -1 - n
-pub record PackedIntegers : Type 0 where
+-- an item
+abbrev pub item : ℕ → List ℤ → Item
+item k v = record { key = k; values = v }
+
+-- n items without data, of the keys below n
+unfoldable pub bare : ℕ → Table
+bare n = list (λ k. item k []) n
+
+-- the message of some bytes that needs no other, and one of two
+abbrev pub emptyMessage : ℤ → ℤ → Message
+emptyMessage tick base = record { numbers = SnapEmpty tick (wrappingSub tick base); bytes = [] }
+
+abbrev pub singleMessage : ℤ → ℤ → ℤ → List ℕ → Message
+singleMessage tick base crc x = record { numbers = SnapSingle tick (wrappingSub tick base) crc; bytes = x }
+
+abbrev pub ofTwo : ℤ → ℤ → ℤ → ℕ → List ℕ → Message
+ofTwo tick base crc p x = record { numbers = Snap tick (wrappingSub tick base) (pos 2) (pos p) crc; bytes = x }
+
+-- ---- the table
+
+-- packed integers, where negsuc n is -1 - n; messages, whatever the bytes are; tables
+pub record MarkedCases : Type 0 where
   pub case-0 : Packs (pos 0) (0x00 ∷ [])
   pub case-minus-1 : Packs (negsuc 0) (0x40 ∷ [])
   pub case-63 : Packs (pos 63) (0x3F ∷ [])
@@ -38,10 +58,41 @@ pub record PackedIntegers : Type 0 where
   pub case-least : Packs (negsuc 2147483647) (0xFF ∷ 0xFF ∷ 0xFF ∷ 0xFF ∷ 0x0F ∷ [])
   pub overlong : readInt (0x80 ∷ 0x00 ∷ []) ≡ ok (record { value = pos 0; rest = [] }) (one OverlongIntEncoding)
   pub padding : readInt (0x80 ∷ 0x80 ∷ 0x80 ∷ 0x80 ∷ 0x10 ∷ []) ≡ ok (record { value = negsuc 2147483647; rest = [] }) (one NonZeroIntPadding)
+  pub bytes-0 : (tick base crc : ℤ) (x : List ℕ) → length x ≡ 0 → deltaChunks tick base x crc ≡ emptyMessage tick base ∷ []
+  pub bytes-900 : (tick base crc : ℤ) (x : List ℕ) → length x ≡ 900 → deltaChunks tick base x crc ≡ singleMessage tick base crc x ∷ []
+  pub bytes-901 : (tick base crc : ℤ) (x : List ℕ) → length x ≡ 901 → deltaChunks tick base x crc ≡ ofTwo tick base crc 0 (take 900 x) ∷ ofTwo tick base crc 1 (drop 900 x) ∷ []
+  pub empty-table : readTable (pos 0 ∷ pos 0 ∷ []) ≡ return []
+  pub not-all-items : readTable (pos 4 ∷ pos 0 ∷ pos 9 ∷ []) ≡ refuse invalidOffset
+  pub items-1024 : addItem (item 1023 []) (bare 1023) ≡ return (bare 1024)
+  pub held-1024 : tableOf (written (bare 1024)) ≡ some (bare 1024)
+  pub items-1025 : (i : Item) (t : Table) → length t ≡ 1024 → find (i .key) t ≡ none → addItem i t ≡ refuse tooManyItems
+  pub ints-16380 : (k : ℕ) (v : List ℤ) → length v ≡ 16380 → addItem (item k v) [] ≡ return (item k v ∷ [])
+  pub ints-16381 : (k : ℕ) (v : List ℤ) → length v ≡ 16381 → addItem (item k v) [] ≡ refuse tooLongSnap
 
-pub packed-integers : PackedIntegers
-unfolding signed fromBits more readInt writeMore writeInt
-packed-integers =
+-- ---- proof
+
+-- an item alone takes four ints and its data
+length-alone : (k : ℕ) (v : List ℤ) → length (written (item k v ∷ [])) ≡ 4 + length v
+unfolding body
+length-alone k v = omega (arith, length-written (item k v ∷ []), length-append v [])
+
+-- two parts
+in-two : (tick distance crc : ℤ) (x : List ℕ) (n : ℕ) → n ≡ 2 → take 900 (drop 900 x) ≡ drop 900 x → list {X = Message} (λ p. record { numbers = Snap tick distance (pos n) (pos p) crc; bytes = take 900 (drop (900 * p) x) }) n ≡ record { numbers = Snap tick distance (pos 2) (pos 0) crc; bytes = take 900 x } ∷ record { numbers = Snap tick distance (pos 2) (pos 1) crc; bytes = drop 900 x } ∷ []
+unfolding list
+in-two tick distance crc x n m e =
+    rw m
+    (ap (λ (y : List ℕ). record { numbers = Snap tick distance (pos 2) (pos 0) crc; bytes = take 900 x } ∷ record { numbers = Snap tick distance (pos 2) (pos 1) crc; bytes = y } ∷ []) e)
+
+-- 901 bytes make two
+parts-901 : (tick base crc : ℤ) (x : List ℕ) → length x ≡ 901 → deltaChunks tick base x crc ≡ ofTwo tick base crc 0 (take 900 x) ∷ ofTwo tick base crc 1 (drop 900 x) ∷ []
+parts-901 tick base crc x n =
+    let e : take 900 (drop 900 x) ≡ drop 900 x = take-all 900 (drop 900 x) (omega (arith, length-drop 900 x)) in
+    let m : numParts x ≡ 2 = omega arith in
+    chunks-parts tick base x crc (omega arith) ∙ in-two tick (wrappingSub tick base) crc x (numParts x) m e
+
+pub marked-cases : MarkedCases
+unfolding signed bits fromBits more readInt writeMore writeInt num nat edge start keyAt valuesAt all items ends lowest fits inForm tableOf body offsets written list bare readTable headerInt readItems addItem find insert
+marked-cases =
     record {
       case-0 = record { written = refl; read = refl };
       case-minus-1 = record { written = refl; read = refl };
@@ -53,62 +104,14 @@ packed-integers =
       case-least = record { written = refl; read = refl };
       overlong = refl;
       padding = refl;
-    }
-
--- ---- tables
-
--- one item alone
-abbrev single : ℕ → List ℤ → Item
-single k v = record { key = k; values = v }
-
-length-single : (k : ℕ) (v : List ℤ) → length (written (single k v ∷ [])) ≡ 4 + length v
-unfolding body
-length-single k v = omega (arith, length-written (single k v ∷ []), length-append v [])
-
--- the marked cases of tables
-pub record MarkedTables : Type 0 where
-  pub empty : readTable (pos 0 ∷ pos 0 ∷ []) ≡ return []
-  pub not-all-items : readTable (pos 4 ∷ pos 0 ∷ pos 9 ∷ []) ≡ refuse invalidOffset
-  pub items-1024 : (i : Item) (t : Table) → length t ≡ 1023 → find (i .key) t ≡ none → length (written (insert i t)) ≤ 16384 → addItem i t ≡ return (insert i t)
-  pub items-1025 : (i : Item) (t : Table) → length t ≡ 1024 → find (i .key) t ≡ none → addItem i t ≡ refuse tooManyItems
-  pub ints-16380 : (k : ℕ) (v : List ℤ) → length v ≡ 16380 → addItem (single k v) [] ≡ return (single k v ∷ [])
-  pub ints-16381 : (k : ℕ) (v : List ℤ) → length v ≡ 16381 → addItem (single k v) [] ≡ refuse tooLongSnap
-
-pub marked-tables : MarkedTables
-unfolding num nat edge readTable headerInt readItems addItem find insert
-marked-tables =
-    record {
-      empty = refl;
+      bytes-0 = λ tick base crc x n. chunks-none tick base x crc n;
+      bytes-900 = λ tick base crc x n. chunks-single tick base x crc (omega arith) (omega arith);
+      bytes-901 = parts-901;
+      empty-table = refl;
       not-all-items = refl;
-      items-1024 = λ i t n f l. rw (f, lt-ltb (length t) 1024 (omega arith), le-leb (length (written (insert i t))) 16384 l);
-      items-1025 = λ i t n f. rw (f, le-ltb (length t) 1024 (omega arith));
-      ints-16380 = λ k v n. rw (le-leb (length (written (single k v ∷ []))) 16384 (omega (arith, length-single k v)));
-      ints-16381 = λ k v n. rw (lt-leb (length (written (single k v ∷ []))) 16384 (omega (arith, length-single k v)));
-    }
-
--- ---- messages
-
--- the marked cases of messages, whatever the bytes are
-pub record MarkedMessages (tick base crc : ℤ) : Type 0 where
-  pub bytes-0 : (x : List ℕ) → length x ≡ 0 → deltaChunks tick base x crc ≡ record { numbers = SnapEmpty tick (wrappingSub tick base); bytes = [] } ∷ []
-  pub bytes-900 : (x : List ℕ) → length x ≡ 900 → deltaChunks tick base x crc ≡ record { numbers = SnapSingle tick (wrappingSub tick base) crc; bytes = x } ∷ []
-  pub bytes-901 : (x : List ℕ) → length x ≡ 901 → deltaChunks tick base x crc ≡ record { numbers = Snap tick (wrappingSub tick base) (pos 2) (pos 0) crc; bytes = take 900 x } ∷ record { numbers = Snap tick (wrappingSub tick base) (pos 2) (pos 1) crc; bytes = drop 900 x } ∷ []
-
--- two parts
-in-two : (tick distance crc : ℤ) (x : List ℕ) (n : ℕ) → n ≡ 2 → take 900 (drop 900 x) ≡ drop 900 x → list {X = Message} (λ p. record { numbers = Snap tick distance (pos n) (pos p) crc; bytes = take 900 (drop (900 * p) x) }) n ≡ record { numbers = Snap tick distance (pos 2) (pos 0) crc; bytes = take 900 x } ∷ record { numbers = Snap tick distance (pos 2) (pos 1) crc; bytes = drop 900 x } ∷ []
-unfolding list
-in-two tick distance crc x n m e =
-    rw m
-    (ap (λ (y : List ℕ). record { numbers = Snap tick distance (pos 2) (pos 0) crc; bytes = take 900 x } ∷ record { numbers = Snap tick distance (pos 2) (pos 1) crc; bytes = y } ∷ []) e)
-
-pub marked-messages : (tick base crc : ℤ) → MarkedMessages tick base crc
-marked-messages tick base crc =
-    record {
-      bytes-0 = λ x n. chunks-none tick base x crc n;
-      bytes-900 = λ x n. chunks-single tick base x crc (omega arith) (omega arith);
-      bytes-901 =
-          λ x n.
-          let e : take 900 (drop 900 x) ≡ drop 900 x = take-all 900 (drop 900 x) (omega (arith, length-drop 900 x)) in
-          let m : numParts x ≡ 2 = omega arith in
-          chunks-parts tick base x crc (omega arith) ∙ in-two tick (wrappingSub tick base) crc x (numParts x) m e;
+      items-1024 = refl;
+      held-1024 = refl;
+      items-1025 = λ i t n f. rw (f, le-ltb (length t) 1024 (omega arith)) refl;
+      ints-16380 = λ k v n. rw (le-leb (length (written (item k v ∷ []))) 16384 (omega (arith, length-alone k v)));
+      ints-16381 = λ k v n. rw (lt-leb (length (written (item k v ∷ []))) 16384 (omega (arith, length-alone k v)));
     }

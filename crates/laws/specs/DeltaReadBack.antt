@@ -147,6 +147,12 @@ module _ {A : Type 0} (key : A → ℕ) where
       let r2 = both (ltb (key x) (2 ^ 32)) _ (r1 .1) in
       ap (put key x) (ordered-rising (suc (rank (key x))) l (r2 .1)) ∙ put-front x l (r2 .1)
 
+  -- of two with one key the later counts
+  pub later-counts : (x y : A) → key x ≡ key y → ordered key (x ∷ y ∷ []) ≡ y ∷ []
+  unfolding ordered put
+  later-counts x y e =
+      rw (e, le-ltb (rank (key y)) (rank (key y)) (omega arith), eq-eqb (rank (key y)) (rank (key y)) refl) refl
+
 map-same : (l : List ℕ) → map (λ (k : ℕ). k) l ≡ l
 map-same [] = refl
 map-same (k ∷ l) = ap (λ (t : List ℕ). k ∷ t) (map-same l)
