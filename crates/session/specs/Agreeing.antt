@@ -79,11 +79,15 @@ module _ (At : ℤ → Table → Type 0) (k : Link) (h : LinkHolds At k) where
   -- printer and logbook agree, where each call has room
   agreement-with : AllRoom (k .sizes) (k .printer) (k .received) → Agreement At k
   agreement-with room =
-      let f : AllRoom (k .sizes) (freshPrinter (h .area) (h .parts) (h .joined) (h .delta)) (k .received) = subst (λ (p : Printer). AllRoom (k .sizes) p (k .received)) (h .fresh) room in
+      let f : AllRoom (k .sizes) (freshPrinter (h .area) (h .parts) (h .joined) (h .delta)) (k .received) =
+      subst (λ (p : Printer). AllRoom (k .sizes) p (k .received)) (h .fresh) room in
       record {
-        printer = λ xs ys e. rw (h .fresh) (held-noted (k .sizes) (k .instead) (k .deltas) At (h .area) (h .rising) naming ready (h .parts) (h .joined) (h .delta) (k .received) (h .sent) f xs ys e);
-        acknowledgements = λ xs ys m n e. rw (h .fresh) (acknowledged-when (k .sizes) (k .instead) (k .deltas) At (h .area) (h .rising) naming ready (h .parts) (h .joined) (h .delta) (k .received) (h .sent) f xs ys m n e);
-        sameAnswers = rw (h .fresh) (answers-noted (k .sizes) (k .instead) (k .deltas) At (h .area) (h .rising) naming ready (h .parts) (h .joined) (h .delta) (k .received) (h .sent) f);
+        printer = λ xs ys e. rw (h .fresh) (held-noted (k .sizes) (k .instead) (k .deltas) At (h .area) (h .rising) naming ready (h .parts) (h .joined)
+            (h .delta) (k .received) (h .sent) f xs ys e);
+        acknowledgements = λ xs ys m n e. rw (h .fresh) (acknowledged-when (k .sizes) (k .instead) (k .deltas) At (h .area) (h .rising) naming ready
+            (h .parts) (h .joined) (h .delta) (k .received) (h .sent) f xs ys m n e);
+        sameAnswers = rw (h .fresh) (answers-noted (k .sizes) (k .instead) (k .deltas) At (h .area) (h .rising) naming ready (h .parts) (h .joined)
+            (h .delta) (k .received) (h .sent) f);
       }
 
   -- they agree where no call is refused for want of room

@@ -135,14 +135,16 @@ module _ (n : ℕ) (s : Storage) (area second : List ℕ) (delta : List ℤ) (r 
   receiving-long sizes (err e w) = record { parts-are = long; delta-is = refl }
 
 -- a message for a manager
-handle-long : (sizes : List ℤ) (n : ℕ) (g : Manager) (m : Message) (area second : List ℕ) (delta : List ℤ) → HandledLengths (handle sizes n g m area second delta) area second delta
+handle-long : (sizes : List ℤ) (n : ℕ) (g : Manager) (m : Message) (area second : List ℕ) (delta : List ℤ)
+    → HandledLengths (handle sizes n g m area second delta) area second delta
 unfolding handle
 handle-long sizes n g m area second delta =
     receiving-long n (g .storage) area second delta _ (receive-long area second (g .receiver) (m .numbers) (m .bytes)) sizes _
 
 -- a store laid out takes the whole area
 area-long : (n : ℕ) (l : List StoredSnap) → n ≤ length (storeArea n l)
-area-long n l = rw (length-append (storeInts l) (replicate (n - length (storeInts l)) (pos 0)), length-replicate (n - length (storeInts l)) (pos 0)) (omega arith)
+area-long n l = rw (length-append (storeInts l) (replicate (n - length (storeInts l)) (pos 0)), length-replicate (n - length (storeInts l)) (pos 0))
+    (omega arith)
 
 -- areas that always suffice are left so
 pub long-left : (sizes : List ℤ) (p : Printer) (m : Message) (scratch : ℕ) → PrinterLong p → PrinterLong (left (printerCall sizes p m scratch))
@@ -153,7 +155,12 @@ long-left sizes p m scratch l = go (judgeManager (p .receiver) (p .store) (p .ar
         unfold managed in
         let h = handle-long sizes (length (p .area)) g m (p .parts) (p .joined) (p .delta) in
         record {
-          area = omega (arith, area-long (length (p .area)) (handle sizes (length (p .area)) g m (p .parts) (p .joined) (p .delta) .manager .storage .snaps), l .area);
+          area = omega (
+            arith,
+            area-long (length (p .area)) (handle sizes (length (p .area)) g m (p .parts) (p .joined) (p .delta) .manager .storage
+                .snaps),
+            l .area,
+          );
           delta = rw (h .delta-is) (l .delta);
           parts = rw (h .parts-are .first) (l .parts);
           joined = rw (h .parts-are .other) (l .joined);
@@ -173,7 +180,8 @@ judged-long s area (ok x w) f = area-long (length area) (f x .storage .snaps)
 judged-long s area (err n w) f = omega arith
 
 -- a table's delta is laid over its area, or that is left
-add-long : (k : StoreStep AddedSnap) (o : Outcome AddedSnap) (delta : List ℤ) → (addStep k o delta .area ≡ k .area) × (length (addStep k o delta .delta) ≡ length delta)
+add-long : (k : StoreStep AddedSnap) (o : Outcome AddedSnap) (delta : List ℤ)
+    → (addStep k o delta .area ≡ k .area) × (length (addStep k o delta .delta) ≡ length delta)
 unfolding addStep
 add-long k (ok a w) delta = (refl, length-lay (writtenDelta (a .delta)) delta)
 add-long k (err n w) delta = (refl, refl)
@@ -188,6 +196,7 @@ call-long c (addSnap tick table) l =
     let m : storeAreaInts ≤ length (c .area) = l .0 in
     (rw (q .0) (omega arith), rw (q .1) (l .1))
 call-long c (setDeltaTick tick) l =
-    let h : length (c .area) ≤ length (setDeltaTickCall (c .store) (c .area) tick .area) = judged-long (c .store) (c .area) (heldStorage (c .store) (c .area)) _ in
+    let h : length (c .area) ≤ length (setDeltaTickCall (c .store) (c .area) tick .area) = judged-long (c .store) (c .area)
+    (heldStorage (c .store) (c .area)) _ in
     let m : storeAreaInts ≤ length (c .area) = l .0 in
     (omega arith, l .1)

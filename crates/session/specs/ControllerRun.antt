@@ -33,7 +33,8 @@ use Rattle.session.specs.ControllerState.{Based, unset, set, none, more,
 -- ---- the base tick is set
 
 -- what is held where tables older than a number are dropped and a base tick is set
-keeping-dropped : (b : ℕ) (s : Storage) (l : List Accepted) (o : Option ℤ) → Keeping s l → Based o (dropOlder (pos b) (s .snaps)) → Keeping (withDeltaTick (withSnaps s (dropOlder (pos b) (s .snaps))) o) l
+keeping-dropped : (b : ℕ) (s : Storage) (l : List Accepted) (o : Option ℤ) → Keeping s l → Based o (dropOlder (pos b) (s .snaps))
+    → Keeping (withDeltaTick (withSnaps s (dropOlder (pos b) (s .snaps))) o) l
 keeping-dropped b s l o k h =
     record {
       top = k .top;
@@ -52,7 +53,8 @@ not-negative (pos n) e = (n, refl)
 not-negative (negsuc n) e = contra refl e
 
 -- what is held where a tick is named that is not negative
-keeping-for : (tick : ℤ) (s : Storage) (l : List Accepted) (o : Option ℤ) → Keeping s l → signedLess tick (pos 0) ≡ false → Based o (dropOlder tick (s .snaps)) → Keeping (withDeltaTick (withSnaps s (dropFor tick (s .snaps))) o) l
+keeping-for : (tick : ℤ) (s : Storage) (l : List Accepted) (o : Option ℤ) → Keeping s l → signedLess tick (pos 0) ≡ false
+    → Based o (dropOlder tick (s .snaps)) → Keeping (withDeltaTick (withSnaps s (dropFor tick (s .snaps))) o) l
 keeping-for tick s l o k e h =
     let n = not-negative tick e in
     let d : dropFor tick (s .snaps) ≡ dropOlder (pos (n .0)) (s .snaps) = drops tick (s .snaps) e ∙ ap (λ (z : ℤ). dropOlder z (s .snaps)) (n .1) in
@@ -64,12 +66,15 @@ based-set : (n : ℕ) (l : List StoredSnap) → Oldest n l → Based (some (pos 
 based-set n l o = subst (Based (some (pos n))) (sym (o .all-are)) (set (o .tick-is))
 
 -- a base tick that was found is that of the oldest table left
-pub set-based : (tick : ℤ) (s : Storage) (l : List Accepted) → Keeping s l → signedLess tick (pos 0) ≡ false → isHeld (baseFor tick (s .snaps)) ≡ true → Based (some tick) (dropOlder tick (s .snaps))
+pub set-based : (tick : ℤ) (s : Storage) (l : List Accepted) → Keeping s l → signedLess tick (pos 0) ≡ false → isHeld (baseFor tick (s .snaps)) ≡ true
+    → Based (some tick) (dropOlder tick (s .snaps))
 set-based tick s l k e h =
     let n = not-negative tick e in
     let left : isHeld (oldestAt tick (dropOlder tick (s .snaps))) ≡ true = ap isHeld (sym (base-left tick (s .snaps) e)) ∙ h in
-    let q : isHeld (oldestAt (pos (n .0)) (dropOlder (pos (n .0)) (s .snaps))) ≡ true = subst (λ (z : ℤ). isHeld (oldestAt z (dropOlder z (s .snaps))) ≡ true) (n .1) left in
-    subst (λ (z : ℤ). Based (some z) (dropOlder z (s .snaps))) (sym (n .1)) (based-set (n .0) _ (oldest-found (n .0) (dropOlder (pos (n .0)) (s .snaps)) (falls-drop (n .0) (k .falls)) q))
+    let q : isHeld (oldestAt (pos (n .0)) (dropOlder (pos (n .0)) (s .snaps))) ≡ true =
+    subst (λ (z : ℤ). isHeld (oldestAt z (dropOlder z (s .snaps))) ≡ true) (n .1) left in
+    subst (λ (z : ℤ). Based (some z) (dropOlder z (s .snaps))) (sym (n .1))
+    (based-set (n .0) _ (oldest-found (n .0) (dropOlder (pos (n .0)) (s .snaps)) (falls-drop (n .0) (k .falls)) q))
 
 -- of tables below a tick none is left
 none-left : (b : ℕ) {j : ℕ} {l : List StoredSnap} → Falls j l → j ≤ b → notOlder (pos b) l ≡ []
@@ -95,7 +100,8 @@ module _ (c : Controller) (tick : ℤ) (s : Storage) (k : List Told) {j : ℕ} (
       ∙ ap (λ (z : Storage). notOlder tick (z .snaps)) q
 
   -- what is left then, whatever base is set
-  left-with : (o : Option ℤ) → signedLess tick (pos 0) ≡ false → withDeltaTick (withSnaps s (dropOlder tick (s .snaps))) o ≡ record { snaps = notOlder tick (tablesLeft k); ackTick = Option.none; deltaTick = o }
+  left-with : (o : Option ℤ) → signedLess tick (pos 0) ≡ false
+      → withDeltaTick (withSnaps s (dropOlder tick (s .snaps))) o ≡ record { snaps = notOlder tick (tablesLeft k); ackTick = Option.none; deltaTick = o }
   left-with o e = rw (dropped e, ap (λ (z : Storage). z .ackTick) q) refl
 
   -- what setting a base tick leaves is what is told
@@ -110,7 +116,9 @@ module _ (c : Controller) (tick : ℤ) (s : Storage) (k : List Told) {j : ℕ} (
       (λ h. rw (e, h) (left-with Option.none e)))
 
 -- what setting a base tick leaves
-sets-controls : (c : Controller) (tick : ℤ) (s : Storage) (l : List Accepted) (k : List Told) → Keeping s l → (o : Keeps (Unit {0})) → o .storage ≡ storageTold (toldBy (setDeltaTick tick) (setStep c o) k) → Sets tick s o → Controls (setStep c o .next) l (toldBy (setDeltaTick tick) (setStep c o) k)
+sets-controls : (c : Controller) (tick : ℤ) (s : Storage) (l : List Accepted) (k : List Told) → Keeping s l → (o : Keeps (Unit {0}))
+    → o .storage ≡ storageTold (toldBy (setDeltaTick tick) (setStep c o) k) → Sets tick s o
+    → Controls (setStep c o .next) l (toldBy (setDeltaTick tick) (setStep c o) k)
 sets-controls c tick s l k h o q (unsets e u) =
     laid-out (length (c .area)) (c .delta) (withDeltaTick s Option.none) l _
     (record {
@@ -136,12 +144,14 @@ abbrev Leaves : ControllerCall → List Accepted → List Told → ControllerSte
 Leaves x l k y = Rising (acceptedBy x y (y .answer) l) → Controls (y .next) (acceptedBy x y (y .answer) l) (toldBy x y k)
 
 -- what adding the table of an area leaves, if it holds one
-area-controls : (c : Controller) (tick : ℤ) (table : List ℤ) (l : List Accepted) (k : List Told) → Controls c l k → (o : Option Table) → tableOf table ≡ o → Leaves (addSnap tick table) l k (controllerCall c (addSnap tick table))
+area-controls : (c : Controller) (tick : ℤ) (table : List ℤ) (l : List Accepted) (k : List Told) → Controls c l k → (o : Option Table) → tableOf table ≡ o
+    → Leaves (addSnap tick table) l k (controllerCall c (addSnap tick table))
 area-controls c tick table l k h (some t) e =
     let x : StoredSnap = record { tick = tick; snap = t } in
     let o = adding (length (c .area)) (length (c .delta)) x (h .storage) in
     subst (Leaves (addSnap tick table) l k) (sym (call-adds c tick table t (h .storage) (h .held) e))
-    (adds-controls c tick table t (h .storage) l k e (h .keeping) o (told-adding c tick table t (h .storage) k o (holds table t e .1) (h .told)) (adding-is (length (c .area)) (length (c .delta)) x (h .storage)))
+    (adds-controls c tick table t (h .storage) l k e (h .keeping) o (told-adding c tick table t (h .storage) k o (holds table t e .1) (h .told))
+    (adding-is (length (c .area)) (length (c .delta)) x (h .storage)))
 area-controls c tick table l k h Option.none e =
     subst (Leaves (addSnap tick table) l k) (sym (call-unformed c tick table (h .storage) (h .held) e))
     (λ r. record { storage = h .storage; held = h .held; keeping = h .keeping; told = told-refused (h .storage) k tick table (h .told) })
@@ -151,7 +161,8 @@ call-controls : (c : Controller) (x : ControllerCall) (l : List Accepted) (k : L
 call-controls c (addSnap tick table) l k h = area-controls c tick table l k h (tableOf table) refl
 call-controls c (setDeltaTick tick) l k h =
     subst (Leaves (setDeltaTick tick) l k) (sym (call-sets c tick (h .storage) (h .held)))
-    (λ r. sets-controls c tick (h .storage) l k (h .keeping) (Storage.setDeltaTick tick (h .storage)) (told-setting c tick (h .storage) k (h .keeping .falls) (h .told)) (setting-is tick (h .storage)))
+    (λ r. sets-controls c tick (h .storage) l k (h .keeping) (Storage.setDeltaTick tick (h .storage))
+    (told-setting c tick (h .storage) k (h .keeping .falls) (h .told)) (setting-is tick (h .storage)))
 
 -- those accepted before rise where those accepted then do
 rises-before : (x : ControllerCall) (y : ControllerStep) (o : Outcome (Option Added)) (l : List Accepted) → Rising (acceptedBy x y o l) → Rising l
@@ -167,14 +178,16 @@ rises-from [] c l r = r
 rises-from (x ∷ xs) c l r = rises-before x (controllerCall c x) (controllerCall c x .answer) l (rises-from xs (controllerCall c x .next) _ r)
 
 -- what a list of calls leaves
-pub calls-control : (xs : List ControllerCall) (c : Controller) (l : List Accepted) (k : List Told) → Rising (acceptedFrom c xs l) → Controls c l k → Controls (afterCalls c xs) (acceptedFrom c xs l) (toldFrom c xs k)
+pub calls-control : (xs : List ControllerCall) (c : Controller) (l : List Accepted) (k : List Told) → Rising (acceptedFrom c xs l) → Controls c l k
+    → Controls (afterCalls c xs) (acceptedFrom c xs l) (toldFrom c xs k)
 unfolding acceptedFrom afterCalls toldFrom
 calls-control [] c l k r h = h
 calls-control (x ∷ xs) c l k r h =
     calls-control xs (controllerCall c x .next) _ _ r (call-controls c x l k h (rises-from xs (controllerCall c x .next) _ r))
 
 -- the tables accepted in two lists of calls
-pub accepted-append : (xs ys : List ControllerCall) (c : Controller) (l : List Accepted) → acceptedFrom c (xs ++ ys) l ≡ acceptedFrom (afterCalls c xs) ys (acceptedFrom c xs l)
+pub accepted-append : (xs ys : List ControllerCall) (c : Controller) (l : List Accepted)
+    → acceptedFrom c (xs ++ ys) l ≡ acceptedFrom (afterCalls c xs) ys (acceptedFrom c xs l)
 unfolding acceptedFrom afterCalls
 accepted-append [] ys c l = refl
 accepted-append (x ∷ xs) ys c l = accepted-append xs ys (controllerCall c x .next) _

@@ -75,7 +75,8 @@ pub record Controls (c : Controller) (l : List Accepted) (k : List Told) : Type 
   pub told : storage ≡ storageTold k
 
 -- a store that was laid out is held
-pub laid-out : (n : ℕ) (delta : List ℤ) (s : Storage) (l : List Accepted) (k : List Told) → Keeping s l → s ≡ storageTold k → Controls (record { store = beside s; area = storeArea n (s .snaps); delta = delta }) l k
+pub laid-out : (n : ℕ) (delta : List ℤ) (s : Storage) (l : List Accepted) (k : List Told) → Keeping s l → s ≡ storageTold k
+    → Controls (record { store = beside s; area = storeArea n (s .snaps); delta = delta }) l k
 laid-out n delta s l k keeps told =
     record { storage = s; held = storage-found n s (keeps .sounds) (keeps .few); keeping = keeps; told = told }
 
@@ -90,7 +91,8 @@ delta-there a d e =
     (λ q. let r : Option.none ≡ some d = sym (rw q refl) ∙ e in let z : _≡_ {A = ℕ} 0 1 = cc in absurd (omega arith))
 
 -- the delta between two sound tables is found in the area that it was laid into
-pub delta-laid : (b t : Table) (area : List ℤ) → sound b ≡ true → sound t ≡ true → alike b t ≡ true → length (writtenDelta (deltaFrom b t)) ≤ length area → deltaIn [] (lay (writtenDelta (deltaFrom b t)) area) ≡ deltaFrom b t
+pub delta-laid : (b t : Table) (area : List ℤ) → sound b ≡ true → sound t ≡ true → alike b t ≡ true → length (writtenDelta (deltaFrom b t)) ≤ length area
+    → deltaIn [] (lay (writtenDelta (deltaFrom b t)) area) ≡ deltaFrom b t
 delta-laid b t area sb st e h =
     let w = writtenDelta (deltaFrom b t) in
     ap (deltaIn []) (lay-append w area h)
@@ -116,7 +118,8 @@ base-sound Option.none x l unset h = empty-sound
 base-sound (some t) x (y ∷ l) (set e) h = sounds-oldest y l h
 
 -- it is the empty table, or one that was accepted
-pub base-named : (es : List Accepted) (o : Option ℤ) (x : StoredSnap) (l : List StoredSnap) → Based o l → All (IsAccepted es) l → Base (AcceptedAt es) (chosenBase o x l .tick) (chosenBase o x l .snap)
+pub base-named : (es : List Accepted) (o : Option ℤ) (x : StoredSnap) (l : List StoredSnap) → Based o l → All (IsAccepted es) l
+    → Base (AcceptedAt es) (chosenBase o x l .tick) (chosenBase o x l .snap)
 unfolding oldestOr
 base-named es Option.none x l unset a = Statement.empty
 base-named es (some t) x (y ∷ l) (set e) a =
@@ -145,18 +148,22 @@ accepted-more : (a : Accepted) (l : List Accepted) (x : StoredSnap) → IsAccept
 accepted-more a l x k = at-more a l k
 
 -- tables that were accepted are below a newer tick
-tighten : (n : ℕ) (es : List Accepted) {k : ℕ} {l : List StoredSnap} → Falls k l → All (IsAccepted es) l → All (λ (b : Accepted). signedLess (b .tick) (pos n) ≡ true) es → Falls n l
+tighten : (n : ℕ) (es : List Accepted) {k : ℕ} {l : List StoredSnap} → Falls k l → All (IsAccepted es) l
+    → All (λ (b : Accepted). signedLess (b .tick) (pos n) ≡ true) es → Falls n l
 tighten n es end a r = end
 tighten n es (next {n = j} h f) (Statement.more p ps) r =
     let q : signedLess (pos j) (pos n) ≡ true = subst (λ (z : ℤ). signedLess z (pos n) ≡ true) (p .tick-is) (all-among r (p .accepted)) in
     next (ltb-true j n q) f
 
 -- a newer table that was accepted is held beside the others
-pub keeping-more : (s : Storage) (l : List Accepted) (x : StoredSnap) (a : Accepted) → Keeping s l → length (s .snaps) < 100 → sound (x .snap) ≡ true → a .tick ≡ x .tick → a .table ≡ x .snap → MadeFrom l a → Rising (a ∷ l) → Keeping (withSnaps s (x ∷ s .snaps)) (a ∷ l)
+pub keeping-more : (s : Storage) (l : List Accepted) (x : StoredSnap) (a : Accepted) → Keeping s l → length (s .snaps) < 100 → sound (x .snap) ≡ true
+    → a .tick ≡ x .tick → a .table ≡ x .snap → MadeFrom l a → Rising (a ∷ l) → Keeping (withSnaps s (x ∷ s .snaps)) (a ∷ l)
 keeping-more s l x a k lt fine t-is s-is m (Statement.more n q le r rs) =
     record {
       top = suc n;
-      falls = falls-next {k = suc n} n x (s .snaps) (sym t-is ∙ q) (omega arith) (tighten n l (k .falls) (k .accepted) (all-map (λ (y : Accepted) (p : signedLess (y .tick) (a .tick) ≡ true). subst (λ (z : ℤ). signedLess (y .tick) z ≡ true) q p) r));
+      falls = falls-next {k = suc n} n x (s .snaps) (sym t-is ∙ q) (omega arith)
+          (tighten n l (k .falls) (k .accepted) (all-map (λ (y : Accepted) (p : signedLess (y .tick) (a .tick) ≡ true). subst
+          (λ (z : ℤ). signedLess (y .tick) z ≡ true) q p) r));
       based = based-more x (s .deltaTick) (s .snaps) (k .based);
       accepted = Statement.more (record { table = a; accepted = Statement.here; tick-is = t-is; table-is = s-is }) (all-map (accepted-more a l) (k .accepted));
       sounds = StoreForm.more fine (k .sounds);
@@ -166,7 +173,10 @@ keeping-more s l x a k lt fine t-is s-is m (Statement.more n q le r rs) =
     }
 
 -- the delta of a table that fits is the one that was made
-made-from : (c : Controller) (tick : ℤ) (table : List ℤ) (t : Table) (s : Storage) (l : List Accepted) → tableOf table ≡ some t → Keeping s l → let x : StoredSnap = record { tick = tick; snap = t } in let d : Delta = deltaFrom (baseOf x s .snap) t in alike (baseOf x s .snap) t ≡ true → length (writtenDelta d) ≤ length (c .delta) → MadeFrom l (record { tick = tick; base = baseOf x s .tick; table = items table; delta = deltaIn [] (lay (writtenDelta d) (c .delta)) })
+made-from : (c : Controller) (tick : ℤ) (table : List ℤ) (t : Table) (s : Storage) (l : List Accepted) → tableOf table ≡ some t → Keeping s l
+    → let x : StoredSnap = record { tick = tick; snap = t } in let d : Delta = deltaFrom (baseOf x s .snap) t in alike (baseOf x s .snap) t ≡ true
+    → length (writtenDelta d) ≤ length (c .delta)
+    → MadeFrom l (record { tick = tick; base = baseOf x s .tick; table = items table; delta = deltaIn [] (lay (writtenDelta d) (c .delta)) })
 made-from c tick table t s l e k a h =
     let x : StoredSnap = record { tick = tick; snap = t } in
     let b = baseOf x s .snap in
@@ -178,18 +188,26 @@ made-from c tick table t s l e k a h =
     }
 
 -- a refused table leaves what is told
-pub told-refused : (s : Storage) (k : List Told) (tick : ℤ) (table : List ℤ) → s ≡ storageTold k → s ≡ storageTold (record { call = Runs.addSnap tick table; answered = false } ∷ k)
+pub told-refused : (s : Storage) (k : List Told) (tick : ℤ) (table : List ℤ) → s ≡ storageTold k
+    → s ≡ storageTold (record { call = Runs.addSnap tick table; answered = false } ∷ k)
 unfolding tablesLeft lastBase
 told-refused s k tick table e = e
 
 -- what adding the table of an area leaves is what is told
-pub told-adding : (c : Controller) (tick : ℤ) (table : List ℤ) (t : Table) (s : Storage) (k : List Told) (o : Outcome AddedSnap) → items table ≡ t → s ≡ storageTold k → let x : StoredSnap = record { tick = tick; snap = t } in addedTo x s o .storage ≡ storageTold (toldBy (Runs.addSnap tick table) (addedStep c x s o) k)
+pub told-adding : (c : Controller) (tick : ℤ) (table : List ℤ) (t : Table) (s : Storage) (k : List Told) (o : Outcome AddedSnap) → items table ≡ t
+    → s ≡ storageTold k
+    → let x : StoredSnap = record { tick = tick; snap = t } in addedTo x s o .storage ≡ storageTold (toldBy (Runs.addSnap tick table) (addedStep c x s o) k)
 unfolding addStep tablesLeft lastBase
 told-adding c tick table t s k (ok a w) q e = rw (q, e) refl
 told-adding c tick table t s k (err n w) q e = e
 
 -- what adding a table leaves
-pub adds-controls : (c : Controller) (tick : ℤ) (table : List ℤ) (t : Table) (s : Storage) (l : List Accepted) (k : List Told) → tableOf table ≡ some t → Keeping s l → (o : Outcome AddedSnap) → let x : StoredSnap = record { tick = tick; snap = t } in let y = addedStep c x s o in addedTo x s o .storage ≡ storageTold (toldBy (Runs.addSnap tick table) y k) → Adds (length (c .area)) (length (c .delta)) x s o → Rising (acceptedBy (Runs.addSnap tick table) y (y .answer) l) → Controls (y .next) (acceptedBy (Runs.addSnap tick table) y (y .answer) l) (toldBy (Runs.addSnap tick table) y k)
+pub adds-controls : (c : Controller) (tick : ℤ) (table : List ℤ) (t : Table) (s : Storage) (l : List Accepted) (k : List Told) → tableOf table ≡ some t
+    → Keeping s l → (o : Outcome AddedSnap)
+    → let x : StoredSnap = record { tick = tick; snap = t } in let y = addedStep c x s o in addedTo x s o .storage ≡ storageTold
+    (toldBy (Runs.addSnap tick table) y k)
+    → Adds (length (c .area)) (length (c .delta)) x s o → Rising (acceptedBy (Runs.addSnap tick table) y (y .answer) l)
+    → Controls (y .next) (acceptedBy (Runs.addSnap tick table) y (y .answer) l) (toldBy (Runs.addSnap tick table) y k)
 unfolding addStep
 adds-controls c tick table t s l k e h o q (full n) r = laid-out (length (c .area)) (c .delta) s l _ h q
 adds-controls c tick table t s l k e h o q (clashes n a) r = laid-out (length (c .area)) (c .delta) s l _ h q
@@ -199,5 +217,6 @@ adds-controls c tick table t s l k e h o q (fits n a f) r =
     let t-is : items table ≡ t = holds table t e .1 in
     let w = lay (writtenDelta (deltaFrom (baseOf x s .snap) t)) (c .delta) in
     laid-out (length (c .area)) w (withSnaps s (x ∷ s .snaps)) _ _
-    (keeping-more s l x (record { tick = tick; base = baseOf x s .tick; table = items table; delta = deltaIn [] w }) h n (soundly table t e .1) refl t-is (made-from c tick table t s l e h a f) r)
+    (keeping-more s l x (record { tick = tick; base = baseOf x s .tick; table = items table; delta = deltaIn [] w }) h n (soundly table t e .1) refl
+    t-is (made-from c tick table t s l e h a f) r)
     q

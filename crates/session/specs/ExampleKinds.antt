@@ -1,4 +1,4 @@
--- A session with every kind of message and a known size: a base that the printer lost, two refused tables, negative base ticks and one that is not held. Assumes nothing.
+-- A session with every kind of message and a known size, a lost base, refused tables, and base ticks that are negative or not held. Assumes nothing.
 use mathlib.Core.Path.{_≡_, refl, sym, subst}
 use mathlib.Core.Bool.{Bool, true, false}
 use mathlib.Core.List.{List, [], _∷_}
@@ -14,7 +14,7 @@ use Rattle.definitions.specs.Outcome.{Outcome, ok, return, refuse}
 use Rattle.definitions.specs.Tables.{Item, Table, list, body, offsets, written, num, nat, edge, start, keyAt, valuesAt, all, items, ends, lowest, fits, inForm, tableOf, find, insert, negatives, positives, allValues}
 use Rattle.definitions.specs.Messages.{Message, deltaChunks}
 use Rattle.definitions.specs.Types.{Ordinal, judgeTypes, typed, judgeTypeId}
-use Rattle.definitions.specs.Logbook.{refused, notYet, acknowledges}
+use Rattle.definitions.specs.Logbook.{Answer, refused, notYet, acknowledges}
 use Rattle.definitions.specs.Applying.{kept, updatedItem, replace, changeItem, newItem, applyUpdates, applyDelta}
 use Rattle.definitions.specs.DeltaCalls.{sizesMatch}
 use Rattle.definitions.specs.DeltaMaking.{lacking, changes, alike, deltaFrom, createDelta}
@@ -24,7 +24,7 @@ use Rattle.definitions.specs.Ints.{bits, fromBits, wrappingAdd, wrappingSub, si
 use Rattle.definitions.specs.Manager.{fittingDelta, afterReading, afterReceiving, handle, judgeManager, managed}
 use Rattle.definitions.specs.Packed.{signed, more, readInt, writeMore, writeInt, packInts}
 use Rattle.definitions.specs.Receiver.{countIn, joined, receiverForm, isOld, isCurrent, opened, differs, putPart, takeSnap, takeSingle, takeEmpty, leaves}
-use Rattle.definitions.specs.Storage.{storeInts, allZero, snapsOf, storageOf, dropOlder, oldestOr, oldestAt, addTable, addOn, addDelta, adding}
+use Rattle.definitions.specs.Storage.{StoredSnap, storeInts, allZero, snapsOf, storageOf, dropOlder, oldestOr, oldestAt, addTable, addOn, addDelta, adding}
 use Rattle.definitions.specs.Storage as Storage
 use Rattle.definitions.specs.StorageCalls.{Added, heldStorage, afterJudging, judgeTable, addSnapStep, addStep}
 use Rattle.definitions.specs.Stream.{stream}
@@ -122,6 +122,12 @@ received =
     message (single zeroth) 28800 ∷ message (part second 1) 28801 ∷ message (part second 0) 30000 ∷ message (part third 0) 28800 ∷ message (single first) 28800
     ∷ message (part third 1) 29000 ∷ message (emptyMessage fourth) 28800 ∷ message (emptyMessage fifth) 28800 ∷ message (single fifth) 28800 ∷ []
 
+-- the messages that come
+abbrev pub messages : List Message
+messages =
+    single zeroth ∷ part second 1 ∷ part second 0 ∷ part third 0 ∷ single first ∷ part third 1 ∷ emptyMessage fourth ∷ emptyMessage fifth
+    ∷ single fifth ∷ []
+
 -- ---- what the definitions come to
 
 -- how the controller's calls are answered
@@ -133,10 +139,36 @@ callAnswers c (x ∷ xs) = controllerCall c x .answer ∷ callAnswers (controlle
 abbrev pub addedOn : ℤ → ℕ → Outcome (Option Added)
 addedOn b n = return (some (record { base = b; ints = n }))
 
+-- the second and the third table name base -1, and so does the last; two are refused, and so is base tick 9
+abbrev pub callsAnswered : List (Outcome (Option Added))
+callsAnswered =
+    addedOn (negsuc 0) 8 ∷ return none ∷ return none ∷ addedOn (negsuc 0) 8 ∷ return none ∷ refuse deltaDifferingSizes ∷ refuse notInForm
+    ∷ addedOn (pos 1) 1011 ∷ ok none (one WeirdNegativeDeltaTick) ∷ addedOn (negsuc 0) 1011 ∷ return none ∷ addedOn (pos 3) 1011
+    ∷ refuse unknownSnap ∷ addedOn (negsuc 0) 3 ∷ []
+
+-- the printer's answers: tick 0, not yet, its base is lost, not yet, late, ticks 3, 4 and 5, late
+abbrev pub messagesAnswered : List Answer
+messagesAnswered =
+    acknowledges (pos 0) ∷ notYet ∷ refused unknownSnap ∷ notYet ∷ refused oldDelta ∷ acknowledges (pos 3) ∷ acknowledges (pos 4)
+    ∷ acknowledges (pos 5) ∷ refused oldDelta ∷ []
+
+-- the tables held in the end
+unfoldable pub heldAtLast : List StoredSnap
+heldAtLast =
+    record { tick = pos 5; snap = [] } ∷ record { tick = pos 4; snap = large 3 } ∷ record { tick = pos 3; snap = large 3 } ∷ []
+
+-- the known sizes are those of a table's delta
+abbrev Matches : Accepted → Type 0
+Matches a = sizesMatch sizes (a .delta .updated) ≡ true
+
+-- a table's delta takes so many bytes
+abbrev Takes : Accepted → ℕ → Type 0
+Takes a n = length (packed sizes a) ≡ n
+
 -- the tables accepted, what goes out for them, and how all calls are answered
 record Computed : Type 0 where
   log : acceptedFrom controller calls [] ≡ fifth ∷ fourth ∷ third ∷ second ∷ first ∷ zeroth ∷ []
-  answered : callAnswers controller calls ≡ addedOn (negsuc 0) 8 ∷ return none ∷ return none ∷ addedOn (negsuc 0) 8 ∷ return none ∷ refuse deltaDifferingSizes ∷ refuse notInForm ∷ addedOn (pos 1) 1011 ∷ ok none (one WeirdNegativeDeltaTick) ∷ addedOn (negsuc 0) 1011 ∷ return none ∷ addedOn (pos 3) 1011 ∷ refuse unknownSnap ∷ addedOn (negsuc 0) 3 ∷ []
+  answered : callAnswers controller calls ≡ callsAnswered
   out-zeroth : messagesOf sizes instead zeroth ≡ single zeroth ∷ []
   out-first : messagesOf sizes instead first ≡ single first ∷ []
   out-second : messagesOf sizes instead second ≡ part second 0 ∷ part second 1 ∷ []
@@ -144,17 +176,17 @@ record Computed : Type 0 where
   out-fourth : messagesOf sizes instead fourth ≡ emptyMessage fourth ∷ []
   out-fifth : messagesOf sizes instead fifth ≡ single fifth ∷ emptyMessage fifth ∷ []
   calls-fine : callsFine controller calls ≡ true
-  messages-are : messagesIn received ≡ single zeroth ∷ part second 1 ∷ part second 0 ∷ part third 0 ∷ single first ∷ part third 1 ∷ emptyMessage fourth ∷ emptyMessage fifth ∷ single fifth ∷ []
+  messages-are : messagesIn received ≡ messages
   received-fine : receivedFine sizes printer received ≡ true
-  matches : (sizesMatch sizes (zeroth .delta .updated) ≡ true) × (sizesMatch sizes (first .delta .updated) ≡ true) × (sizesMatch sizes (second .delta .updated) ≡ true) × (sizesMatch sizes (third .delta .updated) ≡ true) × (sizesMatch sizes (fifth .delta .updated) ≡ true)
-  short : (length (packed sizes zeroth) ≡ 7) × (length (packed sizes first) ≡ 7) × (length (packed sizes second) ≡ 1011) × (length (packed sizes third) ≡ 1011) × (length (packed sizes fifth) ≡ 3)
-  told : answers sizes printer received ≡ acknowledges (pos 0) ∷ notYet ∷ refused unknownSnap ∷ notYet ∷ refused oldDelta ∷ acknowledges (pos 3) ∷ acknowledges (pos 4) ∷ acknowledges (pos 5) ∷ refused oldDelta ∷ []
+  matches : Matches zeroth × Matches first × Matches second × Matches third × Matches fifth
+  short : Takes zeroth 7 × Takes first 7 × Takes second 1011 × Takes third 1011 × Takes fifth 3
+  told : answers sizes printer received ≡ messagesAnswered
   acknowledged : afterReceived sizes printer received .store .ackTick ≡ some (pos 5)
-  held : snapsOf 3 (afterReceived sizes printer received .area) ≡ some (record { tick = pos 5; snap = [] } ∷ record { tick = pos 4; snap = large 3 } ∷ record { tick = pos 3; snap = large 3 } ∷ [])
+  held : snapsOf 3 (afterReceived sizes printer received .area) ≡ some heldAtLast
 
 -- they are run
 computed : Computed
-unfolding acceptedFrom controllerCall messagesOf afterReceived messagesIn answers callsFine receivedFine callAnswers small large clashing calls controller printer zeroth first second third fourth fifth received kept updatedItem replace changeItem newItem applyUpdates applyDelta sizesMatch lacking changes alike deltaFrom createDelta nextInts headerNumber updateSize readHead readUpdate readUpdates put ordered readDeltaHeader readDelta rank knownSize updateInts updatesInts deltaInts deletedAt updateKey dataAt sizeAt updateEnd updates bits fromBits wrappingAdd wrappingSub fittingDelta afterReading afterReceiving handle judgeManager managed deltaChunks signed more readInt writeMore writeInt packInts countIn joined receiverForm isOld isCurrent opened differs putPart takeSnap takeSingle takeEmpty leaves storeInts allZero snapsOf storageOf dropOlder oldestOr oldestAt addTable addOn addDelta adding Storage.addSnap Storage.setDeltaTick heldStorage afterJudging judgeTable addSnapStep addStep stream held list body offsets written num nat edge start keyAt valuesAt all items ends lowest fits inForm tableOf find insert negatives positives allValues judgeTypes typed
+unfolding acceptedFrom controllerCall messagesOf afterReceived messagesIn answers callsFine receivedFine callAnswers small large clashing calls controller printer zeroth first second third fourth fifth received heldAtLast kept updatedItem replace changeItem newItem applyUpdates applyDelta sizesMatch lacking changes alike deltaFrom createDelta nextInts headerNumber updateSize readHead readUpdate readUpdates put ordered readDeltaHeader readDelta rank knownSize updateInts updatesInts deltaInts deletedAt updateKey dataAt sizeAt updateEnd updates bits fromBits wrappingAdd wrappingSub fittingDelta afterReading afterReceiving handle judgeManager managed deltaChunks signed more readInt writeMore writeInt packInts countIn joined receiverForm isOld isCurrent opened differs putPart takeSnap takeSingle takeEmpty leaves storeInts allZero snapsOf storageOf dropOlder oldestOr oldestAt addTable addOn addDelta adding Storage.addSnap Storage.setDeltaTick heldStorage afterJudging judgeTable addSnapStep addStep stream held list body offsets written num nat edge start keyAt valuesAt all items ends lowest fits inForm tableOf find insert negatives positives allValues judgeTypes typed
 computed =
     record {
       log = refl;
@@ -220,8 +252,10 @@ rises =
     let r1 : All (Below (pos 1)) (zeroth ∷ []) = Statement.more refl Statement.none in
     let r2 : All (Below (pos 2)) (first ∷ zeroth ∷ []) = Statement.more refl (Statement.more refl Statement.none) in
     let r3 : All (Below (pos 3)) (second ∷ first ∷ zeroth ∷ []) = Statement.more refl (Statement.more refl (Statement.more refl Statement.none)) in
-    let r4 : All (Below (pos 4)) (third ∷ second ∷ first ∷ zeroth ∷ []) = Statement.more refl (Statement.more refl (Statement.more refl (Statement.more refl Statement.none))) in
-    let r5 : All (Below (pos 5)) (fourth ∷ third ∷ second ∷ first ∷ zeroth ∷ []) = Statement.more refl (Statement.more refl (Statement.more refl (Statement.more refl (Statement.more refl Statement.none)))) in
+    let r4 : All (Below (pos 4)) (third ∷ second ∷ first ∷ zeroth ∷ []) = Statement.more refl
+    (Statement.more refl (Statement.more refl (Statement.more refl Statement.none))) in
+    let r5 : All (Below (pos 5)) (fourth ∷ third ∷ second ∷ first ∷ zeroth ∷ []) = Statement.more refl
+    (Statement.more refl (Statement.more refl (Statement.more refl (Statement.more refl Statement.none)))) in
     Statement.more 5 refl (omega arith) r5
     (Statement.more 4 refl (omega arith) r4
     (Statement.more 3 refl (omega arith) r3
@@ -229,7 +263,8 @@ rises =
     (Statement.more 1 refl (omega arith) r1 (Statement.more 0 refl (omega arith) Statement.none Statement.none)))))
 
 -- a message that carries bytes
-carrying : (a : Accepted) (m : Message) (l : List Message) (k : ℕ) → Among a log → instead (a .tick) ≡ false → sizesMatch sizes (a .delta .updated) ≡ true → length (packed sizes a) ≡ k → k ≤ 28800 → messagesOf sizes instead a ≡ l → Among m l → Sent sizes instead (AcceptedAt log) log m
+carrying : (a : Accepted) (m : Message) (l : List Message) (k : ℕ) → Among a log → instead (a .tick) ≡ false → sizesMatch sizes (a .delta .updated) ≡ true
+    → length (packed sizes a) ≡ k → k ≤ 28800 → messagesOf sizes instead a ≡ l → Among m l → Sent sizes instead (AcceptedAt log) log m
 carrying a m l k i f e q h o among =
     record {
       table = a;
@@ -270,11 +305,13 @@ fifth-sent m i =
     carrying fifth m _ 3 here refl (computed .matches .4) (computed .short .4) (omega arith) (computed .out-fifth) i
 
 -- all messages were sent
-all-sent : All (Sent sizes instead (AcceptedAt log) log) (single zeroth ∷ part second 1 ∷ part second 0 ∷ part third 0 ∷ single first ∷ part third 1 ∷ emptyMessage fourth ∷ emptyMessage fifth ∷ single fifth ∷ [])
+all-sent : All (Sent sizes instead (AcceptedAt log) log) messages
 unfolding zeroth first
 all-sent =
-    let z = carrying zeroth (single zeroth) _ 7 (there (there (there (there (there here))))) refl (computed .matches .0) (computed .short .0) (omega arith) (computed .out-zeroth) here in
-    let f = carrying first (single first) _ 7 (there (there (there (there here)))) refl (computed .matches .1) (computed .short .1) (omega arith) (computed .out-first) here in
+    let z = carrying zeroth (single zeroth) _ 7 (there (there (there (there (there here))))) refl (computed .matches .0) (computed .short .0)
+    (omega arith) (computed .out-zeroth) here in
+    let f = carrying first (single first) _ 7 (there (there (there (there here)))) refl (computed .matches .1) (computed .short .1) (omega arith)
+    (computed .out-first) here in
     Statement.more z
     (Statement.more (second-sent (part second 1) (there here))
     (Statement.more (second-sent (part second 0) here)
@@ -321,12 +358,12 @@ example-suffices =
 pub example-demand : Demand3 example
 example-demand = demand3 example example-holds example-suffices
 
--- the controller's answers: the second and the fourth table name base -1, and so does the last
-pub example-calls : callAnswers controller calls ≡ addedOn (negsuc 0) 8 ∷ return none ∷ return none ∷ addedOn (negsuc 0) 8 ∷ return none ∷ refuse deltaDifferingSizes ∷ refuse notInForm ∷ addedOn (pos 1) 1011 ∷ ok none (one WeirdNegativeDeltaTick) ∷ addedOn (negsuc 0) 1011 ∷ return none ∷ addedOn (pos 3) 1011 ∷ refuse unknownSnap ∷ addedOn (negsuc 0) 3 ∷ []
+-- the controller's answers
+pub example-calls : callAnswers controller calls ≡ callsAnswered
 example-calls = computed .answered
 
--- the printer's answers: tick 0, not yet, its base is lost, not yet, late, ticks 3, 4 and 5, late
-pub example-answers : answers sizes printer received ≡ acknowledges (pos 0) ∷ notYet ∷ refused unknownSnap ∷ notYet ∷ refused oldDelta ∷ acknowledges (pos 3) ∷ acknowledges (pos 4) ∷ acknowledges (pos 5) ∷ refused oldDelta ∷ []
+-- the printer's answers
+pub example-answers : answers sizes printer received ≡ messagesAnswered
 example-answers = computed .told
 
 -- tick 5 is acknowledged last
@@ -334,5 +371,5 @@ pub example-acknowledged : afterReceived sizes printer received .store .ackTick 
 example-acknowledged = computed .acknowledged
 
 -- and the tables of ticks 5, 4 and 3 are held
-pub example-held : snapsOf 3 (afterReceived sizes printer received .area) ≡ some (record { tick = pos 5; snap = [] } ∷ record { tick = pos 4; snap = large 3 } ∷ record { tick = pos 3; snap = large 3 } ∷ [])
+pub example-held : snapsOf 3 (afterReceived sizes printer received .area) ≡ some heldAtLast
 example-held = computed .held

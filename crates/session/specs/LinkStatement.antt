@@ -45,8 +45,10 @@ pub record LinkHolds (At : ℤ → Table → Type 0) (k : Link) : Type 0 where
 -- what then holds
 pub record Agreement (At : ℤ → Table → Type 0) (k : Link) : Type 0 where
   -- each table that the printer holds is the one at its tick; ticks held and acknowledgement are the logbook's, after each call
-  pub printer : (xs ys : List PrinterCall) → k .received ≡ xs ++ ys → PrinterHolds At (afterReceived (k .sizes) (k .printer) xs) (afterNotes freshLogbook (messagesIn xs))
+  pub printer : (xs ys : List PrinterCall) → k .received ≡ xs ++ ys
+      → PrinterHolds At (afterReceived (k .sizes) (k .printer) xs) (afterNotes freshLogbook (messagesIn xs))
   -- a call acknowledges a tick exactly when it brings the last of its parts still missing, nothing newer came before, and its base is held or negative
-  pub acknowledgements : (xs ys : List PrinterCall) (m : Message) (n : ℕ) → k .received ≡ xs ++ message m n ∷ ys → AcknowledgedWhen (k .sizes) (afterReceived (k .sizes) (k .printer) xs) (messagesIn xs) m n
+  pub acknowledgements : (xs ys : List PrinterCall) (m : Message) (n : ℕ) → k .received ≡ xs ++ message m n ∷ ys
+      → AcknowledgedWhen (k .sizes) (afterReceived (k .sizes) (k .printer) xs) (messagesIn xs) m n
   -- the answers are the logbook's
   pub sameAnswers : answers (k .sizes) (k .printer) (k .received) ≡ noted freshLogbook (messagesIn (k .received))

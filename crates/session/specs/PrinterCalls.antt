@@ -39,7 +39,8 @@ CallLong p scratch = PrinterLong p × (packedBytes ≤ scratch)
 
 module _ (sizes : List ℤ) (instead : ℤ → Bool) (es : List Accepted) (At : ℤ → Table → Type 0) (n : ℕ) (up : Rising es) (nm : Naming es At) where
   -- what is held, below some tick
-  pub agree-held : {r : Receiver} {area : List ℕ} {s : Storage} {g : Logbook} → Agree sizes instead es At n r area s g → (k : ℕ) × Held sizes instead es At n k (s .snaps)
+  pub agree-held : {r : Receiver} {area : List ℕ} {s : Storage} {g : Logbook} → Agree sizes instead es At n r area s g
+      → (k : ℕ) × Held sizes instead es At n k (s .snaps)
   agree-held fresh = (0, held-nothing sizes instead es At n 0)
   agree-held (finished {t = t} m e c h) = (suc t, h)
   agree-held (waiting {t = t} m e big carried hold c some-in above h) = (t, h)
@@ -80,7 +81,9 @@ module _ (sizes : List ℤ) (instead : ℤ → Bool) (es : List Accepted) (At : 
       enough = leb 28800 scratch && (leb 28800 (length (p .parts)) && leb 28800 (length (p .joined)))
 
       -- receiver and store are in form
-      judged : enough ≡ true → Gives (judgeManager (p .receiver) (p .store) (p .area) (length (p .parts)) (length (p .joined)) scratch) (record { receiver = p .receiver; storage = k .storage })
+      judged : enough ≡ true
+          → Gives (judgeManager (p .receiver) (p .store) (p .area) (length (p .parts)) (length (p .joined)) scratch)
+          (record { receiver = p .receiver; storage = k .storage })
       unfolding judgeManager heldStorage
       judged e = rw (agree-form sizes instead es At n (k .agree), keeps-storage, e) (given _ _)
 
@@ -109,7 +112,9 @@ module _ (sizes : List ℤ) (instead : ℤ → Bool) (es : List Accepted) (At : 
     pub keeps : Keeps (left s) (k .logbook)
 
   -- a message of an accepted table, where areas and scratch suffice
-  pub call-same : {p : Printer} {g : Logbook} (k : Keeps p g) (a : Accepted) (x : Message) (scratch : ℕ) → Among a es → Ready sizes At a → Goes sizes instead At a x → Room (CallLong p scratch) (printerCall sizes p x scratch .answer) → Alike (printerCall sizes p x scratch) (noteMessage g (x .numbers))
+  pub call-same : {p : Printer} {g : Logbook} (k : Keeps p g) (a : Accepted) (x : Message) (scratch : ℕ) → Among a es → Ready sizes At a
+      → Goes sizes instead At a x → Room (CallLong p scratch) (printerCall sizes p x scratch .answer)
+      → Alike (printerCall sizes p x scratch) (noteMessage g (x .numbers))
   unfolding managed
   call-same {p} {g} k a x scratch m y goes s =
       either (enough k scratch)
@@ -118,7 +123,8 @@ module _ (sizes : List ℤ) (instead : ℤ → Bool) (es : List Accepted) (At : 
       let b = both (leb 28800 scratch) _ e in
       let c = both (leb 28800 (length (p .parts))) _ (b .1) in
       let r = room-map (both-long k scratch) (rw (j .gives, keeps-length k) at s) in
-      let q = message-same sizes instead es At n up nm a m y (p .receiver) (k .storage) g (p .parts) (p .joined) (p .delta) (leb-true _ _ (c .0)) (leb-true _ _ (c .1)) (k .agree) x goes r in
+      let q = message-same sizes instead es At n up nm a m y (p .receiver) (k .storage) g (p .parts) (p .joined) (p .delta) (leb-true _ _ (c .0))
+      (leb-true _ _ (c .1)) (k .agree) x goes r in
       rw (j .gives, keeps-length k)
       (record {
         answer = q .answer;

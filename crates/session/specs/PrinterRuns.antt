@@ -24,7 +24,8 @@ use Rattle.session.specs.Acknowledging.{acknowledges-when}
 -- each of some calls has room, from a printer on
 pub data AllRoom (sizes : List ℤ) : Printer → List PrinterCall → Type 0 where
   end : {p : Printer} → AllRoom sizes p []
-  next : {p : Printer} {m : Message} {n : ℕ} {cs : List PrinterCall} → Room (CallLong p n) (printerCall sizes p m n .answer) → AllRoom sizes (left (printerCall sizes p m n)) cs → AllRoom sizes p (message m n ∷ cs)
+  next : {p : Printer} {m : Message} {n : ℕ} {cs : List PrinterCall} → Room (CallLong p n) (printerCall sizes p m n .answer)
+      → AllRoom sizes (left (printerCall sizes p m n)) cs → AllRoom sizes p (message m n ∷ cs)
 
 module _ (sizes : List ℤ) where
   -- those at the front have room
@@ -33,7 +34,8 @@ module _ (sizes : List ℤ) where
   front-room p (message m n ∷ cs) ds (next r rs) = next r (front-room (left (printerCall sizes p m n)) cs ds rs)
 
   -- the one at a place has
-  room-at : (p : Printer) (cs ds : List PrinterCall) (m : Message) (n : ℕ) → AllRoom sizes p (cs ++ message m n ∷ ds) → Room (CallLong (afterReceived sizes p cs) n) (printerCall sizes (afterReceived sizes p cs) m n .answer)
+  room-at : (p : Printer) (cs ds : List PrinterCall) (m : Message) (n : ℕ) → AllRoom sizes p (cs ++ message m n ∷ ds)
+      → Room (CallLong (afterReceived sizes p cs) n) (printerCall sizes (afterReceived sizes p cs) m n .answer)
   unfolding afterReceived
   room-at p [] ds m n (next r rs) = r
   room-at p (message x k ∷ cs) ds m n (next r rs) = room-at (left (printerCall sizes p x k)) cs ds m n rs
@@ -48,7 +50,8 @@ messages-append (message m n ∷ xs) ys = ap (λ (l : List Message). m ∷ l) (m
 same-some : {a b : Storage} → some a ≡ some b → a ≡ b
 same-some e = cc
 
-module _ (sizes : List ℤ) (instead : ℤ → Bool) (es : List Accepted) (At : ℤ → Table → Type 0) (n : ℕ) (up : Rising es) (nm : Naming es At) (ready : All (Ready sizes At) es) where
+module _ (sizes : List ℤ) (instead : ℤ → Bool) (es : List Accepted) (At : ℤ → Table → Type 0) (n : ℕ) (up : Rising es) (nm : Naming es At)
+    (ready : All (Ready sizes At) es) where
   -- a message that was sent, with the table that it belongs to
   record Known (m : Message) : Type 0 where
     table : Accepted
@@ -90,7 +93,8 @@ module _ (sizes : List ℤ) (instead : ℤ → Bool) (es : List Accepted) (At : 
     keeps : Keeps sizes instead es At n up nm p g
     knows : Knows xs g
 
-  module _ {p : Printer} {g : Logbook} {m : Message} (scratch : ℕ) (xs : List Message) (s : Sent sizes instead At es m) (f : Room (CallLong p scratch) (printerCall sizes p m scratch .answer)) (i : State xs p g) where
+  module _ {p : Printer} {g : Logbook} {m : Message} (scratch : ℕ) (xs : List Message) (s : Sent sizes instead At es m)
+      (f : Room (CallLong p scratch) (printerCall sizes p m scratch .answer)) (i : State xs p g) where
     -- one call
     call : Alike sizes instead es At n up nm (printerCall sizes p m scratch) (noteMessage g (m .numbers))
     call =
@@ -107,7 +111,8 @@ module _ (sizes : List ℤ) (instead : ℤ → Bool) (es : List Accepted) (At : 
         }
 
   -- all calls; xs are the messages before
-  run : (cs : List PrinterCall) (xs : List Message) (p : Printer) {g : Logbook} → All (Sent sizes instead At es) (messagesIn cs) → AllRoom sizes p cs → State xs p g → State (xs ++ messagesIn cs) (afterReceived sizes p cs) (afterNotes g (messagesIn cs))
+  run : (cs : List PrinterCall) (xs : List Message) (p : Printer) {g : Logbook} → All (Sent sizes instead At es) (messagesIn cs) → AllRoom sizes p cs
+      → State xs p g → State (xs ++ messagesIn cs) (afterReceived sizes p cs) (afterNotes g (messagesIn cs))
   unfolding afterReceived afterNotes messagesIn
   run [] xs p none end i = rw append-nil i
   run (message m n ∷ cs) xs p (more s ss) (next f fs) i =
@@ -115,13 +120,15 @@ module _ (sizes : List ℤ) (instead : ℤ → Bool) (es : List Accepted) (At : 
       (run cs (xs ++ m ∷ []) (left (printerCall sizes p m n)) ss fs (after-one n xs s f i))
 
   -- their answers
-  run-answers : (cs : List PrinterCall) (xs : List Message) (p : Printer) {g : Logbook} → All (Sent sizes instead At es) (messagesIn cs) → AllRoom sizes p cs → State xs p g → answers sizes p cs ≡ noted g (messagesIn cs)
+  run-answers : (cs : List PrinterCall) (xs : List Message) (p : Printer) {g : Logbook} → All (Sent sizes instead At es) (messagesIn cs)
+      → AllRoom sizes p cs → State xs p g → answers sizes p cs ≡ noted g (messagesIn cs)
   unfolding answers noted messagesIn
   run-answers [] xs p none end i = refl
   run-answers (message m n ∷ cs) xs p (more s ss) (next f fs) i =
       rw (call n xs s f i .answer, run-answers cs (xs ++ m ∷ []) (left (printerCall sizes p m n)) ss fs (after-one n xs s f i)) refl
 
-  module _ (parts joined : List ℕ) (delta : List ℤ) (cs : List PrinterCall) (sent : All (Sent sizes instead At es) (messagesIn cs)) (room : AllRoom sizes (freshPrinter n parts joined delta) cs) where
+  module _ (parts joined : List ℕ) (delta : List ℤ) (cs : List PrinterCall) (sent : All (Sent sizes instead At es) (messagesIn cs))
+      (room : AllRoom sizes (freshPrinter n parts joined delta) cs) where
     -- the printer at first
     abbrev printer : Printer
     printer = freshPrinter n parts joined delta
@@ -137,7 +144,8 @@ module _ (sizes : List ℤ) (instead : ℤ → Bool) (es : List Accepted) (At : 
     -- after those at the front
     after : (xs ys : List PrinterCall) → cs ≡ xs ++ ys → State (messagesIn xs) (afterReceived sizes printer xs) (afterNotes freshLogbook (messagesIn xs))
     after xs ys e =
-        run xs [] printer (all-front (messagesIn xs) (messagesIn ys) (sent-in xs ys e)) (front-room sizes printer xs ys (subst (AllRoom sizes printer) e room)) begin
+        run xs [] printer (all-front (messagesIn xs) (messagesIn ys) (sent-in xs ys e))
+        (front-room sizes printer xs ys (subst (AllRoom sizes printer) e room)) begin
 
     -- the tables held are those at their ticks, and ticks and acknowledgement are noted
     pub held-noted : (xs ys : List PrinterCall) → cs ≡ xs ++ ys → PrinterHolds At (afterReceived sizes printer xs) (afterNotes freshLogbook (messagesIn xs))
@@ -152,7 +160,8 @@ module _ (sizes : List ℤ) (instead : ℤ → Bool) (es : List Accepted) (At : 
         }
 
     -- a call acknowledges exactly when its message completes its tick
-    pub acknowledged-when : (xs ys : List PrinterCall) (m : Message) (k : ℕ) → cs ≡ xs ++ message m k ∷ ys → AcknowledgedWhen sizes (afterReceived sizes printer xs) (messagesIn xs) m k
+    pub acknowledged-when : (xs ys : List PrinterCall) (m : Message) (k : ℕ) → cs ≡ xs ++ message m k ∷ ys
+        → AcknowledgedWhen sizes (afterReceived sizes printer xs) (messagesIn xs) m k
     unfolding messagesIn
     acknowledged-when xs ys m k e h q =
         let i = after xs (message m k ∷ ys) e in
@@ -161,7 +170,8 @@ module _ (sizes : List ℤ) (instead : ℤ → Bool) (es : List Accepted) (At : 
         let h-is : h ≡ i .keeps .storage = same-some (sym q ∙ keeps-storage sizes instead es At n up nm (i .keeps)) in
         let f = room-at sizes printer xs ys m k (subst (AllRoom sizes printer) e room) in
         rw (h-is, call k (messagesIn xs) s f i .answer)
-        (acknowledges-when (messagesIn xs) m (j .number) (j .tick-is) (agree-held sizes instead es At n up nm (i .keeps .agree) .1 .falls) (afterNotes freshLogbook (messagesIn xs)) (j .part-below) (i .knows) (agree-ticks sizes instead es At n up nm (i .keeps .agree)))
+        (acknowledges-when (messagesIn xs) m (j .number) (j .tick-is) (agree-held sizes instead es At n up nm (i .keeps .agree) .1 .falls)
+        (afterNotes freshLogbook (messagesIn xs)) (j .part-below) (i .knows) (agree-ticks sizes instead es At n up nm (i .keeps .agree)))
 
     -- all answers are the logbook's
     pub answers-noted : answers sizes printer cs ≡ noted freshLogbook (messagesIn cs)

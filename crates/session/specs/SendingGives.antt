@@ -35,7 +35,8 @@ next-taken (m ∷ l) (suc n) h = cons-then m (take n l) (nthMessage l n) ∙ ap 
     cons-then m l none = refl
 
 -- the first n messages of a list, each asked for
-asked-are : (f : ℕ → Outcome (Option Message)) (l : List Message) (n : ℕ) → ((i : ℕ) → f i ≡ return (nthMessage l i)) → n ≤ length l → askedFor f n ≡ return (take n l)
+asked-are : (f : ℕ → Outcome (Option Message)) (l : List Message) (n : ℕ) → ((i : ℕ) → f i ≡ return (nthMessage l i)) → n ≤ length l
+    → askedFor f n ≡ return (take n l)
 unfolding askedFor
 asked-are f l zero e h = refl
 asked-are f l (suc n) e h =
@@ -57,18 +58,22 @@ empty-cut tick base sum = cut-gives tick base [] sum (omega arith) ∙ unfold de
 -- ---- a table that was added
 
 -- a delta area in form is written under sizes that are its data's
-writing-is : (sizes delta : List ℤ) (d : Delta) → deltaOf delta ≡ some d → sizesMatch sizes (d .updated) ≡ true → writing delta sizes ≡ return (deltaInts sizes d)
+writing-is : (sizes delta : List ℤ) (d : Delta) → deltaOf delta ≡ some d → sizesMatch sizes (d .updated) ≡ true
+    → writing delta sizes ≡ return (deltaInts sizes d)
 unfolding writing heldDelta
 writing-is sizes delta d e m = rw (e, m) refl
 
 -- packed, it is laid into an area that has room
-write-gives : (sizes delta : List ℤ) (out : List ℕ) (d : Delta) → deltaOf delta ≡ some d → sizesMatch sizes (d .updated) ≡ true → let x = packInts (deltaInts sizes d) in length x ≤ length out → writeCall delta sizes out ≡ record { answer = return (length x); out = lay x out }
+write-gives : (sizes delta : List ℤ) (out : List ℕ) (d : Delta) → deltaOf delta ≡ some d → sizesMatch sizes (d .updated) ≡ true
+    → let x = packInts (deltaInts sizes d) in length x ≤ length out → writeCall delta sizes out ≡ record { answer = return (length x); out = lay x out }
 unfolding stored
 write-gives sizes delta out d e m h =
     rw (writing-is sizes delta d e m, le-leb (length (packInts (deltaInts sizes d))) (length out) h) refl
 
 -- the calls that send give the messages of its delta, with the sum of its table
-pub send-gives : (sizes : List ℤ) (tick base : ℤ) (table delta : List ℤ) (out : List ℕ) (t : Table) (d : Delta) → tableOf table ≡ some t → deltaOf delta ≡ some d → sizesMatch sizes (d .updated) ≡ true → let x = packInts (deltaInts sizes d) in length x ≤ length out → length x ≤ 1048576 → sendCalls sizes tick base table delta out ≡ return (deltaChunks tick base x (crc t))
+pub send-gives : (sizes : List ℤ) (tick base : ℤ) (table delta : List ℤ) (out : List ℕ) (t : Table) (d : Delta) → tableOf table ≡ some t
+    → deltaOf delta ≡ some d → sizesMatch sizes (d .updated) ≡ true → let x = packInts (deltaInts sizes d) in length x ≤ length out → length x ≤ 1048576
+    → sendCalls sizes tick base table delta out ≡ return (deltaChunks tick base x (crc t))
 unfolding sendCalls held
 send-gives sizes tick base table delta out t d e q m h few =
     let x = packInts (deltaInts sizes d) in

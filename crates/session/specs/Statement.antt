@@ -24,7 +24,7 @@ use Rattle.definitions.specs.StorageCalls.{Added}
 use Rattle.definitions.specs.Logbook.{Logbook, freshLogbook, acknowledges}
 use Rattle.laws.specs.BuilderForm.{Built}
 use Rattle.session.specs.Lengths.{storeAreaInts, deltaAreaInts, packedBytes}
-use Rattle.session.specs.Runs.{ControllerCall, addSnap, setDeltaTick, Controller, controllerCall, freshController, afterCalls, Accepted, acceptedAs, acceptedFrom, packed, chunksOf, emptyMessage, messagesOf, Printer, freshPrinter, PrinterCall, message, printerCall, afterReceived, messagesIn, answerOf, answers, afterNotes, noted}
+use Rattle.session.specs.Runs.{ControllerCall, addSnap, setDeltaTick, Controller, ControllerStep, controllerCall, freshController, afterCalls, Accepted, acceptedAs, acceptedFrom, packed, chunksOf, emptyMessage, messagesOf, Printer, freshPrinter, PrinterCall, message, printerCall, afterReceived, messagesIn, answerOf, answers, afterNotes, noted}
 use Rattle.session.specs.ControllerList.{toldFrom, storageTold}
 use Rattle.session.specs.SendingCalls.{cutCalls, sendCalls}
 
@@ -43,7 +43,8 @@ pub data All {A : Type 0} (P : A → Type 0) : List A → Type 0 where
 -- "adds them at strictly rising ticks from 0": of the accepted tables, the newest first
 pub data Rising : List Accepted → Type 0 where
   none : Rising []
-  more : {a : Accepted} {l : List Accepted} (n : ℕ) → a .tick ≡ pos n → n ≤ 2147483647 → All (λ b. signedLess (b .tick) (a .tick) ≡ true) l → Rising l → Rising (a ∷ l)
+  more : {a : Accepted} {l : List Accepted} (n : ℕ) → a .tick ≡ pos n → n ≤ 2147483647 → All (λ b. signedLess (b .tick) (a .tick) ≡ true) l → Rising l
+      → Rising (a ∷ l)
 
 -- the table that was accepted at a tick
 pub record AcceptedAt (l : List Accepted) (t : ℤ) (u : Table) : Type 0 where
@@ -110,6 +111,10 @@ abbrev pub Suffices : {A : Type 0} → Outcome A → Type 0
 Suffices (ok a w) = Unit {0}
 Suffices (err n w) = (n ≡ capacityError → ⊥) × (n ≡ scratchTooShort → ⊥)
 
+-- the step of the controller's call behind some others
+abbrev pub stepAfter : Session → List ControllerCall → ControllerCall → ControllerStep
+stepAfter s xs x = controllerCall (afterCalls (s .controller) xs) x
+
 -- no call of a printer is refused so
 abbrev pub ReceivedSuffices : List ℤ → Printer → List PrinterCall → Type 0
 ReceivedSuffices sizes p cs =
@@ -117,7 +122,7 @@ ReceivedSuffices sizes p cs =
 
 -- "scratch and lent areas suffice by the rules for 40 and 41": no call is refused so
 pub record AreasSuffice (s : Session) : Type 0 where
-  pub controller : (xs ys : List ControllerCall) (x : ControllerCall) → s .calls ≡ xs ++ x ∷ ys → Suffices (controllerCall (afterCalls (s .controller) xs) x .answer)
+  pub controller : (xs ys : List ControllerCall) (x : ControllerCall) → s .calls ≡ xs ++ x ∷ ys → Suffices (stepAfter s xs x .answer)
   pub printer : ReceivedSuffices (s .sizes) (s .printer) (s .received)
 
 -- scratch of a call that always suffices
@@ -165,8 +170,10 @@ pub data Weird : ℤ → Counts → Type 0 where
 pub data Answered (s : Storage) : ControllerCall → Outcome (Option Added) → Type 0 where
   unformed : {t : ℤ} {table : List ℤ} → tableOf table ≡ Option.none → Answered s (addSnap t table) (refuse notInForm)
   full : {t : ℤ} {table : List ℤ} {u : Table} → tableOf table ≡ some u → 100 ≤ length (s .snaps) → Answered s (addSnap t table) (refuse storeFull)
-  clash : {t : ℤ} {table : List ℤ} {u b : Table} → tableOf table ≡ some u → length (s .snaps) < 100 → BaseIn s b → createDelta b u ≡ refuse deltaDifferingSizes → Answered s (addSnap t table) (refuse deltaDifferingSizes)
-  adds : {t : ℤ} {table : List ℤ} {u b : Table} {d : Delta} → tableOf table ≡ some u → length (s .snaps) < 100 → BaseIn s b → createDelta b u ≡ return d → Answered s (addSnap t table) (return (some (record { base = orNone (s .deltaTick); ints = length (writtenDelta d) })))
+  clash : {t : ℤ} {table : List ℤ} {u b : Table} → tableOf table ≡ some u → length (s .snaps) < 100 → BaseIn s b
+      → createDelta b u ≡ refuse deltaDifferingSizes → Answered s (addSnap t table) (refuse deltaDifferingSizes)
+  adds : {t : ℤ} {table : List ℤ} {u b : Table} {d : Delta} → tableOf table ≡ some u → length (s .snaps) < 100 → BaseIn s b → createDelta b u ≡ return d
+      → Answered s (addSnap t table) (return (some (record { base = orNone (s .deltaTick); ints = length (writtenDelta d) })))
   unset : {t : ℤ} {w : Counts} → signedLess t (pos 0) ≡ true → Weird t w → Answered s (setDeltaTick t) (ok Option.none w)
   sets : {t : ℤ} → signedLess t (pos 0) ≡ false → HeldAt t (s .snaps) → Answered s (setDeltaTick t) (return Option.none)
   unknown : {t : ℤ} → signedLess t (pos 0) ≡ false → (HeldAt t (s .snaps) → ⊥) → Answered s (setDeltaTick t) (refuse unknownSnap)
@@ -183,9 +190,10 @@ pub record BaseRight (l : List Accepted) (a : Accepted) : Type 0 where
   pub made : createDelta base (a .table) ≡ return (a .delta)
 
 -- the calls that send, on the areas that `add_snap` was lent and left, give the messages of its table; on no bytes they give its empty message
-pub record SentRight (sizes : List ℤ) (table delta : List ℤ) (a : Accepted) : Type 0 where
-  pub chunks : (out : List ℕ) → Carried sizes a → length (packed sizes a) ≤ length out → sendCalls sizes (a .tick) (a .base) table delta out ≡ return (chunksOf sizes a)
-  pub empty : (crc : ℤ) → cutCalls (a .tick) (a .base) [] crc ≡ return (emptyMessage a ∷ [])
+pub record SentRight (sizes : List ℤ) (tick : ℤ) (table : List ℤ) (a : Added) (delta : List ℤ) : Type 0 where
+  pub chunks : (out : List ℕ) → let x : Accepted = acceptedAs tick table a delta in Carried sizes x → length (packed sizes x) ≤ length out
+      → sendCalls sizes tick (a .base) table delta out ≡ return (chunksOf sizes x)
+  pub empty : (crc : ℤ) → cutCalls tick (a .base) [] crc ≡ return (emptyMessage (acceptedAs tick table a delta) ∷ [])
 
 -- ---- the claim about the printer
 
@@ -224,7 +232,8 @@ pub record Completes (xs : List Message) (l : List StoredSnap) (m : SnapMsg) : T
   pub newest : (x : Message) → Among x xs → signedLess (tickOf m) (tickOf (x .numbers)) ≡ false
   pub based : signedLess (baseOf m) (pos 0) ≡ false → HeldAt (baseOf m) l
 
--- what a printer holds beside its logbook: its area is in form, each table is, item for item, the one at its tick, and the ticks and the acknowledgement are the noted ones
+-- what a printer holds beside its logbook: its area is in form, each table is, item for item, the one at its tick, and
+-- the ticks held and the acknowledgement are the noted ones
 pub record PrinterHolds (At : ℤ → Table → Type 0) (p : Printer) (g : Logbook) : Type 0 where
   pub storage : Storage
   pub in-form : storageOf (p .store) (p .area) ≡ some storage
@@ -235,7 +244,8 @@ pub record PrinterHolds (At : ℤ → Table → Type 0) (p : Printer) (g : Logbo
 -- a message is acknowledged exactly when it completes its tick, by what the printer then holds
 abbrev pub AcknowledgedWhen : List ℤ → Printer → List Message → Message → ℕ → Type 0
 AcknowledgedWhen sizes p xs m n =
-    (h : Storage) → storageOf (p .store) (p .area) ≡ some h → (answerOf (printerCall sizes p m n .answer) ≡ acknowledges (tickOf (m .numbers))) ↔ Completes xs (h .snaps) (m .numbers)
+    (h : Storage) → storageOf (p .store) (p .area) ≡ some h
+    → (answerOf (printerCall sizes p m n .answer) ≡ acknowledges (tickOf (m .numbers))) ↔ Completes xs (h .snaps) (m .numbers)
 
 -- the printer and the logbook after some calls
 abbrev pub printerAfter : Session → List PrinterCall → Printer
@@ -248,15 +258,20 @@ logbookAfter xs = afterNotes freshLogbook (messagesIn xs)
 
 pub record Demand3 (s : Session) : Type 0 where
   -- after each of its calls the controller's store is in form, and holds what the calls tell
-  pub holds : (xs ys : List ControllerCall) → s .calls ≡ xs ++ ys → storageOf (afterCalls (s .controller) xs .store) (afterCalls (s .controller) xs .area) ≡ some (controllerTold s xs)
+  pub holds : (xs ys : List ControllerCall) → s .calls ≡ xs ++ ys
+      → storageOf (afterCalls (s .controller) xs .store) (afterCalls (s .controller) xs .area) ≡ some (controllerTold s xs)
   -- its calls are answered, and add_snap chose its base, as 01 defines
-  pub controller : (xs ys : List ControllerCall) (x : ControllerCall) → s .calls ≡ xs ++ x ∷ ys → Answered (controllerTold s xs) x (controllerCall (afterCalls (s .controller) xs) x .answer)
+  pub controller : (xs ys : List ControllerCall) (x : ControllerCall) → s .calls ≡ xs ++ x ∷ ys
+      → Answered (controllerTold s xs) x (stepAfter s xs x .answer)
   pub bases : All (BaseRight (acceptedIn s)) (acceptedIn s)
   -- the calls that send give the messages of an added table
-  pub sending : (xs ys : List ControllerCall) (tick : ℤ) (table : List ℤ) (a : Added) (w : Counts) → s .calls ≡ xs ++ addSnap tick table ∷ ys → controllerCall (afterCalls (s .controller) xs) (addSnap tick table) .answer ≡ ok (some a) w → let delta = controllerCall (afterCalls (s .controller) xs) (addSnap tick table) .next .delta in SentRight (s .sizes) table delta (acceptedAs tick table a delta)
+  pub sending : (xs ys : List ControllerCall) (tick : ℤ) (table : List ℤ) (a : Added) (w : Counts) → s .calls ≡ xs ++ addSnap tick table ∷ ys
+      → stepAfter s xs (addSnap tick table) .answer ≡ ok (some a) w
+      → SentRight (s .sizes) tick table a (stepAfter s xs (addSnap tick table) .next .delta)
   -- each table that the printer holds is the one accepted at its tick; ticks held and acknowledgement are the logbook's, after each of its calls
   pub printer : (xs ys : List PrinterCall) → s .received ≡ xs ++ ys → PrinterHolds (AcceptedAt (acceptedIn s)) (printerAfter s xs) (logbookAfter xs)
   -- a call acknowledges a tick exactly when it brings the last of its parts still missing, nothing newer came before, and its base is held or negative
-  pub acknowledgements : (xs ys : List PrinterCall) (m : Message) (n : ℕ) → s .received ≡ xs ++ message m n ∷ ys → AcknowledgedWhen (s .sizes) (printerAfter s xs) (messagesIn xs) m n
+  pub acknowledgements : (xs ys : List PrinterCall) (m : Message) (n : ℕ) → s .received ≡ xs ++ message m n ∷ ys
+      → AcknowledgedWhen (s .sizes) (printerAfter s xs) (messagesIn xs) m n
   -- the answers are the logbook's
   pub sameAnswers : answers (s .sizes) (s .printer) (s .received) ≡ noted freshLogbook (messagesIn (s .received))

@@ -37,7 +37,8 @@ callsFine c [] = true
 callsFine c (x ∷ xs) = isFine (controllerCall c x .answer) && callsFine (controllerCall c x .next) xs
 
 -- the printer's call at a place
-message-fine : (sizes : List ℤ) (p : Printer) (xs ys : List PrinterCall) (m : Message) (n : ℕ) → receivedFine sizes p (xs ++ message m n ∷ ys) ≡ true → Suffices (printerCall sizes (afterReceived sizes p xs) m n .answer)
+message-fine : (sizes : List ℤ) (p : Printer) (xs ys : List PrinterCall) (m : Message) (n : ℕ) → receivedFine sizes p (xs ++ message m n ∷ ys) ≡ true
+    → Suffices (printerCall sizes (afterReceived sizes p xs) m n .answer)
 unfolding receivedFine afterReceived
 message-fine sizes p [] ys m n e =
     fine-suffices (printerCall sizes p m n .answer) (both (isFine (printerCall sizes p m n .answer)) _ e .0)
@@ -50,7 +51,8 @@ received-suffices sizes p cs f xs ys m n e =
     message-fine sizes p xs ys m n (subst (λ (l : List PrinterCall). receivedFine sizes p l ≡ true) e f)
 
 -- the call at a place
-call-fine : (c : Controller) (xs ys : List ControllerCall) (x : ControllerCall) → callsFine c (xs ++ x ∷ ys) ≡ true → Suffices (controllerCall (afterCalls c xs) x .answer)
+call-fine : (c : Controller) (xs ys : List ControllerCall) (x : ControllerCall) → callsFine c (xs ++ x ∷ ys) ≡ true
+    → Suffices (controllerCall (afterCalls c xs) x .answer)
 unfolding callsFine afterCalls
 call-fine c [] ys x e =
     fine-suffices (controllerCall c x .answer) (both (isFine (controllerCall c x .answer)) _ e .0)
@@ -58,6 +60,7 @@ call-fine c (y ∷ xs) ys x e =
     call-fine (controllerCall c y .next) xs ys x (both (isFine (controllerCall c y .answer)) _ e .1)
 
 -- none of them is refused so
-pub calls-suffice : (c : Controller) (l : List ControllerCall) → callsFine c l ≡ true → (xs ys : List ControllerCall) (x : ControllerCall) → l ≡ xs ++ x ∷ ys → Suffices (controllerCall (afterCalls c xs) x .answer)
+pub calls-suffice : (c : Controller) (l : List ControllerCall) → callsFine c l ≡ true → (xs ys : List ControllerCall) (x : ControllerCall)
+    → l ≡ xs ++ x ∷ ys → Suffices (controllerCall (afterCalls c xs) x .answer)
 calls-suffice c l f xs ys x e =
     call-fine c xs ys x (subst (λ (z : List ControllerCall). callsFine c z ≡ true) e f)
