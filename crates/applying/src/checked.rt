@@ -1,15 +1,17 @@
 // A delta applied to its base, both in areas of their forms: judged first, then merged in two passes, for keys below 2^31 and the others.
 ghost use mathlib.Core.Path.{_≡_};
+ghost use mathlib.Core.Bool.{true, cond};
 ghost use mathlib.Core.List.{[], _∷_};
+ghost use mathlib.Core.Option.{some, none};
 ghost use Prim.Native.Nat.{_+_, _-_, _*_, _<_, _≤_, _^_};
 ghost use lib.IntN.{pos};
 ghost use lib.ListN.{length, set};
-ghost use Rattle.definitions.specs.Ints.{bits, wrappingAdd};
+ghost use Rattle.definitions.specs.Ints.{bits};
 ghost use Rattle.definitions.specs.Areas.{layAt};
 ghost use Rattle.definitions.specs.Tables.{keyAt, body, written, items};
 ghost use Rattle.definitions.specs.TableCalls.{storedTable};
 ghost use Rattle.definitions.specs.Deltas.{updateKey, updateAt, updates, deltaIn};
-ghost use Rattle.definitions.specs.DeltaMaking.{zipWith};
+ghost use Rattle.definitions.specs.DeltaMaking.{agree, sums};
 ghost use Rattle.definitions.specs.Applying.{applyDelta};
 ghost use Rattle.laws.specs.DeltaShape.{Update, Updates};
 ghost use Rattle.laws.specs.ApplyFound.{item};
@@ -91,18 +93,31 @@ fn put_item(out: &mut [i32], n: usize, m: usize, at: usize, key: i32, values: &[
     ensures { λ _. ⌜ now (out .exit) ≡ wrote n (now (out .entry)) m at (item (bits key) (now (values .entry)) ∷ []) ⌝ }
 {
     put_head(out, n, m, at, key);
-    ints::copy_into(out, at + 1, values);
+    let from = at + 1;
+    let to = from + values.len();
+    ints::copy_into(&mut out[from..to], 0, values);
 }
 
-// The same of the base's data with differences added.
-fn put_sums(out: &mut [i32], n: usize, m: usize, at: usize, key: i32, old: &[i32], more: &[i32])
-    requires { ⌜ (length (now old) ≡ length (now more)) × Room n (length (now out)) m at (item (bits key) (zipWith wrappingAdd (now old) (now more)) ∷ []) ⌝ }
-    ensures { λ _. ⌜ now (out .exit) ≡ wrote n (now (out .entry)) m at (item (bits key) (zipWith wrappingAdd (now (old .entry)) (now (more .entry))) ∷ []) ⌝ }
+// The same of an update: its data is the differences, added to the base's data where there is any.
+fn put_sums(
+    out: &mut [i32],
+    n: usize,
+    m: usize,
+    at: usize,
+    key: i32,
+    has_old: bool,
+    old: &[i32],
+    more: &[i32],
+)
+    requires { ⌜ (agree (cond «has_old» (some (now old)) none) (now more) ≡ true)
+        × Room n (length (now out)) m at (item (bits key) (sums (cond «has_old» (some (now old)) none) (now more)) ∷ []) ⌝ }
+    ensures { λ _. ⌜ now (out .exit)
+        ≡ wrote n (now (out .entry)) m at (item (bits key) (sums (cond «has_old» (some (now (old .entry))) none) (now (more .entry))) ∷ []) ⌝ }
 {
     put_head(out, n, m, at, key);
     let from = at + 1;
-    let to = from + old.len();
-    ints::checked::add_into(&mut out[from..to], 0, old, more);
+    let to = from + more.len();
+    format::apply_item_delta(has_old, old, more, &mut out[from..to]);
 }
 
 // The next item of the base, which comes before all updates: it is copied, unless its key is deleted.
@@ -163,7 +178,7 @@ fn add_update(
     let key = update_key(delta, s.update);
     let old = data_at(base, nb, s.item);
     let more = differences(delta, s.update);
-    put_sums(out, n, s.items, s.at, key, old, more);
+    put_sums(out, n, s.items, s.at, key, true, old, more);
     Merge {
         item: s.item + 1,
         update: next_update(delta, s.update),
@@ -191,7 +206,7 @@ fn put_update(
 {
     let key = update_key(delta, s.update);
     let more = differences(delta, s.update);
-    put_item(out, n, s.items, s.at, key, more);
+    put_sums(out, n, s.items, s.at, key, false, &more[..0], more);
     Merge {
         item: s.item,
         update: next_update(delta, s.update),
