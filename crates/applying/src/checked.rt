@@ -30,16 +30,14 @@ use apply_judging::checked::deleted_near;
 use apply_judging::checked::is_deleted;
 use apply_judging::checked::judge;
 use delta_form::checked::next_update;
-use delta_form::checked::rank;
-use delta_form::checked::update_bits;
 use delta_form::checked::update_data;
 use delta_form::checked::update_key;
 use format::Error;
 use format::Stored;
 use table::checked::data_at;
 use table::checked::key_at;
-use table::checked::place;
 use table::checked::put;
+use table::checked::walk_start;
 
 // What applying comes to: the answer, and whether the base lacks a deleted key.
 pub struct Applied {
@@ -136,9 +134,8 @@ fn pass_item(
     ensures { λ r. ⌜ Turned (now (base .entry)) nb to (now (delta .entry)) deleted n (now (out .entry)) s (now (out .exit)) r ⌝ }
 {
     let key = key_at(base, nb, s.item);
-    let own = ints::to_bits(key) as usize;
-    let hint = deleted_near(delta, deleted, s.hint, rank(own));
-    if is_deleted(delta, deleted, hint, own) {
+    let hint = deleted_near(delta, deleted, s.hint, key);
+    if is_deleted(delta, deleted, hint, key) {
         return Merge {
             item: s.item + 1,
             update: s.update,
@@ -228,9 +225,9 @@ fn next_of(base: &[i32], nb: usize, to: usize, delta: &[i32], s: Merge) -> Next
     if to <= s.item {
         return Next::Update;
     }
-    let own = ints::to_bits(key_at(base, nb, s.item)) as usize;
-    let key = update_bits(delta, s.update);
-    if own < key {
+    let own = key_at(base, nb, s.item);
+    let key = update_key(delta, s.update);
+    if ints::unsigned_less(own, key) {
         return Next::Item;
     }
     if own == key {
@@ -293,7 +290,7 @@ fn low_updates(delta: &[i32], from: usize, updated: usize) -> Low
     let mut p = from;
     let mut left = updated;
     while 0 < left {
-        if update_bits(delta, p) < 2147483648 {
+        if !ints::signed_less(update_key(delta, p), 0) {
             return Low { update: p, left };
         }
         p = next_update(delta, p);
@@ -317,7 +314,7 @@ fn write_table(
         × (n ≤ 1024) × (ints ≤ 16384) × (ints ≤ length (now out)) ⌝ }
     ensures { λ _. ⌜ now (out .exit) ≡ layAt 0 (written (appliedTable (items (now (base .entry))) (deltaIn [] (now (delta .entry))))) (now (out .entry)) ⌝ }
 {
-    let half = place(base, nb, ints::from_bits(2147483648));
+    let half = walk_start(base, nb);
     let low = low_updates(delta, 3 + deleted, updated);
     put(out, 0, 4 * (ints - (2 + n)));
     put(out, 1, n);

@@ -346,12 +346,30 @@ pub fn crc(area: &[i32], n: usize) -> i32
     total
 }
 
-// The place of the i-th of the n items in the order of keys read as signed: those from 2^31 on come first.
+// The place of the first of the n items whose key is negative as signed, by halving. Such keys come last as a table is written, and first as it is walked.
+pub fn walk_start(area: &[i32], n: usize) -> usize
+    requires { ⌜ Held (now area) n ⌝ }
+    ensures { λ r. ⌜ Place (now (area .entry)) (2 ^ 31) r ⌝ }
+{
+    let mut lo = 0;
+    let mut hi = n;
+    while lo < hi {
+        let mid = lo + (hi - lo) / 2;
+        if ints::signed_less(key_at(area, n, mid), 0) {
+            hi = mid;
+        } else {
+            lo = mid + 1;
+        }
+    }
+    lo
+}
+
+// The place of the i-th of the n items in the order of keys read as signed.
 pub fn walk_place(area: &[i32], n: usize, i: usize) -> usize
     requires { ⌜ Held (now area) n × (i < n) ⌝ }
     ensures { λ r. ⌜ (r < n) × (nth (walk (items (now (area .entry)))) i ≡ some (itemAt (now (area .entry)) r)) ⌝ }
 {
-    let at = place(area, n, ints::from_bits(2147483648)) + i;
+    let at = walk_start(area, n) + i;
     if at < n {
         return at;
     }
