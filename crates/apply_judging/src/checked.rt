@@ -7,8 +7,7 @@ ghost use lib.ListN.{length};
 ghost use Rattle.definitions.specs.Ints.{bits};
 ghost use Rattle.definitions.specs.Tables.{items, body, find, isSome};
 ghost use Rattle.definitions.specs.Tables as Tables;
-ghost use Rattle.definitions.specs.Deltas.{updateKey, updateAt, updates, deltaIn};
-ghost use Rattle.definitions.specs.Deltas as Deltas;
+ghost use Rattle.definitions.specs.Deltas.{rank, updateKey, updateAt, updates, deltaIn};
 ghost use Rattle.definitions.specs.DeltaMaking.{agree};
 ghost use Rattle.definitions.specs.DeltaReading.{elem};
 ghost use Rattle.definitions.specs.Applying.{kept};
@@ -20,16 +19,13 @@ ghost use Rattle.delta_form.specs.Held.{HeldDelta};
 ghost use Rattle.delta_reading.specs.Reached.{Reached};
 ghost use Rattle.apply_judging.specs.Judging.{DeletedKeys, deletedOf, judgedOf, Within};
 use delta_form::checked::next_update;
-use delta_form::checked::rank;
-use delta_form::checked::update_bits;
 use delta_form::checked::update_key;
 use delta_form::checked::update_size;
 use delta_making::checked::has_key;
 use delta_making::checked::next_place;
 use delta_reading::checked::deleted_from;
-use delta_reading::checked::has_rank;
+use delta_reading::checked::has_deleted;
 use format::Error;
-use table::checked::bits_at;
 use table::checked::data_at;
 use table::checked::key_at;
 use table::checked::nat_at;
@@ -89,26 +85,26 @@ fn place_near(area: &[i32], n: usize, before: usize, key: i32) -> usize
     place_from(area, n, before, key)
 }
 
-// The place of the first deleted key of a rank or above, looked for from a hint on, or else from the start.
-pub fn deleted_near(delta: &[i32], deleted: usize, hint: usize, low: usize) -> usize
+// The place of the first deleted key that is not below a key as signed, looked for from a hint on, or else from the start.
+pub fn deleted_near(delta: &[i32], deleted: usize, hint: usize, key: i32) -> usize
     requires { ⌜ DeletedKeys (now delta) deleted × (hint ≤ deleted) ⌝ }
-    ensures { λ r. ⌜ Reached (now (delta .entry)) deleted r low ⌝ }
+    ensures { λ r. ⌜ Reached (now (delta .entry)) deleted r (rank (bits key)) ⌝ }
 {
     if hint == 0 {
-        return deleted_from(delta, deleted, 0, low);
+        return deleted_from(delta, deleted, 0, key);
     }
-    if rank(bits_at(delta, 2 + hint)) < low {
-        return deleted_from(delta, deleted, hint, low);
+    if ints::signed_less(delta[2 + hint], key) {
+        return deleted_from(delta, deleted, hint, key);
     }
-    deleted_from(delta, deleted, 0, low)
+    deleted_from(delta, deleted, 0, key)
 }
 
-// Whether a key, given by its bits, is deleted: its rank's place is known.
-pub fn is_deleted(delta: &[i32], deleted: usize, place: usize, key: usize) -> bool
-    requires { ⌜ DeletedKeys (now delta) deleted × (key < 2 ^ 32) × Reached (now delta) deleted place (Deltas.rank key) ⌝ }
-    ensures { λ r. ⌜ r ≡ elem key (deletedOf (now (delta .entry)) deleted) ⌝ }
+// Whether a key is deleted: the place of the first deleted key that is not below it is known.
+pub fn is_deleted(delta: &[i32], deleted: usize, place: usize, key: i32) -> bool
+    requires { ⌜ DeletedKeys (now delta) deleted × Reached (now delta) deleted place (rank (bits key)) ⌝ }
+    ensures { λ r. ⌜ r ≡ elem (bits key) (deletedOf (now (delta .entry)) deleted) ⌝ }
 {
-    has_rank(delta, deleted, place, rank(key))
+    has_deleted(delta, deleted, place, key)
 }
 
 // Whether the update at a place is as long as the base's data, where there is any: its key's place there is b.
@@ -133,13 +129,14 @@ fn is_kept(
     p: usize,
 ) -> bool
     requires { ⌜ Held (now base) nb × DeletedKeys (now delta) deleted × Update [] (now delta) p × Place (now base) (updateKey (now delta) p) b
-        × Reached (now delta) deleted g (Deltas.rank (updateKey (now delta) p)) ⌝ }
+        × Reached (now delta) deleted g (rank (updateKey (now delta) p)) ⌝ }
     ensures { λ r. ⌜ r ≡ isSome (keptOf (deletedOf (now (delta .entry)) deleted) (items (now (base .entry))) (updateKey (now (delta .entry)) p)) ⌝ }
 {
-    if is_deleted(delta, deleted, g, update_bits(delta, p)) {
+    let key = update_key(delta, p);
+    if is_deleted(delta, deleted, g, key) {
         return false;
     }
-    has_key(base, nb, b, update_key(delta, p))
+    has_key(base, nb, b, key)
 }
 
 // So many items and ints, where the lengths agree.
@@ -181,7 +178,7 @@ fn judge_update(
     ints: usize,
 ) -> Judged
     requires { ⌜ Held (now base) nb × DeletedKeys (now delta) deleted × Update [] (now delta) p × Place (now base) (updateKey (now delta) p) b
-        × Reached (now delta) deleted g (Deltas.rank (updateKey (now delta) p)) × (items ≤ 1024) × (ints ≤ 16384) ⌝ }
+        × Reached (now delta) deleted g (rank (updateKey (now delta) p)) × (items ≤ 1024) × (ints ≤ 16384) ⌝ }
     ensures { λ r. ⌜ (judgedOf r ≡ judgeUpdate (deletedOf (now (delta .entry)) deleted) (Tables.items (now (base .entry))) (updateAt [] (now (delta .entry)) p) items ints) × Within r ⌝ }
 {
     let same = is_as_long(base, nb, b, delta, p);
@@ -210,8 +207,9 @@ fn judge_updates(
     let mut b = 0;
     let mut g = 0;
     while 0 < left {
-        b = place_near(base, nb, b, update_key(delta, p));
-        g = deleted_near(delta, deleted, g, rank(update_bits(delta, p)));
+        let key = update_key(delta, p);
+        b = place_near(base, nb, b, key);
+        g = deleted_near(delta, deleted, g, key);
         let one = judge_update(base, nb, b, delta, deleted, g, p, so_far.items, so_far.ints);
         let Judged::Fine {
             items: more,
@@ -244,8 +242,8 @@ fn count_kept(base: &[i32], nb: usize, delta: &[i32], deleted: usize) -> Sizes
     let mut n: usize = 0;
     let mut w: usize = 0;
     while i < nb {
-        let key = ints::to_bits(key_at(base, nb, i)) as usize;
-        g = deleted_near(delta, deleted, g, rank(key));
+        let key = key_at(base, nb, i);
+        g = deleted_near(delta, deleted, g, key);
         if is_deleted(delta, deleted, g, key) {
             i += 1;
             continue;

@@ -1,15 +1,17 @@
 // A delta applied to its base, both in areas of their forms: judged first, then merged in two passes, for keys below 2^31 and the others.
 ghost use mathlib.Core.Path.{_≡_};
+ghost use mathlib.Core.Bool.{true, cond};
 ghost use mathlib.Core.List.{[], _∷_};
+ghost use mathlib.Core.Option.{some, none};
 ghost use Prim.Native.Nat.{_+_, _-_, _*_, _<_, _≤_, _^_};
 ghost use lib.IntN.{pos};
 ghost use lib.ListN.{length, set};
-ghost use Rattle.definitions.specs.Ints.{bits, wrappingAdd};
+ghost use Rattle.definitions.specs.Ints.{bits};
 ghost use Rattle.definitions.specs.Areas.{layAt};
 ghost use Rattle.definitions.specs.Tables.{keyAt, body, written, items};
 ghost use Rattle.definitions.specs.TableCalls.{storedTable};
 ghost use Rattle.definitions.specs.Deltas.{updateKey, updateAt, updates, deltaIn};
-ghost use Rattle.definitions.specs.DeltaMaking.{zipWith};
+ghost use Rattle.definitions.specs.DeltaMaking.{agree, sums};
 ghost use Rattle.definitions.specs.Applying.{applyDelta};
 ghost use Rattle.laws.specs.DeltaShape.{Update, Updates};
 ghost use Rattle.laws.specs.ApplyFound.{item};
@@ -28,16 +30,14 @@ use apply_judging::checked::deleted_near;
 use apply_judging::checked::is_deleted;
 use apply_judging::checked::judge;
 use delta_form::checked::next_update;
-use delta_form::checked::rank;
-use delta_form::checked::update_bits;
 use delta_form::checked::update_data;
 use delta_form::checked::update_key;
 use format::Error;
 use format::Stored;
 use table::checked::data_at;
 use table::checked::key_at;
-use table::checked::place;
 use table::checked::put;
+use table::checked::walk_start;
 
 // What applying comes to: the answer, and whether the base lacks a deleted key.
 pub struct Applied {
@@ -91,18 +91,31 @@ fn put_item(out: &mut [i32], n: usize, m: usize, at: usize, key: i32, values: &[
     ensures { λ _. ⌜ now (out .exit) ≡ wrote n (now (out .entry)) m at (item (bits key) (now (values .entry)) ∷ []) ⌝ }
 {
     put_head(out, n, m, at, key);
-    ints::copy_into(out, at + 1, values);
+    let from = at + 1;
+    let to = from + values.len();
+    ints::copy_into(&mut out[from..to], 0, values);
 }
 
-// The same of the base's data with differences added.
-fn put_sums(out: &mut [i32], n: usize, m: usize, at: usize, key: i32, old: &[i32], more: &[i32])
-    requires { ⌜ (length (now old) ≡ length (now more)) × Room n (length (now out)) m at (item (bits key) (zipWith wrappingAdd (now old) (now more)) ∷ []) ⌝ }
-    ensures { λ _. ⌜ now (out .exit) ≡ wrote n (now (out .entry)) m at (item (bits key) (zipWith wrappingAdd (now (old .entry)) (now (more .entry))) ∷ []) ⌝ }
+// The same of an update: its data is the differences, added to the base's data where there is any.
+fn put_sums(
+    out: &mut [i32],
+    n: usize,
+    m: usize,
+    at: usize,
+    key: i32,
+    has_old: bool,
+    old: &[i32],
+    more: &[i32],
+)
+    requires { ⌜ (agree (cond «has_old» (some (now old)) none) (now more) ≡ true)
+        × Room n (length (now out)) m at (item (bits key) (sums (cond «has_old» (some (now old)) none) (now more)) ∷ []) ⌝ }
+    ensures { λ _. ⌜ now (out .exit)
+        ≡ wrote n (now (out .entry)) m at (item (bits key) (sums (cond «has_old» (some (now (old .entry))) none) (now (more .entry))) ∷ []) ⌝ }
 {
     put_head(out, n, m, at, key);
     let from = at + 1;
-    let to = from + old.len();
-    ints::checked::add_into(&mut out[from..to], 0, old, more);
+    let to = from + more.len();
+    format::apply_item_delta(has_old, old, more, &mut out[from..to]);
 }
 
 // The next item of the base, which comes before all updates: it is copied, unless its key is deleted.
@@ -121,9 +134,8 @@ fn pass_item(
     ensures { λ r. ⌜ Turned (now (base .entry)) nb to (now (delta .entry)) deleted n (now (out .entry)) s (now (out .exit)) r ⌝ }
 {
     let key = key_at(base, nb, s.item);
-    let own = ints::to_bits(key) as usize;
-    let hint = deleted_near(delta, deleted, s.hint, rank(own));
-    if is_deleted(delta, deleted, hint, own) {
+    let hint = deleted_near(delta, deleted, s.hint, key);
+    if is_deleted(delta, deleted, hint, key) {
         return Merge {
             item: s.item + 1,
             update: s.update,
@@ -163,7 +175,7 @@ fn add_update(
     let key = update_key(delta, s.update);
     let old = data_at(base, nb, s.item);
     let more = differences(delta, s.update);
-    put_sums(out, n, s.items, s.at, key, old, more);
+    put_sums(out, n, s.items, s.at, key, true, old, more);
     Merge {
         item: s.item + 1,
         update: next_update(delta, s.update),
@@ -191,7 +203,7 @@ fn put_update(
 {
     let key = update_key(delta, s.update);
     let more = differences(delta, s.update);
-    put_item(out, n, s.items, s.at, key, more);
+    put_sums(out, n, s.items, s.at, key, false, &more[..0], more);
     Merge {
         item: s.item,
         update: next_update(delta, s.update),
@@ -213,9 +225,9 @@ fn next_of(base: &[i32], nb: usize, to: usize, delta: &[i32], s: Merge) -> Next
     if to <= s.item {
         return Next::Update;
     }
-    let own = ints::to_bits(key_at(base, nb, s.item)) as usize;
-    let key = update_bits(delta, s.update);
-    if own < key {
+    let own = key_at(base, nb, s.item);
+    let key = update_key(delta, s.update);
+    if ints::unsigned_less(own, key) {
         return Next::Item;
     }
     if own == key {
@@ -278,7 +290,7 @@ fn low_updates(delta: &[i32], from: usize, updated: usize) -> Low
     let mut p = from;
     let mut left = updated;
     while 0 < left {
-        if update_bits(delta, p) < 2147483648 {
+        if !ints::signed_less(update_key(delta, p), 0) {
             return Low { update: p, left };
         }
         p = next_update(delta, p);
@@ -302,7 +314,7 @@ fn write_table(
         × (n ≤ 1024) × (ints ≤ 16384) × (ints ≤ length (now out)) ⌝ }
     ensures { λ _. ⌜ now (out .exit) ≡ layAt 0 (written (appliedTable (items (now (base .entry))) (deltaIn [] (now (delta .entry))))) (now (out .entry)) ⌝ }
 {
-    let half = place(base, nb, ints::from_bits(2147483648));
+    let half = walk_start(base, nb);
     let low = low_updates(delta, 3 + deleted, updated);
     put(out, 0, 4 * (ints - (2 + n)));
     put(out, 1, n);

@@ -97,7 +97,7 @@ pub fn update_data<'a>(area: &'a [i32], sizes: &[i32], p: usize) -> &'a [i32]
 }
 
 // The bits of the key of the update at a place.
-pub fn update_bits(area: &[i32], p: usize) -> usize
+fn update_bits(area: &[i32], p: usize) -> usize
     requires { ⌜ (p + 2 ≤ length (now area)) × (nat (now area) p < 65536) × (nat (now area) (p + 1) < 65536) ⌝ }
     ensures { λ r. ⌜ (r ≡ updateKey (now (area .entry)) p) × (r < 2 ^ 32) ⌝ }
 {
@@ -125,14 +125,17 @@ pub fn deleted_fit(area: &[i32], n: usize) -> bool
     requires { ⌜ 3 + n ≤ length (now area) ⌝ }
     ensures { λ r. ⌜ r ≡ all (deletedFits (now (area .entry))) n ⌝ }
 {
-    let mut i: usize = 0;
-    let mut low: usize = 0;
+    if n == 0 {
+        return true;
+    }
+    let mut last = area[3];
+    let mut i: usize = 1;
     while i < n {
-        let here = rank(bits_at(area, 3 + i));
-        if here < low {
+        let next = area[3 + i];
+        if !ints::signed_less(last, next) {
             return false;
         }
-        low = here + 1;
+        last = next;
         i += 1;
     }
     true
@@ -166,28 +169,49 @@ pub fn update_fits(area: &[i32], sizes: &[i32], p: usize) -> usize
     from + size
 }
 
-// Whether n updates lie one behind the other from a place on, with keys that rise as signed.
-pub fn updates_fit(area: &[i32], sizes: &[i32], start: usize, n: usize) -> UpdatesForm
+// Whether n updates lie one behind the other from a place on, with keys that rise as signed, all above the key of the update before.
+fn updates_fit_above(
+    area: &[i32],
+    sizes: &[i32],
+    start: usize,
+    n: usize,
+    before: i32,
+) -> UpdatesForm
     requires { ⌜ start ≤ length (now area) ⌝ }
-    ensures { λ r. ⌜ r ≡ updatesFormOf (now (sizes .entry)) (now (area .entry)) start 0 n ⌝ }
+    ensures { λ r. ⌜ r ≡ updatesFormOf (now (sizes .entry)) (now (area .entry)) start (Deltas.rank (bits before) + 1) n ⌝ }
 {
     let mut p = start;
-    let mut low: usize = 0;
+    let mut last = before;
     let mut left = n;
     while 0 < left {
         let end = update_fits(area, sizes, p);
         if end == 0 {
             return UpdatesForm::Bad;
         }
-        let own = rank(update_bits(area, p));
-        if own < low {
+        let key = update_key(area, p);
+        if !ints::signed_less(last, key) {
             return UpdatesForm::Bad;
         }
-        low = own + 1;
+        last = key;
         p = end;
         left -= 1;
     }
     UpdatesForm::End(p)
+}
+
+// Whether n updates lie one behind the other from a place on, with keys that rise as signed.
+pub fn updates_fit(area: &[i32], sizes: &[i32], start: usize, n: usize) -> UpdatesForm
+    requires { ⌜ start ≤ length (now area) ⌝ }
+    ensures { λ r. ⌜ r ≡ updatesFormOf (now (sizes .entry)) (now (area .entry)) start 0 n ⌝ }
+{
+    if n == 0 {
+        return UpdatesForm::End(start);
+    }
+    let end = update_fits(area, sizes, start);
+    if end == 0 {
+        return UpdatesForm::Bad;
+    }
+    updates_fit_above(area, sizes, end, n - 1, update_key(area, start))
 }
 
 // The form of some ints.

@@ -216,9 +216,8 @@ pub fn write_delta(
         × (length (writtenDelta (deltaFrom (items (now base)) (items (now target)))) ≤ length (now out)) ⌝ }
     ensures { λ _. ⌜ now (out .exit) ≡ layAt 0 (writtenDelta (deltaFrom (items (now (base .entry))) (items (now (target .entry))))) (now (out .entry)) ⌝ }
 {
-    let least = ints::from_bits(2147483648);
-    let b = table::checked::place(base, nb, least);
-    let t = table::checked::place(target, nt, least);
+    let b = table::checked::walk_start(base, nb);
+    let t = table::checked::walk_start(target, nt);
     put_counts(out, 0, deleted, nt, 0);
     let w1 = write_deleted(base, nb, b, nb, target, nt, out, 3);
     let w2 = write_deleted(base, nb, 0, b, target, nt, out, w1);

@@ -61,9 +61,10 @@ module _ (sizes a : List ℤ) (k u : ℕ) where
     next-update l = update sizes a p (c .low) (first-fits n (c .fit) l .0) .0
 
     -- the keys passed are below it
-    pub passed : (here : ℕ) → 0 < n → here ≡ rank (updateKey a p) → Under a i here
-    passed here l e =
+    pub passed : (key : ℕ) → 0 < n → key ≡ updateKey a p → Under a i (rank key)
+    passed key l e =
         let d = update sizes a p (c .low) (first-fits n (c .fit) l .0) .1 in
+        let r = ap rank e in
         record { below = λ j m. let b = c .under .below j m in omega arith }
 
     first-counted : (m : ℕ) → 0 < m → counted p m ≡ plus (cond (elem (updateKey a p) (list (deletedAt a) k)) (one DeleteUpdate) Warnings.none) (counted (updateEnd sizes a p) (m - 1))
@@ -71,11 +72,12 @@ module _ (sizes a : List ℤ) (k u : ℕ) where
     first-counted zero l = absurd (omega arith)
     first-counted (suc m) l = let d : suc m - 1 ≡ m = omega arith in rw d
 
-    pub one-counted : (here j end r : ℕ) (b : Bool) → 0 < n → ((q : ℕ) → q < k → DeletedKey a q) → here ≡ rank (updateKey a p) → Reached a k j here → b ≡ (ltb j k && eqb (rank (deletedAt a j)) here) → r ≡ cond b 1 0 → end ≡ updateEnd sizes a p → Counting (total + r) j end (n - 1)
-    one-counted here j end r b l keys e f g d q =
+    pub one-counted : (key j end r : ℕ) (b : Bool) → 0 < n → ((q : ℕ) → q < k → DeletedKey a q) → key ≡ updateKey a p → Reached a k j (rank key) → b ≡ (ltb j k && eqb (deletedAt a j) key) → r ≡ cond b 1 0 → end ≡ updateEnd sizes a p → Counting (total + r) j end (n - 1)
+    one-counted key j end r b l keys e f g d q =
         let x = updateKey a p in
         let un = f .under in
-        let is : elem x (list (deletedAt a) k) ≡ b = elem-reached a k keys j x (key-below sizes a p (next-update l)) (rw (← e) f) ∙ sym (g ∙ ap (λ (h : ℕ). ltb j k && eqb (rank (deletedAt a j)) h) e) in
+        let rk = ap rank e in
+        let is : elem x (list (deletedAt a) k) ≡ b = elem-reached a k keys j x (key-below sizes a p (next-update l)) (rw (← e) f) ∙ sym (g ∙ ap (λ (h : ℕ). ltb j k && eqb (deletedAt a j) h) e) in
         let rest = counted (updateEnd sizes a p) (n - 1) in
         let more : plus (deletedCounts (total + r)) rest ≡ plus (deletedCounts total) (counted p n) =
         ap (λ (w : Counts). plus w rest) (ap (λ (m : ℕ). deletedCounts (total + m)) d ∙ sym (one-more total b))

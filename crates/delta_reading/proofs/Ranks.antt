@@ -24,9 +24,9 @@ module _ (a : List ℤ) where
             (below j i);
       }
 
-  module _ (k i here : ℕ) where
-    pub rank-tested : (r : ℕ) → i < k → r ≡ rank (deletedAt a i) → eqb r here ≡ (ltb i k && eqb (rank (deletedAt a i)) here)
-    rank-tested r l e = rw (lt-ltb i k l, e)
+  module _ (k i key : ℕ) where
+    pub deleted-tested : (d : ℕ) → i < k → d ≡ deletedAt a i → eqb d key ≡ (ltb i k && eqb (deletedAt a i) key)
+    deleted-tested d l e = rw (lt-ltb i k l, e)
 
-    pub rank-untested : k ≤ i → false ≡ (ltb i k && eqb (rank (deletedAt a i)) here)
-    rank-untested l = rw (le-ltb i k l)
+    pub deleted-untested : k ≤ i → false ≡ (ltb i k && eqb (deletedAt a i) key)
+    deleted-untested l = rw (le-ltb i k l)

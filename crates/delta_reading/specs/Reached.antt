@@ -26,21 +26,23 @@ pub record Reached (a : List ℤ) (k i low : ℕ) : Type 0 where
   pub here : i < k → low ≤ rank (deletedAt a i)
 
 module _ (a : List ℤ) (k : ℕ) (keys : (i : ℕ) → i < k → DeletedKey a i) where
-  -- a key is deleted where the first deleted key of its rank or above is of its rank
-  pub elem-reached : (i key : ℕ) → key < 2 ^ 32 → Reached a k i (rank key) → elem key (list (deletedAt a) k) ≡ (ltb i k && eqb (rank (deletedAt a i)) (rank key))
+  -- a key is deleted where the first deleted key of its rank or above is the key
+  pub elem-reached : (i key : ℕ) → key < 2 ^ 32 → Reached a k i (rank key) → elem key (list (deletedAt a) k) ≡ (ltb i k && eqb (deletedAt a i) key)
   elem-reached i key w r =
       ⊎-elim
-      (λ (l : i < k). rw (lt-ltb i k l) (at-it l (eqb (rank (deletedAt a i)) (rank key)) refl))
+      (λ (l : i < k). rw (lt-ltb i k l) (at-it l (eqb (deletedAt a i) key) refl))
       (λ (l : k ≤ i).
       rw (le-ltb i k l)
       (not-listed (deletedAt a) key k (λ j m e. let n = r .under .below j (omega arith) in let q = ap rank e in omega arith)))
       (below i k)
     where
-      at-it : i < k → (b : Bool) → eqb (rank (deletedAt a i)) (rank key) ≡ b → elem key (list (deletedAt a) k) ≡ b
-      at-it l true e = is-listed (deletedAt a) key k i l (sym (rank-same (deletedAt a i) key (deleted-below a k keys i l) w (eqb-true (rank (deletedAt a i)) (rank key) e)))
+      at-it : i < k → (b : Bool) → eqb (deletedAt a i) key ≡ b → elem key (list (deletedAt a) k) ≡ b
+      at-it l true e = is-listed (deletedAt a) key k i l (sym (eqb-true (deletedAt a i) key e))
       at-it l false e = not-listed (deletedAt a) key k (λ j m q.
           let d = ap rank q in
           ⊎-elim
           (λ (t : j < i). let n = r .under .below j t in omega arith)
-          (λ (t : i ≤ j). eqb-false (rank (deletedAt a i)) (rank key) e (omega (arith, r .here l, ranks-rise a k keys i j t m)))
+          (λ (t : i ≤ j).
+          eqb-false (deletedAt a i) key e
+          (rank-same (deletedAt a i) key (deleted-below a k keys i l) w (omega (arith, r .here l, ranks-rise a k keys i j t m))))
           (below j i))

@@ -6,10 +6,11 @@ ghost use Prim.Native.Nat.{_+_, _≤_};
 ghost use lib.Dec.{ltb, eqb};
 ghost use lib.IntN.{pos};
 ghost use lib.ListN.{length};
+ghost use Rattle.definitions.specs.Ints.{bits};
 ghost use Rattle.definitions.specs.Areas.{layAt};
 ghost use Rattle.definitions.specs.Outcome.{return};
 ghost use Rattle.definitions.specs.Stored.{stored};
-ghost use Rattle.definitions.specs.Deltas.{deletedAt, sizeAt, updateInts, updatesInts, writtenDelta, updateAt, updates, deltaIn};
+ghost use Rattle.definitions.specs.Deltas.{rank, deletedAt, sizeAt, updateInts, updatesInts, writtenDelta, updateAt, updates, deltaIn};
 ghost use Rattle.definitions.specs.Deltas as Deltas;
 ghost use Rattle.laws.specs.DeltaShape.{updatesEnd, Update, Updates};
 ghost use Rattle.laws.specs.DeltaReadBack.{deleteUpdates};
@@ -20,14 +21,12 @@ ghost use Rattle.delta_reading.specs.Reached.{Under, Reached};
 use delta_form::checked::DeltaForm;
 use delta_form::checked::form;
 use delta_form::checked::known_size;
-use delta_form::checked::rank;
 use delta_form::checked::size_at;
-use delta_form::checked::update_bits;
 use delta_form::checked::update_data;
 use delta_form::checked::update_end;
+use delta_form::checked::update_key;
 use format::Error;
 use format::Stored;
-use table::checked::bits_at;
 use table::checked::nat_at;
 
 // What reading ints that rise already comes to: the answer, and how many updates are of deleted keys; or that they are not such ints.
@@ -151,14 +150,14 @@ fn write_whole(
     write_area(src, sizes, deleted, updated, out)
 }
 
-// The place of the first deleted key of a rank or above, from a place on before which all are below it.
-pub fn deleted_from(src: &[i32], deleted: usize, start: usize, low: usize) -> usize
-    requires { ⌜ (3 + deleted ≤ length (now src)) × (start ≤ deleted) × Under (now src) start low ⌝ }
-    ensures { λ r. ⌜ Reached (now (src .entry)) deleted r low ⌝ }
+// The place of the first deleted key that is not below a key as signed, from a place on before which all are below it.
+pub fn deleted_from(src: &[i32], deleted: usize, start: usize, key: i32) -> usize
+    requires { ⌜ (3 + deleted ≤ length (now src)) × (start ≤ deleted) × Under (now src) start (rank (bits key)) ⌝ }
+    ensures { λ r. ⌜ Reached (now (src .entry)) deleted r (rank (bits key)) ⌝ }
 {
     let mut i = start;
     while i < deleted {
-        if low <= rank(bits_at(src, 3 + i)) {
+        if !ints::signed_less(src[3 + i], key) {
             return i;
         }
         i += 1;
@@ -166,13 +165,13 @@ pub fn deleted_from(src: &[i32], deleted: usize, start: usize, low: usize) -> us
     i
 }
 
-// Whether there is an i-th deleted key, and it is of a rank.
-pub fn has_rank(src: &[i32], deleted: usize, i: usize, here: usize) -> bool
+// Whether there is an i-th deleted key, and it is a given one.
+pub fn has_deleted(src: &[i32], deleted: usize, i: usize, key: i32) -> bool
     requires { ⌜ 3 + deleted ≤ length (now src) ⌝ }
-    ensures { λ r. ⌜ r ≡ (ltb i deleted && eqb (Deltas.rank (deletedAt (now (src .entry)) i)) here) ⌝ }
+    ensures { λ r. ⌜ r ≡ (ltb i deleted && eqb (deletedAt (now (src .entry)) i) (bits key)) ⌝ }
 {
     if i < deleted {
-        return rank(bits_at(src, 3 + i)) == here;
+        return src[3 + i] == key;
     }
     false
 }
@@ -187,9 +186,9 @@ pub fn count_delete_updates(src: &[i32], sizes: &[i32], deleted: usize, updated:
     let mut p = 3 + deleted;
     let mut left = updated;
     while 0 < left {
-        let here = rank(update_bits(src, p));
-        i = deleted_from(src, deleted, i, here);
-        total += ints::one_if(has_rank(src, deleted, i, here));
+        let key = update_key(src, p);
+        i = deleted_from(src, deleted, i, key);
+        total += ints::one_if(has_deleted(src, deleted, i, key));
         p = update_end(src, sizes, p);
         left -= 1;
     }

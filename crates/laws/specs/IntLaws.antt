@@ -5,7 +5,7 @@ use mathlib.Core.Bool.{Bool, true, false}
 use Prim.Native.Nat.{ℕ, suc, _+_, _-_, _%_, _^_, _<_, _≤_}
 use native.Mathlib.Nat.{add-assoc}
 use native.Mathlib.Omega.{arith}
-use borrow.Author.Tests.{lt-ltb, le-ltb}
+use borrow.Author.Tests.{lt-ltb, le-ltb, ltb-true, ltb-false}
 use lib.Dec.{ltb}
 use lib.IntN.{ℤ, pos, negsuc}
 use lib.Signed.{ltZ, mag}
@@ -13,6 +13,7 @@ use mir.Syntax.{w32}
 use mir.Val.{Fits, SFits}
 use mir.Facts.{toZ-ofZ, ofZ-toZ, fits-ofZ, sfits-toZ, sfits-lit}
 use Rattle.definitions.specs.Ints.{bits, fromBits, wrappingAdd, wrappingSub, signedLess, sum}
+use Rattle.definitions.specs.Deltas.{rank}
 use Rattle.laws.specs.Tests.{ltb-same}
 
 -- the bits are below 2 ^ 32
@@ -150,3 +151,23 @@ signedLess-turned (negsuc a) (negsuc b) f g =
     ltb-same b a (turned (2 ^ 32 - suc a)) (turned (2 ^ 32 - suc b))
     (λ h. omega (arith, f .sfits, g .sfits))
     (λ h. omega (arith, f .sfits, g .sfits))
+
+-- so it is the order of their ranks
+module _ (a b : ℤ) (f : SFits w32 a) (g : SFits w32 b) where
+  pub less-ranks : signedLess a b ≡ true → rank (bits a) < rank (bits b)
+  unfolding rank
+  less-ranks e = ltb-true (turned (bits a)) (turned (bits b)) (sym (signedLess-turned a b f g) ∙ e)
+
+  pub not-less-ranks : signedLess a b ≡ false → rank (bits b) ≤ rank (bits a)
+  unfolding rank
+  not-less-ranks e = ltb-false (turned (bits a)) (turned (bits b)) (sym (signedLess-turned a b f g) ∙ e)
+
+-- and the negative ints are those whose bits are from 2^31 on: in unsigned order they come last, in signed order first
+module _ (a : ℤ) (f : SFits w32 a) where
+  pub negative-high : signedLess a (pos 0) ≡ true → 2 ^ 31 ≤ bits a
+  unfolding rank
+  negative-high e = omega (arith, less-ranks a (pos 0) f (sfits-lit tt) e, bits-zero, bits-lt f)
+
+  pub not-negative-low : signedLess a (pos 0) ≡ false → bits a < 2 ^ 31
+  unfolding rank
+  not-negative-low e = omega (arith, not-less-ranks a (pos 0) f (sfits-lit tt) e, bits-zero, bits-lt f)

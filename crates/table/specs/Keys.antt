@@ -1,11 +1,10 @@
--- The keys of an area's items, as ints and judged one behind the other. Assumes nothing.
+-- The keys of an area's items, judged one behind the other. Assumes nothing.
 use mathlib.Core.Path.{_≡_}
 use mathlib.Core.Bool.{true, cond}
-use mathlib.Core.List.{List, [], _∷_}
+use mathlib.Core.List.{List}
 use Prim.Native.Nat.{ℕ, _-_, _<_, _^_}
 use lib.IntN.{ℤ}
-use Rattle.definitions.specs.Ints.{fromBits}
-use Rattle.definitions.specs.Tables.{Table, all, ends, fits, keyAt}
+use Rattle.definitions.specs.Tables.{all, ends, fits, keyAt}
 use Rattle.table.specs.Held.{Head}
 
 -- the key of the last of the first i items, or 2 ^ 32 where one of them does not fit
@@ -19,8 +18,3 @@ pub record Rising (a : List ℤ) (n s i last : ℕ) : Type 0 where
   pub some : 0 < i
   pub fit : all (fits a) i ≡ true
   pub last-is : last ≡ keyAt a (i - 1)
-
--- the keys of a table's items, as ints
-unfoldable pub keyInts : Table → List ℤ
-keyInts [] = []
-keyInts (x ∷ t) = fromBits (x .key) ∷ keyInts t

@@ -6,14 +6,14 @@ ghost use Prim.Native.Nat.{ℕ, _+_, _-_, _/_, _<_, _≤_, _^_};
 ghost use lib.IntN.{pos};
 ghost use lib.ListN.{length, getD, take, drop, set};
 ghost use lib.Signed.{mag};
-ghost use Rattle.definitions.specs.Ints.{bits, sum};
+ghost use Rattle.definitions.specs.Ints.{bits};
 ghost use Rattle.definitions.specs.Tables.{tableOf, items, all, ends, fits, count, start, keyAt, valuesAt, itemAt, walk, nat};
 ghost use Rattle.definitions.specs.Tables as Tables;
 ghost use Rattle.definitions.specs.TableCalls.{nth};
 ghost use Rattle.laws.specs.TableFind.{Place};
 ghost use Rattle.table.specs.Held.{Head, Held, formOf, dataIn};
 ghost use Rattle.table.specs.Offsets.{behindAt, joined, tally};
-ghost use Rattle.table.specs.Keys.{Rising, lastKey, keyInts};
+ghost use Rattle.table.specs.Keys.{Rising, lastKey};
 
 // Whether an area begins with a written table: how many items it has, and how many ints it takes.
 pub enum TableForm {
@@ -328,37 +328,48 @@ pub fn find(area: &[i32], n: usize, key: i32) -> usize
     n
 }
 
-// The sum of the keys of the n items.
-fn key_sum(area: &[i32], n: usize) -> i32
+// The sum of the data ints of the n items. Each item's data goes to the sum as a part of the area; where one item ends, the next begins.
+pub fn crc(area: &[i32], n: usize) -> i32
     requires { ⌜ Held (now area) n ⌝ }
-    ensures { λ r. ⌜ r ≡ sum (keyInts (items (now (area .entry)))) ⌝ }
+    ensures { λ r. ⌜ r ≡ Tables.crc (items (now (area .entry))) ⌝ }
 {
     let mut total: i32 = 0;
+    let mut at = 2 + n;
     let mut i: usize = 0;
     while i < n {
-        total = ints::wrapping_add(total, key_at(area, n, i));
+        let from = at + 1;
+        let to = start_at(area, n, i + 1);
+        total = ints::wrapping_add(total, ints::sum(&area[from..to]));
+        at = to;
         i += 1;
     }
     total
 }
 
-// The sum of the data ints of the n items: that of keys and data, less that of the keys.
-pub fn crc(area: &[i32], n: usize) -> i32
+// The place of the first of the n items whose key is negative as signed, by halving. Such keys come last as a table is written, and first as it is walked.
+pub fn walk_start(area: &[i32], n: usize) -> usize
     requires { ⌜ Held (now area) n ⌝ }
-    ensures { λ r. ⌜ r ≡ Tables.crc (items (now (area .entry))) ⌝ }
+    ensures { λ r. ⌜ Place (now (area .entry)) (2 ^ 31) r ⌝ }
 {
-    let from = 2 + n;
-    let to = start_at(area, n, n);
-    let all = ints::sum(&area[from..to]);
-    ints::wrapping_sub(all, key_sum(area, n))
+    let mut lo = 0;
+    let mut hi = n;
+    while lo < hi {
+        let mid = lo + (hi - lo) / 2;
+        if ints::signed_less(key_at(area, n, mid), 0) {
+            hi = mid;
+        } else {
+            lo = mid + 1;
+        }
+    }
+    lo
 }
 
-// The place of the i-th of the n items in the order of keys read as signed: those from 2^31 on come first.
+// The place of the i-th of the n items in the order of keys read as signed.
 pub fn walk_place(area: &[i32], n: usize, i: usize) -> usize
     requires { ⌜ Held (now area) n × (i < n) ⌝ }
     ensures { λ r. ⌜ (r < n) × (nth (walk (items (now (area .entry)))) i ≡ some (itemAt (now (area .entry)) r)) ⌝ }
 {
-    let at = place(area, n, ints::from_bits(2147483648)) + i;
+    let at = walk_start(area, n) + i;
     if at < n {
         return at;
     }

@@ -16,48 +16,41 @@ use Rattle.apply_judging.proofs.Places.{gone-kept, still-kept}
 use Rattle.apply_judging.proofs.checked.is_kept.Statement.{statement}
 use Rattle.apply_judging.proofs.checked.is_kept.Tie as tie
 
--- whether the update's key is deleted
+-- the update's key as it is passed on
+key-is : (c : tie.After-update-key) → let s = c .before in bits (toZ w32 (ofZ w32 (c .update-key .result))) ≡ updateKey (now (s .args .delta)) (s .args .p)
+key-is c = ap bits (toZ-ofZ (record { sfits = c .update-key .ok })) ∙ c .update-key .ensures
+
+-- whether it is deleted
 said : (c : tie.After-is-deleted) → let s = c .before .before in c .is-deleted .result ≡ elem (updateKey (now (s .args .delta)) (s .args .p)) (deletedOf (now (s .args .delta)) (s .args .deleted))
 said c =
     let s = c .before .before in
-    c .is-deleted .ensures ∙ ap (λ (k : ℕ). elem k (deletedOf (now (s .args .delta)) (s .args .deleted))) (c .before .update-bits .ensures .0)
+    c .is-deleted .ensures ∙ ap (λ (k : ℕ). elem k (deletedOf (now (s .args .delta)) (s .args .deleted))) (key-is (c .before))
 
--- the update's key as it is passed on
-key-is : (c : tie.After-update-key) → let s = c .before .before .before .before in bits (toZ w32 (ofZ w32 (c .update-key .result))) ≡ updateKey (now (s .args .delta)) (s .args .p)
-key-is c = ap bits (toZ-ofZ (record { sfits = c .update-key .ok })) ∙ c .update-key .ensures
-
-update-bits-requires : tie.Need-update-bits-requires
-update-bits-requires c κs = (c .pre .2 .head, c .pre .2 .type-below, c .pre .2 .id-below)
+update-key-requires : tie.Need-update-key-requires
+update-key-requires c κs = (c .pre .2 .head, c .pre .2 .type-below, c .pre .2 .id-below)
 
 is-deleted-requires : tie.Need-is-deleted-requires
 is-deleted-requires c κs =
     let s = c .before in
-    (s .pre .1, c .update-bits .ensures .1, subst (λ (k : ℕ). Reached (now (s .args .delta)) (s .args .deleted) (s .args .g) (rank k)) (sym (c .update-bits .ensures .0)) (s .pre .4))
+    (s .pre .1, subst (λ (k : ℕ). Reached (now (s .args .delta)) (s .args .deleted) (s .args .g) (rank k)) (sym (key-is c)) (s .pre .4))
 
 returns : tie.Need-returns
 returns c = gone-kept _ _ (sym (said (c .before)) ∙ c .if1 .taken)
 
-update-key-requires : tie.Need-update-key-requires
-update-key-requires c κs = let s = c .before .before .before in (s .pre .2 .head, s .pre .2 .type-below, s .pre .2 .id-below)
-
 has-key-requires : tie.Need-has-key-requires
 has-key-requires c κs =
-    let s = c .before .before .before .before in
-    (s .pre .0, subst (λ (k : ℕ). Place (now (s .args .base)) k (s .args .b)) (sym (key-is c)) (s .pre .3))
+    let k = c .before .before in
+    let s = k .before in
+    (s .pre .0, subst (λ (x : ℕ). Place (now (s .args .base)) x (s .args .b)) (sym (key-is k)) (s .pre .3))
 
 returns-2 : tie.Need-returns-2
 returns-2 c =
-    let s = c .before .before .before .before .before in
-    still-kept _ (find (updateKey (now (s .args .delta)) (s .args .p)) (items (now (s .args .base)))) _ (sym (said (c .before .before .before)) ∙ c .before .before .if1 .left)
-    (c .has-key .ensures ∙ ap (λ (k : ℕ). isSome (find k (items (now (s .args .base))))) (key-is (c .before)))
+    let k = c .before .before .before in
+    let s = k .before in
+    still-kept _ (find (updateKey (now (s .args .delta)) (s .args .p)) (items (now (s .args .base)))) _ (sym (said (c .before .before)) ∙ c .before .if1 .left)
+    (c .has-key .ensures ∙ ap (λ (x : ℕ). isSome (find x (items (now (s .args .base))))) (key-is k))
 
 pub is-kept-spec : {M : Type 1} → statement M
 is-kept-spec =
     tie.close
-    (tie.spec
-    update-bits-requires
-    is-deleted-requires
-    returns
-    update-key-requires
-    has-key-requires
-    returns-2)
+    (tie.spec update-key-requires is-deleted-requires returns has-key-requires returns-2)

@@ -31,10 +31,6 @@ abbrev μ-loop : tie.MeasureT-loop
 key-is : (c : tie.After-update-key Inv-loop μ-loop) → let l = c .before .before in bits (toZ w32 (ofZ w32 (c .update-key .result))) ≡ updateKey (now (l .before .args .delta)) (l .loop .p)
 key-is c = ap bits (toZ-ofZ (record { sfits = c .update-key .ok })) ∙ c .update-key .ensures
 
--- its rank
-rank-is : (c : tie.After-rank Inv-loop μ-loop) → let l = c .before .before .before .before .before in c .rank .result ≡ rank (updateKey (now (l .before .args .delta)) (l .loop .p))
-rank-is c = c .rank .ensures .0 ∙ ap rank (c .before .update-bits .ensures .0)
-
 add-p : tie.Need-add-p Inv-loop μ-loop
 add-p c = search needs
 
@@ -49,26 +45,19 @@ update-key-requires c κs =
 place-near-requires : tie.Need-place-near-requires Inv-loop μ-loop
 place-near-requires c κs = (c .before .before .before .pre .0, c .before .before .loop .inv .0)
 
-update-bits-requires : tie.Need-update-bits-requires Inv-loop μ-loop
-update-bits-requires c κs =
-    let u = next-update (c .before .before .before .loop .inv .2) (c .before .before .loop-test .taken) in (u .head, u .type-below, u .id-below)
-
-rank-requires : tie.Need-rank-requires Inv-loop μ-loop
-rank-requires c κs = c .update-bits .ensures .1
-
 deleted-near-requires : tie.Need-deleted-near-requires Inv-loop μ-loop
 deleted-near-requires c κs =
-    let l = c .before .before .before .before .before in
+    let l = c .before .before .before in
     let h = l .before .pre .1 in
     (record { room = h .room; keys = h .deleted }, l .loop .inv .1)
 
 judge-update-requires : tie.Need-judge-update-requires Inv-loop μ-loop
 judge-update-requires c κs =
-    let k = c .before .before .before .before in
+    let k = c .before .before in
     let l = k .before .before in
     let s = l .before in
     let h = s .pre .1 in
-    (s .pre .0, record { room = h .room; keys = h .deleted }, next-update (l .loop .inv .2) (k .before .loop-test .taken), subst (λ (x : ℕ). Place (now (s .args .base)) x (c .before .before .before .place-near .result)) (key-is k) (c .before .before .before .place-near .ensures), subst (λ (x : ℕ). Reached (now (s .args .delta)) (s .args .deleted) (c .deleted-near .result) x) (rank-is (c .before)) (c .deleted-near .ensures), l .loop .inv .2 .few, l .loop .inv .2 .short)
+    (s .pre .0, record { room = h .room; keys = h .deleted }, next-update (l .loop .inv .2) (k .before .loop-test .taken), subst (λ (x : ℕ). Place (now (s .args .base)) x (c .before .place-near .result)) (key-is k) (c .before .place-near .ensures), subst (λ (x : ℕ). Reached (now (s .args .delta)) (s .args .deleted) (c .deleted-near .result) (rank x)) (key-is k) (c .deleted-near .ensures), l .loop .inv .2 .few, l .loop .inv .2 .short)
 
 enum-known-one : tie.Need-enum-known-one Inv-loop μ-loop
 enum-known-one c = search needs
@@ -78,12 +67,12 @@ enum-told c = search needs
 
 returns : tie.Need-returns Inv-loop μ-loop
 returns c =
-    let t = c .before .before .before .before .before .before .before .before in
+    let t = c .before .before .before .before .before .before in
     update-refused (t .before .loop .inv .2) (t .loop-test .taken) _ _ (c .enum-told .given .1) (c .before .before .judge-update .ensures .0)
 
 next-update-requires : tie.Need-next-update-requires Inv-loop μ-loop
 next-update-requires c κs =
-    let t = c .before .before .before .before .before .before .before .before .before in
+    let t = c .before .before .before .before .before .before .before in
     next-update (t .before .loop .inv .2) (t .loop-test .taken)
 
 sub-left : tie.Need-sub-left Inv-loop μ-loop
@@ -95,7 +84,7 @@ loop-less c = search needs
 loop-again : tie.Need-loop-again Inv-loop μ-loop
 loop-again c =
     let u = c .before .before .before .before in
-    let k = u .before .before .before .before in
+    let k = u .before .before in
     let t = k .before .before in
     let s = t .before .before in
     (omega (arith, k .place-near .ensures .within, s .pre .0 .count-is), u .before .deleted-near .ensures .few, update-fine (t .before .loop .inv .2) (t .loop-test .taken) _ _ _ _ (c .before .before .one .given .1) (u .judge-update .ensures) (c .next-update .ensures))
@@ -115,8 +104,6 @@ judge-updates-spec =
     loop-holds
     update-key-requires
     place-near-requires
-    update-bits-requires
-    rank-requires
     deleted-near-requires
     judge-update-requires
     enum-known-one

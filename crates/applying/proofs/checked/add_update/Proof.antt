@@ -2,6 +2,7 @@
 use mathlib.Core.Path.{_≡_, sym, ap, ap₂, _∙_, subst}
 use mathlib.Core.List.{List, [], _∷_}
 use native.Mathlib.Omega.{arith}
+use borrow.Author.Tests.{eq-eqb}
 use lib.IntN.{ℤ}
 use lib.ListN.{length}
 use denote.Ref.{now}
@@ -59,7 +60,7 @@ put-sums-requires : tie.Need-put-sums-requires
 put-sums-requires c κs =
     let d = c .before in
     let s = d .before .before .before in
-    (ap length (d .before .data-at .ensures) ∙ (same s ∙ sym (ap length (d .differences .ensures))), subst (λ (x : Item). Room (s .args .n) (length (now (s .args .out))) (s .args .s .items) (s .args .s .at) (x ∷ [])) (sym (item-is d)) (room s))
+    (eq-eqb _ _ (ap length (d .before .data-at .ensures) ∙ (same s ∙ sym (ap length (d .differences .ensures)))), subst (λ (x : Item). Room (s .args .n) (length (now (s .args .out))) (s .args .s .items) (s .args .s .at) (x ∷ [])) (sym (item-is d)) (room s))
 
 add-t15 : tie.Need-add-t15
 add-t15 c = let p = c .before .before .before .before .before .before .before .pre in omega (arith, p .2, p .1 .to-within, p .0 .count-is, p .0 .shape .few)

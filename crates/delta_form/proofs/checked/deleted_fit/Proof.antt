@@ -1,12 +1,18 @@
--- `checked::deleted_fit` meets its contract. The loop's invariant: the keys passed fit, and the next one is to be above them.
+-- `checked::deleted_fit` meets its contract. The loop's invariant: the keys passed fit, and the next one is to be above the last of them.
 -- Assumes nothing.
-use Prim.Native.Nat.{ℕ, _-_, _≤_}
+use Prim.Native.Nat.{ℕ, suc, _+_, _-_, _<_, _≤_, _^_}
 use mathlib.Core.Path.{_≡_, refl, sym, ap, _∙_, subst}
 use mathlib.Core.Bool.{true}
 use native.Mathlib.Omega.{arith}
+use borrow.Author.Tests.{not-true, not-false}
 use denote.Ref.{now}
+use mir.Facts.{toZ-ofZ}
+use lib.IntN.{pos}
+use lib.ListN.{getD}
+use Rattle.definitions.specs.Ints.{bits, fromBits, signedLess}
 use Rattle.definitions.specs.Tables.{all}
 use Rattle.definitions.specs.Deltas.{rank, deletedAt, lowestRank, deletedFits}
+use Rattle.laws.specs.IntLaws.{bits-below, bits-back, fromBits-fits, less-ranks, not-less-ranks}
 use Rattle.laws.specs.TableShape.{all-more, all-fails}
 use Rattle.laws.specs.DeltaShape.{DeletedKey, key-fits, not-key, lowestRank-next}
 use borrow.Author.Needs.{needs}
@@ -14,38 +20,60 @@ use Rattle.delta_form.proofs.checked.deleted_fit.Statement.{statement}
 use Rattle.delta_form.proofs.checked.deleted_fit.Tie as tie
 
 abbrev Inv-loop : tie.InvT-loop
-Inv-loop area n i₀ low₀ i low =
-    (i ≤ n) × (all (deletedFits area) i ≡ true) × (low ≡ lowestRank area i)
+Inv-loop area n last₀ i₀ last i =
+    (i ≤ n) × (last < 2 ^ 32) × (all (deletedFits area) i ≡ true) × (lowestRank area i ≡ suc (rank last))
 
 abbrev μ-loop : tie.MeasureT-loop
-μ-loop area n i₀ low₀ i low = n - i
+μ-loop area n last₀ i₀ last i = n - i
 
--- the rank of the key that is looked at
-rank-is : (c : tie.After-rank Inv-loop μ-loop) → c .rank .result ≡ rank (deletedAt (now (c .before .before .before .before .args .area)) (c .before .before .before .loop .i))
+-- the next key is compared with the last one, as signed
+compared : (c : tie.After-signed-less Inv-loop μ-loop) → let l = c .before .before .before in c .signed-less .result ≡ signedLess (fromBits (l .loop .last)) (getD (now (l .before .before .before .args .area)) (3 + l .loop .i) (pos 0))
+unfolding fromBits
+compared c = c .signed-less .ensures ∙ rw (toZ-ofZ (record { sfits = c .before .next .given }))
+
+above : (c : tie.Else2 Inv-loop μ-loop) → let l = c .before .before .before .before in rank (l .loop .last) < rank (deletedAt (now (l .before .before .before .args .area)) (l .loop .i))
 unfolding deletedAt
-rank-is c = c .rank .ensures .0 ∙ ap rank (c .before .bits-at .ensures .0)
+above c =
+    let l = c .before .before .before .before .loop in
+    rw (bits-back (l .last) (l .inv .1)) at (less-ranks (fromBits (l .last)) _ (fromBits-fits (l .inv .1)) (record { sfits = c .before .before .next .given }) (sym (compared (c .before)) ∙ not-false _ (c .if2 .left)))
 
-loop-holds : tie.Need-loop-holds Inv-loop μ-loop
-unfolding all lowestRank
-loop-holds c = (search needs, refl, refl)
-
-add-bits-at : tie.Need-add-bits-at Inv-loop μ-loop
-add-bits-at c = search needs
-
-bits-at-requires : tie.Need-bits-at-requires Inv-loop μ-loop
-bits-at-requires c κs = search needs
-
-rank-requires : tie.Need-rank-requires Inv-loop μ-loop
-rank-requires c κs = search needs
+not-above : (c : tie.Then2 Inv-loop μ-loop) → let l = c .before .before .before .before in rank (deletedAt (now (l .before .before .before .args .area)) (l .loop .i)) ≤ rank (l .loop .last)
+unfolding deletedAt
+not-above c =
+    let l = c .before .before .before .before .loop in
+    rw (bits-back (l .last) (l .inv .1)) at (not-less-ranks (fromBits (l .last)) _ (fromBits-fits (l .inv .1)) (record { sfits = c .before .before .next .given }) (sym (compared (c .before)) ∙ not-true _ (c .if2 .taken)))
 
 returns : tie.Need-returns Inv-loop μ-loop
-returns c =
-    let a = now (c .before .before .before .before .before .args .area) in
-    let i = c .before .before .before .before .loop .i in
-    sym (all-fails (deletedFits a) i (c .before .before .before .before .before .args .n) (c .before .before .before .loop-test .taken) (not-key a i (λ k. omega (arith, rank-is (c .before)))))
+unfolding all
+returns c = rw (c .if1 .taken)
 
-add-low : tie.Need-add-low Inv-loop μ-loop
-add-low c = search needs
+shared-slice-copy-out-last : tie.Need-shared-slice-copy-out-last Inv-loop μ-loop
+shared-slice-copy-out-last c = search needs
+
+loop-holds : tie.Need-loop-holds Inv-loop μ-loop
+unfolding all lowestRank deletedAt bits
+loop-holds c =
+    let a = now (c .before .before .args .area) in
+    (search needs, bits-below (getD a 3 (pos 0)) (c .last .given), all-more (deletedFits a) 0 refl (key-fits a 0 (record { order = omega arith; whole = c .last .given })), refl)
+
+add-next : tie.Need-add-next Inv-loop μ-loop
+add-next c = search needs
+
+mul-next : tie.Need-mul-next Inv-loop μ-loop
+mul-next c = search needs
+
+shared-slice-copy-out-next : tie.Need-shared-slice-copy-out-next Inv-loop μ-loop
+shared-slice-copy-out-next c = search needs
+
+signed-less-requires : tie.Need-signed-less-requires Inv-loop μ-loop
+signed-less-requires c κs = search needs
+
+returns-2 : tie.Need-returns-2 Inv-loop μ-loop
+returns-2 c =
+    let t = c .before .before .before in
+    let l = t .before in
+    let s = l .before .before .before .args in
+    sym (all-fails (deletedFits (now (s .area))) (l .loop .i) (s .n) (t .loop-test .taken) (not-key (now (s .area)) (l .loop .i) (λ k. omega (arith, k .order, l .loop .inv .3, not-above c))))
 
 add-i : tie.Need-add-i Inv-loop μ-loop
 add-i c = search needs
@@ -54,14 +82,17 @@ loop-less : tie.Need-loop-less Inv-loop μ-loop
 loop-less c = search needs
 
 loop-again : tie.Need-loop-again Inv-loop μ-loop
+unfolding deletedAt bits
 loop-again c =
-    let a = now (c .before .before .before .before .before .args .area) in
-    let i = c .before .before .before .before .loop .i in
-    let k : DeletedKey a i = record { order = omega (arith, rank-is (c .before)); whole = c .before .before .bits-at .ensures .2 } in
-    (search needs, all-more (deletedFits a) i (c .before .before .before .before .loop .inv .1) (key-fits a i k), omega (arith, rank-is (c .before), lowestRank-next a i))
+    let l = c .before .before .before .before in
+    let a = now (l .before .before .before .args .area) in
+    let i = l .loop .i in
+    let g = c .before .before .next .given in
+    let k : DeletedKey a i = record { order = omega (arith, l .loop .inv .3, above c); whole = g } in
+    (search needs, bits-below (getD a (3 + i) (pos 0)) g, all-more (deletedFits a) i (l .loop .inv .2) (key-fits a i k), lowestRank-next a i)
 
-returns-2 : tie.Need-returns-2 Inv-loop μ-loop
-returns-2 c = sym (subst (λ (m : ℕ). all (deletedFits (now (c .before .before .args .area))) m ≡ true) (omega arith) (c .before .loop .inv .1))
+returns-3 : tie.Need-returns-3 Inv-loop μ-loop
+returns-3 c = sym (subst (λ (m : ℕ). all (deletedFits (now (c .before .before .before .before .args .area))) m ≡ true) (omega arith) (c .before .loop .inv .2))
 
 pub deleted-fit-spec : {M : Type 1} → statement M
 deleted-fit-spec =
@@ -69,13 +100,15 @@ deleted-fit-spec =
     (tie.spec
     Inv-loop
     μ-loop
-    loop-holds
-    add-bits-at
-    bits-at-requires
-    rank-requires
     returns
-    add-low
+    shared-slice-copy-out-last
+    loop-holds
+    add-next
+    mul-next
+    shared-slice-copy-out-next
+    signed-less-requires
+    returns-2
     add-i
     loop-less
     loop-again
-    returns-2)
+    returns-3)
