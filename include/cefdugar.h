@@ -670,9 +670,12 @@ uint32_t cef_chunk(int32_t tick, int32_t delta_tick, const uint8_t *data,
  *
  * ticks: the last finished tick, the unfinished one, its base, its sum.
  * counts: whether there is a finished tick, whether there is an unfinished
- * one, how many parts that has.
+ * one, how many parts that has. A flag that is not 0 says yes.
  * lengths: of each part that is in, how long it is; above CEF_PART_BYTES for
  * one that is missing.
+ *
+ * A call that changes the receiver writes 0 or 1 as a flag, and 0 where there
+ * is no such number. A refused call leaves the three arrays entry for entry.
  *
  * The calls take the three arrays one by one.
  */
@@ -767,7 +770,8 @@ uint32_t cef_receiver_snap_empty(int32_t ticks[4], uint32_t counts[3],
  * CEF_STORED_TABLES are told; everything that was lent is then left, but for
  * scratch and the counts of warnings. Where a call other than
  * cef_storage_reset leaves the store as it was, the two arrays are left entry
- * for entry.
+ * for entry. Else they are written with 0 or 1 as a flag, and 0 where there is
+ * no such tick.
  *
  * The calls take the two arrays one by one.
  */
@@ -937,8 +941,11 @@ void cef_manager_reset(int32_t receiver_ticks[4], uint32_t receiver_counts[3],
  * The refusals of cef_storage_add_delta from CEF_STORAGE_OLD_DELTA on: the
  * receiver has finished the tick, `delta` holds the delta, and the store is
  * as there.
- * Judged in this order. A refused call leaves *taken and *ack; what of the
- * receiver or the store is left as it was is left entry for entry.
+ * Judged in this order. A refused call leaves *taken and *ack.
+ *
+ * Where the ticks of the receiver or the store are left as they were, so are
+ * their two arrays, entry for entry; else these are written as
+ * cef_receiver_snap and cef_storage_add_delta write them.
  *
  * `scratch` is zeros afterwards, refused or not. `warnings`: all counts up to
  * the refusal are set.

@@ -1,7 +1,7 @@
 -- When two ticks, two receivers and two stores are the same. Assumes nothing.
 use mathlib.Core.Path.{_≡_, refl, sym, ap, _∙_}
-use mathlib.Core.Bool.{Bool, true, false, not, cond}
-use mathlib.Core.Option.{some, none}
+use mathlib.Core.Bool.{Bool, true, false}
+use mathlib.Core.Option.{Option, some, none}
 use Prim.Native.Nat.{ℕ}
 use native.Mathlib.Omega.{arith}
 use borrow.Author.Tests.{eq-eqb, eqb-true}
@@ -12,7 +12,8 @@ use mir.Val.{SFits, ofZ, toZ}
 use mir.Facts.{toZ-ofZ}
 use Rattle.definitions.specs.Receiver as Receiver
 use Rattle.definitions.specs.Storage as Store
-use Rattle.receiver.specs.States.{receiverOf, currentOf}
+use Rattle.receiver.specs.States.{receiverOf, currentIn}
+use Rattle.receiver.specs.declared.CurrentDelta.{CurrentDelta}
 use Rattle.receiver.specs.declared.DeltaReceiver.{DeltaReceiver}
 use Rattle.storage.specs.States.{storeOf}
 use Rattle.storage.specs.declared.Storage.{Storage}
@@ -37,64 +38,53 @@ some-same e = cc
 pub same-int : {t u : ℤ} → SFits w32 t → SFits w32 u → ofZ w32 t ≡ ofZ w32 u → t ≡ u
 same-int f g e = sym (toZ-ofZ f) ∙ ap (toZ w32) e ∙ toZ-ofZ g
 
--- none, and perhaps none
-absent : {A : Type 0} (u : A) (b : Bool) → Compares none (cond b (some u) none) (not b)
-absent u true = unlike (λ e. some-not-none (sym e))
-absent u false = record { same = λ _. refl; told = λ _. refl }
+pub same-tick : {t u : ℤ} → SFits w32 t → SFits w32 u → Compares t u (eqb (ofZ w32 t) (ofZ w32 u))
+same-tick {t} {u} f g =
+    record {
+      same = λ e. same-int f g (eqb-true (ofZ w32 t) (ofZ w32 u) e);
+      told = λ e. eq-eqb (ofZ w32 t) (ofZ w32 u) (ap (ofZ w32) e);
+    }
 
-module _ (has also : Bool) (t u : ℤ) where
-  pub both-ticks : SFits w32 t → SFits w32 u → has ≡ true → also ≡ true → Compares (cond has (some t) none) (cond also (some u) none) (eqb (ofZ w32 t) (ofZ w32 u))
-  both-ticks f g p q =
-      rw (p, q)
-      (record {
-        same = λ e. ap some (same-int f g (eqb-true (ofZ w32 t) (ofZ w32 u) e));
-        told = λ e. eq-eqb (ofZ w32 t) (ofZ w32 u) (ap (ofZ w32) (some-same e));
-      })
+-- ---- two values that may be absent
 
-  pub first-tick : has ≡ true → also ≡ false → Compares (cond has (some t) none) (cond also (some u) none) false
-  first-tick p q = rw (p, q) (unlike some-not-none)
+module _ {A : Type 0} {o p : Option A} where
+  pub both-there : {x y : A} {r : Bool} → o ≡ some x → p ≡ some y → Compares x y r → Compares o p r
+  both-there e f c = rw (e, f) (record { same = λ t. ap some (c .same t); told = λ t. c .told (some-same t) })
 
-  pub no-tick : has ≡ false → Compares (cond has (some t) none) (cond also (some u) none) (not also)
-  no-tick p = rw p (absent u also)
+  pub first-there : {x : A} → o ≡ some x → p ≡ none → Compares o p false
+  first-there e f = rw (e, f) (unlike some-not-none)
 
--- two ticks by other names
-pub ticks-moved : (has also : Bool) {r : Bool} {t u t′ u′ : ℤ} → t′ ≡ t → u′ ≡ u → Compares (cond has (some t′) none) (cond also (some u′) none) r → Compares (cond has (some t) none) (cond also (some u) none) r
-ticks-moved has also p q c = rw (p, q) at c
+  pub second-there : {y : A} → o ≡ none → p ≡ some y → Compares o p false
+  second-there e f = rw (e, f) (unlike (λ t. some-not-none (sym t)))
+
+  pub none-there : o ≡ none → p ≡ none → Compares o p true
+  none-there e f = rw (e, f) (record { same = λ _. refl; told = λ _. refl })
 
 -- ---- two receivers
 
-module _ (a b : DeltaReceiver) where
-  pub other-opened : {A : Type 0} (f : Receiver.Current → A) → (f (currentOf a) ≡ f (currentOf b) → ⊥) → Compares (currentOf a) (currentOf b) false
+module _ (a b : CurrentDelta) where
+  pub other-opened : {A : Type 0} (f : Receiver.Current → A) → (f (currentIn a) ≡ f (currentIn b) → ⊥) → Compares (currentIn a) (currentIn b) false
   other-opened f n = unlike (λ e. n (ap f e))
 
-  pub by-sum : SFits w32 (a .crc) → SFits w32 (b .crc) → a .tick ≡ b .tick → a .«delta_tick» ≡ b .«delta_tick» → a .«num_parts» ≡ b .«num_parts» → Compares (currentOf a) (currentOf b) (eqb (ofZ w32 (a .crc)) (ofZ w32 (b .crc)))
+  pub by-sum : SFits w32 (a .crc) → SFits w32 (b .crc) → a .tick ≡ b .tick → a .«delta_tick» ≡ b .«delta_tick» → a .«num_parts» ≡ b .«num_parts» → Compares (currentIn a) (currentIn b) (eqb (ofZ w32 (a .crc)) (ofZ w32 (b .crc)))
   by-sum f g t d n =
       record {
         same = λ e. rw (t, d, n, same-int f g (eqb-true (ofZ w32 (a .crc)) (ofZ w32 (b .crc)) e)) refl;
         told = λ e. eq-eqb (ofZ w32 (a .crc)) (ofZ w32 (b .crc)) (ap (λ (o : Receiver.Current). ofZ w32 (o .crc)) e);
       }
 
+module _ (a b : DeltaReceiver) {r : Bool} (c : Compares (receiverOf a .previousTick) (receiverOf b .previousTick) r) where
   -- another last finished tick
-  pub other-previous : {r : Bool} → Compares (receiverOf a .previousTick) (receiverOf b .previousTick) r → r ≡ false → Compares (ticksOf (receiverOf a)) (ticksOf (receiverOf b)) false
-  other-previous c e = unlike (λ q. not-both e (c .told (ap (λ (t : Ticks). t .previous) q)))
+  pub other-previous : r ≡ false → Compares (ticksOf (receiverOf a)) (ticksOf (receiverOf b)) false
+  other-previous e = unlike (λ q. not-both e (c .told (ap (λ (t : Ticks). t .previous) q)))
 
   -- the same one: by the unfinished tick
-  module _ {r : Bool} (c : Compares (receiverOf a .previousTick) (receiverOf b .previousTick) r) (e : r ≡ true) where
-    by-current : {q : Bool} → Compares (receiverOf a .current) (receiverOf b .current) q → Compares (ticksOf (receiverOf a)) (ticksOf (receiverOf b)) q
-    by-current d =
-        record {
-          same = λ t. rw (c .same e, d .same t) refl;
-          told = λ t. d .told (ap (λ (x : Ticks). x .current) t);
-        }
-
-    pub both-opened : {q : Bool} → a .«has_current» ≡ true → b .«has_current» ≡ true → Compares (currentOf a) (currentOf b) q → Compares (ticksOf (receiverOf a)) (ticksOf (receiverOf b)) q
-    both-opened p s d = by-current (rw (p, s) (record { same = λ t. ap some (d .same t); told = λ t. d .told (some-same t) }))
-
-    pub one-opened : a .«has_current» ≡ true → b .«has_current» ≡ false → Compares (ticksOf (receiverOf a)) (ticksOf (receiverOf b)) false
-    one-opened p s = by-current (rw (p, s) (unlike some-not-none))
-
-    pub none-opened : a .«has_current» ≡ false → Compares (ticksOf (receiverOf a)) (ticksOf (receiverOf b)) (not (b .«has_current»))
-    none-opened p = by-current (rw p (absent (currentOf b) (b .«has_current»)))
+  pub by-current : {q : Bool} → r ≡ true → Compares (receiverOf a .current) (receiverOf b .current) q → Compares (ticksOf (receiverOf a)) (ticksOf (receiverOf b)) q
+  by-current e d =
+      record {
+        same = λ t. rw (c .same e, d .same t) refl;
+        told = λ t. d .told (ap (λ (x : Ticks). x .current) t);
+      }
 
 -- ---- two stores
 

@@ -1,49 +1,122 @@
 // A receiver and a store in rows of numbers.
 ghost use mathlib.Core.Path.{_≡_};
-ghost use mathlib.Core.Bool.{cond};
-ghost use mathlib.Core.List.{List};
-ghost use mathlib.Core.Option.{some, none};
+ghost use mathlib.Core.List.{List, []};
 ghost use Prim.Native.Nat.{ℕ, _<_, _^_};
-ghost use Rattle.receiver.specs.States.{receiverOf, receiverWith, currentOf};
+ghost use Rattle.format.specs.Ticks.{tickOf};
+ghost use Rattle.receiver.specs.States.{receiverOf, receiverWith, currentIn, currentOf};
 ghost use Rattle.storage.specs.States.{storeOf};
+ghost use Rattle.boundary.specs.Boundary.{given};
+ghost use Rattle.boundary_states.specs.Rows.{tickOrZero, currentOrZeros, isThere, receiverTicks, receiverCounts, storeTicks, storeCounts};
 ghost use Rattle.boundary_states.specs.Rows.{heldReceiver, ticksOf, heldStore, SavedReceiver, SavedStore, Compares};
-use boundary::checked::flag;
+use format::OptionTick;
+use receiver::Current;
+use receiver::CurrentDelta;
 use receiver::DeltaReceiver;
 use receiver::checked::Ticks;
 use receiver::checked::ticks_of;
 use receiver::checked::with_lengths;
 use storage::Storage;
 
+// A tick that is there where a flag is not 0.
+fn tick_in(flag: u32, tick: i32) -> OptionTick
+    ensures { λ r. ⌜ tickOf r ≡ given flag tick ⌝ }
+{
+    if flag != 0 {
+        return OptionTick::Some(tick);
+    }
+    OptionTick::None
+}
+
+// An unfinished tick that is there where a flag is not 0.
+fn current_in(flag: u32, opened: CurrentDelta) -> Current
+    ensures { λ r. ⌜ currentOf r ≡ given flag (currentIn opened) ⌝ }
+{
+    if flag != 0 {
+        return Current::Some(opened);
+    }
+    Current::None
+}
+
+// A tick, 0 where there is none.
+fn tick_or_zero(tick: OptionTick) -> i32
+    ensures { λ r. ⌜ r ≡ tickOrZero (tickOf tick) ⌝ }
+{
+    match tick {
+        OptionTick::Some(t) => t,
+        OptionTick::None => 0,
+    }
+}
+
+// 1 for a tick, 0 where there is none.
+fn tick_flag(tick: OptionTick) -> u32
+    ensures { λ r. ⌜ r ≡ isThere (tickOf tick) ⌝ }
+{
+    match tick {
+        OptionTick::Some(_) => 1,
+        OptionTick::None => 0,
+    }
+}
+
+// An unfinished tick, zeros where there is none.
+fn current_or_zeros(current: Current) -> CurrentDelta
+    ensures { λ r. ⌜ currentIn r ≡ currentOrZeros (currentOf current) ⌝ }
+{
+    let Current::Some(opened) = current else {
+        return CurrentDelta {
+            tick: 0,
+            delta_tick: 0,
+            num_parts: 0,
+            crc: 0,
+        };
+    };
+    opened
+}
+
+// 1 for an unfinished tick, 0 where there is none.
+fn current_flag(current: Current) -> u32
+    ensures { λ r. ⌜ r ≡ isThere (currentOf current) ⌝ }
+{
+    match current {
+        Current::Some(_) => 1,
+        Current::None => 0,
+    }
+}
+
 // The ticks of a receiver in two rows.
 pub fn load_ticks(ticks: &[i32; 4], counts: &[u32; 3]) -> Ticks
     ensures { λ r. ⌜ ((lengths : List ℕ) → receiverWith r lengths ≡ heldReceiver (now (ticks .entry)) (now (counts .entry)) lengths) ⌝ }
 {
-    let has_previous = counts[0] != 0;
-    let has_current = counts[1] != 0;
-    let previous_tick = ticks[0];
+    let previous_tick = tick_in(counts[0], ticks[0]);
     let tick = ticks[1];
     let delta_tick = ticks[2];
     let num_parts = counts[2];
     let crc = ticks[3];
-    Ticks {
-        has_previous,
-        previous_tick,
-        has_current,
+    let opened = CurrentDelta {
         tick,
         delta_tick,
         num_parts,
         crc,
+    };
+    let current = current_in(counts[1], opened);
+    Ticks {
+        previous_tick,
+        current,
     }
 }
 
 // The ticks of a receiver into their rows.
 pub fn write_ticks(r: Ticks, ticks: &mut [i32; 4], counts: &mut [u32; 3])
-    ensures { λ _. ⌜ ((lengths : List ℕ) → heldReceiver (now (ticks .exit)) (now (counts .exit)) lengths ≡ receiverWith r lengths) ⌝ }
+    ensures { λ _. ⌜ now (ticks .exit) ≡ receiverTicks (receiverWith r []) ⌝ }
+    ensures { λ _. ⌜ now (counts .exit) ≡ receiverCounts (receiverWith r []) ⌝ }
 {
-    let has_previous = flag(r.has_previous);
-    let has_current = flag(r.has_current);
-    *ticks = [r.previous_tick, r.tick, r.delta_tick, r.crc];
-    *counts = [has_previous, has_current, r.num_parts];
+    let previous_tick = r.previous_tick;
+    let current = r.current;
+    let previous = tick_or_zero(previous_tick);
+    let has_previous = tick_flag(previous_tick);
+    let has_current = current_flag(current);
+    let opened = current_or_zeros(current);
+    *ticks = [previous, opened.tick, opened.delta_tick, opened.crc];
+    *counts = [has_previous, has_current, opened.num_parts];
 }
 
 // The receiver in three rows.
@@ -62,7 +135,9 @@ pub fn write_receiver(
     counts: &mut [u32; 3],
     lengths: &mut [u16; 32],
 )
-    ensures { λ _. ⌜ heldReceiver (now (ticks .exit)) (now (counts .exit)) (now (lengths .exit)) ≡ receiverOf r ⌝ }
+    ensures { λ _. ⌜ now (ticks .exit) ≡ receiverTicks (receiverOf r) ⌝ }
+    ensures { λ _. ⌜ now (counts .exit) ≡ receiverCounts (receiverOf r) ⌝ }
+    ensures { λ _. ⌜ now (lengths .exit) ≡ receiverOf r .parts ⌝ }
 {
     write_ticks(ticks_of(r), ticks, counts);
     let parts = r.parts;
@@ -82,15 +157,11 @@ pub fn load_storage(ticks: &[i32; 2], counts: &[u32; 3]) -> Storage
     ensures { λ r. ⌜ r .count < 2 ^ 32 ⌝ }
 {
     let count = size(counts[0]);
-    let has_ack = counts[1] != 0;
-    let has_delta = counts[2] != 0;
-    let ack_tick = ticks[0];
-    let delta_tick = ticks[1];
+    let ack_tick = tick_in(counts[1], ticks[0]);
+    let delta_tick = tick_in(counts[2], ticks[1]);
     Storage {
         count,
-        has_ack,
         ack_tick,
-        has_delta,
         delta_tick,
     }
 }
@@ -98,31 +169,35 @@ pub fn load_storage(ticks: &[i32; 2], counts: &[u32; 3]) -> Storage
 // A store into its rows.
 pub fn write_storage(s: Storage, ticks: &mut [i32; 2], counts: &mut [u32; 3])
     requires { ⌜ s .count < 2 ^ 32 ⌝ }
-    ensures { λ _. ⌜ heldStore (now (ticks .exit)) (now (counts .exit)) ≡ storeOf s ⌝ }
+    ensures { λ _. ⌜ now (ticks .exit) ≡ storeTicks (storeOf s) ⌝ }
+    ensures { λ _. ⌜ now (counts .exit) ≡ storeCounts (storeOf s) ⌝ }
 {
     let count = s.count as u32;
-    let has_ack = flag(s.has_ack);
-    let has_delta = flag(s.has_delta);
-    *ticks = [s.ack_tick, s.delta_tick];
-    *counts = [count, has_ack, has_delta];
+    let ack_tick = s.ack_tick;
+    let delta_tick = s.delta_tick;
+    *ticks = [tick_or_zero(ack_tick), tick_or_zero(delta_tick)];
+    *counts = [count, tick_flag(ack_tick), tick_flag(delta_tick)];
 }
 
 // Whether two ticks, or their absence, are the same.
-fn same_tick(has: bool, tick: i32, has_other: bool, other: i32) -> bool
-    ensures { λ r. ⌜ Compares (cond has (some tick) none) (cond «has_other» (some other) none) r ⌝ }
+fn same_tick(a: OptionTick, b: OptionTick) -> bool
+    ensures { λ r. ⌜ Compares (tickOf a) (tickOf b) r ⌝ }
 {
-    if has {
-        if has_other {
-            return tick == other;
-        }
+    let OptionTick::Some(tick) = a else {
+        let OptionTick::None = b else {
+            return false;
+        };
+        return true;
+    };
+    let OptionTick::Some(other) = b else {
         return false;
-    }
-    !has_other
+    };
+    tick == other
 }
 
-// Whether the unfinished ticks of two receivers that have one are the same.
-fn same_opened(a: DeltaReceiver, b: DeltaReceiver) -> bool
-    ensures { λ r. ⌜ Compares (currentOf a) (currentOf b) r ⌝ }
+// Whether two unfinished ticks are the same.
+fn same_opened(a: CurrentDelta, b: CurrentDelta) -> bool
+    ensures { λ r. ⌜ Compares (currentIn a) (currentIn b) r ⌝ }
 {
     if a.tick != b.tick {
         return false;
@@ -136,28 +211,37 @@ fn same_opened(a: DeltaReceiver, b: DeltaReceiver) -> bool
     a.crc == b.crc
 }
 
+// Whether two unfinished ticks, or their absence, are the same.
+fn same_current(a: Current, b: Current) -> bool
+    ensures { λ r. ⌜ Compares (currentOf a) (currentOf b) r ⌝ }
+{
+    let Current::Some(opened) = a else {
+        let Current::None = b else {
+            return false;
+        };
+        return true;
+    };
+    let Current::Some(other) = b else {
+        return false;
+    };
+    same_opened(opened, other)
+}
+
 // Whether two receivers are the same but for the lengths of parts.
 fn same_ticks(a: DeltaReceiver, b: DeltaReceiver) -> bool
     ensures { λ r. ⌜ Compares (ticksOf (receiverOf a)) (ticksOf (receiverOf b)) r ⌝ }
 {
-    if !same_tick(
-        a.has_previous,
-        a.previous_tick,
-        b.has_previous,
-        b.previous_tick,
-    ) {
+    let previous = a.previous_tick;
+    let other_previous = b.previous_tick;
+    if !same_tick(previous, other_previous) {
         return false;
     }
-    if a.has_current {
-        if b.has_current {
-            return same_opened(a, b);
-        }
-        return false;
-    }
-    !b.has_current
+    let current = a.current;
+    let other = b.current;
+    same_current(current, other)
 }
 
-// A receiver into its rows, which are left where they hold it.
+// A receiver into its rows; those of its ticks are left where they hold them.
 pub fn save_receiver(
     r: DeltaReceiver,
     ticks: &mut [i32; 4],
@@ -182,10 +266,14 @@ fn same_storage(a: Storage, b: Storage) -> bool
     if a.count != b.count {
         return false;
     }
-    if !same_tick(a.has_ack, a.ack_tick, b.has_ack, b.ack_tick) {
+    let ack = a.ack_tick;
+    let other_ack = b.ack_tick;
+    if !same_tick(ack, other_ack) {
         return false;
     }
-    same_tick(a.has_delta, a.delta_tick, b.has_delta, b.delta_tick)
+    let base = a.delta_tick;
+    let other_base = b.delta_tick;
+    same_tick(base, other_base)
 }
 
 // A store into its rows, which are left where they hold it.

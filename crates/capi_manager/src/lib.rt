@@ -9,7 +9,7 @@ ghost use Rattle.definitions.specs.Receiver.{freshReceiver};
 ghost use Rattle.definitions.specs.Storage.{beside, freshStorage};
 ghost use Rattle.definitions.specs.StorageCalls.{resetCall};
 ghost use Rattle.definitions.specs.Manager.{messageCall};
-ghost use Rattle.boundary_states.specs.Rows.{heldReceiver, heldStore};
+ghost use Rattle.boundary_states.specs.Rows.{receiverTicks, receiverCounts, storeTicks, storeCounts, heldReceiver, heldStore};
 ghost use Rattle.capi_manager.specs.Told.{Told, Tells, Settles};
 use boundary::checked::row;
 use boundary_states::checked::load_receiver;
@@ -31,8 +31,11 @@ pub extern "C" fn cef_manager_new(
     ticks: &mut [i32; 2],
     counts: &mut [u32; 3],
 )
-    ensures { λ _. ⌜ heldReceiver (now («receiver_ticks» .exit)) (now («receiver_counts» .exit)) (now (lengths .exit)) ≡ freshReceiver ⌝ }
-    ensures { λ _. ⌜ heldStore (now (ticks .exit)) (now (counts .exit)) ≡ beside freshStorage ⌝ }
+    ensures { λ _. ⌜ now («receiver_ticks» .exit) ≡ receiverTicks freshReceiver ⌝ }
+    ensures { λ _. ⌜ now («receiver_counts» .exit) ≡ receiverCounts freshReceiver ⌝ }
+    ensures { λ _. ⌜ now (lengths .exit) ≡ freshReceiver .parts ⌝ }
+    ensures { λ _. ⌜ now (ticks .exit) ≡ storeTicks (beside freshStorage) ⌝ }
+    ensures { λ _. ⌜ now (counts .exit) ≡ storeCounts (beside freshStorage) ⌝ }
 {
     let m = Manager::new();
     write_receiver(m.receiver, receiver_ticks, receiver_counts, lengths);
@@ -49,8 +52,11 @@ pub extern "C" fn cef_manager_reset(
     counts: &mut [u32; 3],
     area: &mut [i32],
 )
-    ensures { λ _. ⌜ heldReceiver (now («receiver_ticks» .exit)) (now («receiver_counts» .exit)) (now (lengths .exit)) ≡ freshReceiver ⌝ }
-    ensures { λ _. ⌜ heldStore (now (ticks .exit)) (now (counts .exit)) ≡ resetCall (heldStore (now (ticks .entry)) (now (counts .entry))) (now (area .entry)) .store ⌝ }
+    ensures { λ _. ⌜ now («receiver_ticks» .exit) ≡ receiverTicks freshReceiver ⌝ }
+    ensures { λ _. ⌜ now («receiver_counts» .exit) ≡ receiverCounts freshReceiver ⌝ }
+    ensures { λ _. ⌜ now (lengths .exit) ≡ freshReceiver .parts ⌝ }
+    ensures { λ _. ⌜ now (ticks .exit) ≡ storeTicks (resetCall (heldStore (now (ticks .entry)) (now (counts .entry))) (now (area .entry)) .store) ⌝ }
+    ensures { λ _. ⌜ now (counts .exit) ≡ storeCounts (resetCall (heldStore (now (ticks .entry)) (now (counts .entry))) (now (area .entry)) .store) ⌝ }
     ensures { λ _. ⌜ now (area .exit) ≡ resetCall (heldStore (now (ticks .entry)) (now (counts .entry))) (now (area .entry)) .area ⌝ }
 {
     let receiver = load_receiver(receiver_ticks, receiver_counts, lengths);

@@ -1,17 +1,17 @@
 -- What the outputs hold, from a call that is known. Assumes nothing.
-use mathlib.Core.Path.{_≡_, refl, ap, sym, _∙_}
+use mathlib.Core.Path.{_≡_, refl}
 use mathlib.Core.List.{List, [], _∷_}
 use mathlib.Core.Option.{Option, some, none}
 use Prim.Native.Nat.{ℕ}
 use lib.IntN.{ℤ, pos}
 use lib.ListN.{length}
 use Rattle.definitions.specs.Warnings.{Counts}
-use Rattle.definitions.specs.Outcome.{Outcome, ok, err, return, refuse}
+use Rattle.definitions.specs.Outcome.{Outcome, return, refuse}
 use Rattle.definitions.specs.Messages as Messages
 use Rattle.definitions.specs.Messages.{Message, chunkCall}
 use Rattle.delta_chunks.specs.Answers.{chunkOf, bytesOf}
 use Rattle.delta_chunks.specs.declared.Chunk.{Chunk}
-use Rattle.definitions.specs.Receiver.{Receiver, Receives, Taken, leaves}
+use Rattle.definitions.specs.Receiver.{Receives}
 use Rattle.format.specs.Numbers.{number}
 use Rattle.format.specs.declared.Error.{Error}
 use Rattle.gamenet_snap.specs.Numbers.{numbers}
@@ -23,8 +23,9 @@ use Rattle.receiver.specs.declared.checked.Ticks.{Ticks}
 use Rattle.receiver.specs.declared.Received.{Received}
 use Rattle.receiver.specs.declared.Received.the-variants as received
 use Rattle.boundary.specs.Boundary.{row, status, warningsOf, output}
-use Rattle.boundary_states.specs.Rows.{heldReceiver}
-use Rattle.capi_receiver.specs.Held.{kindOf, ticksOr, lengthOr, kindOfNumbers, rowOf, kindOfMessage, numbersOr, bytesIn}
+use Rattle.boundary_states.specs.Rows.{receiverTicks, receiverCounts}
+use Rattle.capi_receiver.specs.Held.{ticksAfter, countsAfter, kindOf, ticksOr, lengthOr, kindOfNumbers, rowOf, kindOfMessage, numbersOr, bytesIn}
+use Rattle.capi_receiver.proofs.Numbers.{not-zero}
 
 -- ---- the numbers of a message
 
@@ -90,19 +91,25 @@ zero-tells a r kind₀ kind row₀ row′ len₀ len e t = rw e at t
 
 -- ---- a call on a receiver
 
--- a call that is refused leaves the receiver
-pub kept : (r rc : Receiver) (area second ps js : List ℕ) (t : Outcome Taken) (a : Received) (w : Counts) → leaves r area second t ≡ record { answer = receivedWith a w; receiver = rc; parts = ps; joined = js } → (n : ℕ) → ((v : Counts) → n ≡ status (receivedWith a v)) → (n ≡ 0 → ⊥) → r ≡ rc
-unfolding leaves
-kept r rc area second ps js (ok t v) a w e n p f = absurd (f (p w ∙ sym (ap (λ (o : Receives). status (o .answer)) e)))
-kept r rc area second ps js (err k v) a w e n p f = ap (λ (o : Receives). o .receiver) e
+-- the rows of the ticks before and after a call that answered a
+abbrev pub Rows : Ticks → Received → Counts → (ticks₀ : List ℤ) (counts₀ : List ℕ) (ticks : List ℤ) (counts : List ℕ) → Type 0
+Rows t a w ticks₀ counts₀ ticks counts =
+    (ticks ≡ output (λ _. receiverTicks (receiverWith t [])) ticks₀ (receivedWith a w))
+    × (counts ≡ output (λ _. receiverCounts (receiverWith t [])) counts₀ (receivedWith a w))
 
--- its ticks stay, and so do the lengths
-pub same-lengths : (t : Ticks) (ticks : List ℤ) (counts lengths lengths' : List ℕ) → heldReceiver ticks counts lengths ≡ receiverWith t lengths' → lengths' ≡ lengths
-same-lengths t ticks counts lengths lengths' e = sym (ap (λ (r : Receiver). r .parts) e)
+-- a call that is refused leaves them
+pub rows-left : (t : Ticks) (a : Received) (w : Counts) (ticks : List ℤ) (counts : List ℕ) (n : ℕ) → n ≡ status (receivedWith a w) → (n ≡ 0 → ⊥) → Rows t a w ticks counts ticks counts
+rows-left t received.NotYet w ticks counts n p f = absurd (f p)
+rows-left t (received.Delta x d k c) w ticks counts n p f = absurd (f p)
+rows-left t (received.Empty x d) w ticks counts n p f = absurd (f p)
+rows-left t (received.Refused e) w ticks counts n p f = (refl, refl)
 
-pub still-held : (t : Ticks) (ticks : List ℤ) (counts lengths lengths' : List ℕ) → heldReceiver ticks counts lengths ≡ receiverWith t lengths' → heldReceiver ticks counts lengths' ≡ receiverWith t lengths'
-still-held t ticks counts lengths lengths' e =
-    ap (heldReceiver ticks counts) (same-lengths t ticks counts lengths lengths' e) ∙ e
+-- any other writes those of the ticks that it leaves
+pub rows-written : (t : Ticks) (a : Received) (w : Counts) (ticks₀ ticks : List ℤ) (counts₀ counts : List ℕ) → 0 ≡ status (receivedWith a w) → (ticks ≡ receiverTicks (receiverWith t [])) × (counts ≡ receiverCounts (receiverWith t [])) → Rows t a w ticks₀ counts₀ ticks counts
+rows-written t received.NotYet w ticks₀ ticks counts₀ counts p h = h
+rows-written t (received.Delta x d k c) w ticks₀ ticks counts₀ counts p h = h
+rows-written t (received.Empty x d) w ticks₀ ticks counts₀ counts p h = h
+rows-written t (received.Refused e) w ticks₀ ticks counts₀ counts p h = absurd (not-zero e p)
 
 -- the warnings beside an answer
 warned : (a : Received) (w : Counts) → warningsOf (receivedWith a w) ≡ w
@@ -112,18 +119,18 @@ warned (received.Empty t d) w = refl
 warned (received.Refused x) w = refl
 
 -- what a call leaves, with what its rows hold
-pub taken : (o : Receives) (a : Received) (w : Counts) {rc : Receiver} {ps js : List ℕ} → o ≡ record { answer = receivedWith a w; receiver = rc; parts = ps; joined = js } → (r kind₀ kind : ℕ) (row₀ row′ : List ℤ) (len₀ len : ℕ) (held : Receiver) (ws : List ℕ) (Left : Type 0) → Tells a r kind₀ kind row₀ row′ len₀ len → held ≡ rc → ws ≡ row w → Left → (r ≡ status (o .answer)) × ((held ≡ o .receiver) × (Left × ((ps ≡ o .parts) × ((js ≡ o .joined) × ((kind ≡ output kindOf kind₀ (o .answer)) × ((row′ ≡ output (ticksOr row₀) row₀ (o .answer)) × ((len ≡ output (lengthOr len₀) len₀ (o .answer)) × (ws ≡ row (warningsOf (o .answer))))))))))
-taken o a w e r kind₀ kind row₀ row′ len₀ len held ws Left t h p f =
-    rw (e, warned a w) (t .0 w, (h, (f, (refl, (refl, (t .1 .0 w, (t .1 .1 .0 w, (t .1 .1 .1 w, p))))))))
+pub taken : (o : Receives) (a : Received) (w : Counts) (x : Ticks) {lengths ps js : List ℕ} → o ≡ record { answer = receivedWith a w; receiver = receiverWith x lengths; parts = ps; joined = js } → (r kind₀ kind : ℕ) (row₀ row′ : List ℤ) (len₀ len : ℕ) (ticks₀ ticks : List ℤ) (counts₀ counts ws : List ℕ) → Tells a r kind₀ kind row₀ row′ len₀ len → Rows x a w ticks₀ counts₀ ticks counts → ws ≡ row w → (r ≡ status (o .answer)) × ((ticks ≡ ticksAfter ticks₀ o) × ((counts ≡ countsAfter counts₀ o) × ((lengths ≡ o .receiver .parts) × ((ps ≡ o .parts) × ((js ≡ o .joined) × ((kind ≡ output kindOf kind₀ (o .answer)) × ((row′ ≡ output (ticksOr row₀) row₀ (o .answer)) × ((len ≡ output (lengthOr len₀) len₀ (o .answer)) × (ws ≡ row (warningsOf (o .answer)))))))))))
+taken o a w x e r kind₀ kind row₀ row′ len₀ len ticks₀ ticks counts₀ counts ws t h p =
+    rw (e, warned a w) (t .0 w, (h .0, (h .1, (refl, (refl, (refl, (t .1 .0 w, (t .1 .1 .0 w, (t .1 .1 .1 w, p)))))))))
 
 -- the same without the first part area
-pub taken-single : (o : Receives) (a : Received) (w : Counts) {rc : Receiver} {ps js : List ℕ} → o ≡ record { answer = receivedWith a w; receiver = rc; parts = ps; joined = js } → (r kind₀ kind : ℕ) (row₀ row′ : List ℤ) (len₀ len : ℕ) (held : Receiver) (ws : List ℕ) (Left : Type 0) → Tells a r kind₀ kind row₀ row′ len₀ len → held ≡ rc → ws ≡ row w → Left → (r ≡ status (o .answer)) × ((held ≡ o .receiver) × (Left × ((js ≡ o .joined) × ((kind ≡ output kindOf kind₀ (o .answer)) × ((row′ ≡ output (ticksOr row₀) row₀ (o .answer)) × ((len ≡ output (lengthOr len₀) len₀ (o .answer)) × (ws ≡ row (warningsOf (o .answer)))))))))
-taken-single o a w e r kind₀ kind row₀ row′ len₀ len held ws Left t h p f =
-    let l = taken o a w e r kind₀ kind row₀ row′ len₀ len held ws Left t h p f in
-    (l .0, (l .1 .0, (l .1 .1 .0, l .1 .1 .1 .1)))
+pub taken-single : (o : Receives) (a : Received) (w : Counts) (x : Ticks) {lengths ps js : List ℕ} → o ≡ record { answer = receivedWith a w; receiver = receiverWith x lengths; parts = ps; joined = js } → (r kind₀ kind : ℕ) (row₀ row′ : List ℤ) (len₀ len : ℕ) (ticks₀ ticks : List ℤ) (counts₀ counts ws : List ℕ) → Tells a r kind₀ kind row₀ row′ len₀ len → Rows x a w ticks₀ counts₀ ticks counts → ws ≡ row w → (r ≡ status (o .answer)) × ((ticks ≡ ticksAfter ticks₀ o) × ((counts ≡ countsAfter counts₀ o) × ((lengths ≡ o .receiver .parts) × ((js ≡ o .joined) × ((kind ≡ output kindOf kind₀ (o .answer)) × ((row′ ≡ output (ticksOr row₀) row₀ (o .answer)) × ((len ≡ output (lengthOr len₀) len₀ (o .answer)) × (ws ≡ row (warningsOf (o .answer))))))))))
+taken-single o a w x e r kind₀ kind row₀ row′ len₀ len ticks₀ ticks counts₀ counts ws t h p =
+    let l = taken o a w x e r kind₀ kind row₀ row′ len₀ len ticks₀ ticks counts₀ counts ws t h p in
+    (l .0, (l .1 .0, (l .1 .1 .0, (l .1 .1 .1 .0, l .1 .1 .1 .1 .1))))
 
 -- the same without any part area
-pub taken-empty : (o : Receives) (a : Received) (w : Counts) {rc : Receiver} {ps js : List ℕ} → o ≡ record { answer = receivedWith a w; receiver = rc; parts = ps; joined = js } → (r kind₀ kind : ℕ) (row₀ row′ : List ℤ) (len₀ len : ℕ) (held : Receiver) (ws : List ℕ) (Left : Type 0) → Tells a r kind₀ kind row₀ row′ len₀ len → held ≡ rc → ws ≡ row w → Left → (r ≡ status (o .answer)) × ((held ≡ o .receiver) × (Left × ((kind ≡ output kindOf kind₀ (o .answer)) × ((row′ ≡ output (ticksOr row₀) row₀ (o .answer)) × ((len ≡ output (lengthOr len₀) len₀ (o .answer)) × (ws ≡ row (warningsOf (o .answer))))))))
-taken-empty o a w e r kind₀ kind row₀ row′ len₀ len held ws Left t h p f =
-    let l = taken o a w e r kind₀ kind row₀ row′ len₀ len held ws Left t h p f in
-    (l .0, (l .1 .0, (l .1 .1 .0, l .1 .1 .1 .1 .1)))
+pub taken-empty : (o : Receives) (a : Received) (w : Counts) (x : Ticks) {lengths ps js : List ℕ} → o ≡ record { answer = receivedWith a w; receiver = receiverWith x lengths; parts = ps; joined = js } → (r kind₀ kind : ℕ) (row₀ row′ : List ℤ) (len₀ len : ℕ) (ticks₀ ticks : List ℤ) (counts₀ counts ws : List ℕ) → Tells a r kind₀ kind row₀ row′ len₀ len → Rows x a w ticks₀ counts₀ ticks counts → ws ≡ row w → (r ≡ status (o .answer)) × ((ticks ≡ ticksAfter ticks₀ o) × ((counts ≡ countsAfter counts₀ o) × ((lengths ≡ o .receiver .parts) × ((kind ≡ output kindOf kind₀ (o .answer)) × ((row′ ≡ output (ticksOr row₀) row₀ (o .answer)) × ((len ≡ output (lengthOr len₀) len₀ (o .answer)) × (ws ≡ row (warningsOf (o .answer)))))))))
+taken-empty o a w x e r kind₀ kind row₀ row′ len₀ len ticks₀ ticks counts₀ counts ws t h p =
+    let l = taken o a w x e r kind₀ kind row₀ row′ len₀ len ticks₀ ticks counts₀ counts ws t h p in
+    (l .0, (l .1 .0, (l .1 .1 .0, (l .1 .1 .1 .0, l .1 .1 .1 .1 .1 .1))))

@@ -1,2 +1,3 @@
 -- What the outputs hold, from a call that is known. Assumes nothing.
+pub mod Numbers
 pub mod Calls

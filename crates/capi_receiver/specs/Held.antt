@@ -7,6 +7,17 @@ use lib.ListN.{length}
 use Rattle.definitions.specs.Messages as Messages
 use Rattle.definitions.specs.Messages.{Message}
 use Rattle.definitions.specs.Receiver as Receiver
+use Rattle.boundary.specs.Boundary.{output}
+use Rattle.boundary_states.specs.Rows.{receiverTicks, receiverCounts}
+
+-- ---- the receiver's rows
+
+-- the rows of its ticks after a call: the receiver's, or what stood there where the call was refused
+abbrev pub ticksAfter : List ℤ → Receiver.Receives → List ℤ
+ticksAfter before o = output (λ _. receiverTicks (o .receiver)) before (o .answer)
+
+abbrev pub countsAfter : List ℕ → Receiver.Receives → List ℕ
+countsAfter before o = output (λ _. receiverCounts (o .receiver)) before (o .answer)
 
 -- ---- a delta that was received
 

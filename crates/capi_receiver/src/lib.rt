@@ -7,9 +7,9 @@ ghost use Rattle.definitions.specs.Receiver.{freshReceiver, snapCall, snapSingl
 ghost use Rattle.receiver.specs.Answers.{receivedWith};
 ghost use Rattle.boundary.specs.Boundary as Boundary;
 ghost use Rattle.boundary.specs.Boundary.{status, warningsOf, output};
-ghost use Rattle.boundary_states.specs.Rows.{heldReceiver};
+ghost use Rattle.boundary_states.specs.Rows.{receiverTicks, receiverCounts, heldReceiver};
 ghost use Rattle.gamenet_snap.specs.Numbers as gamenet;
-ghost use Rattle.capi_receiver.specs.Held.{kindOf, ticksOr, lengthOr, kindOfNumbers, rowOf, kindOfMessage, numbersOr, bytesIn};
+ghost use Rattle.capi_receiver.specs.Held.{ticksAfter, countsAfter, kindOf, ticksOr, lengthOr, kindOfNumbers, rowOf, kindOfMessage, numbersOr, bytesIn};
 ghost use Rattle.definitions.specs.Warnings.{Counts};
 use boundary::checked::row;
 use boundary_states::checked::load_receiver;
@@ -147,7 +147,9 @@ pub extern "C" fn cef_receiver_new(
     counts: &mut [u32; 3],
     lengths: &mut [u16; 32],
 )
-    ensures { λ _. ⌜ heldReceiver (now (ticks .exit)) (now (counts .exit)) (now (lengths .exit)) ≡ freshReceiver ⌝ }
+    ensures { λ _. ⌜ now (ticks .exit) ≡ receiverTicks freshReceiver ⌝ }
+    ensures { λ _. ⌜ now (counts .exit) ≡ receiverCounts freshReceiver ⌝ }
+    ensures { λ _. ⌜ now (lengths .exit) ≡ freshReceiver .parts ⌝ }
 {
     write_receiver(DeltaReceiver::new(), ticks, counts, lengths);
 }
@@ -159,7 +161,9 @@ pub extern "C" fn cef_receiver_reset(
     counts: &mut [u32; 3],
     lengths: &mut [u16; 32],
 )
-    ensures { λ _. ⌜ heldReceiver (now (ticks .exit)) (now (counts .exit)) (now (lengths .exit)) ≡ freshReceiver ⌝ }
+    ensures { λ _. ⌜ now (ticks .exit) ≡ receiverTicks freshReceiver ⌝ }
+    ensures { λ _. ⌜ now (counts .exit) ≡ receiverCounts freshReceiver ⌝ }
+    ensures { λ _. ⌜ now (lengths .exit) ≡ freshReceiver .parts ⌝ }
 {
     let r = load_receiver(ticks, counts, lengths);
     write_receiver(r.reset(), ticks, counts, lengths);
@@ -185,8 +189,9 @@ pub extern "C" fn cef_receiver_snap(
     warnings: &mut [usize; 13],
 ) -> u32
     ensures { λ r. ⌜ r ≡ status (snapCall (heldReceiver (now (ticks .entry)) (now (counts .entry)) (now (lengths .entry))) (record { tick = tick; deltaTick = «delta_tick»; numParts = «num_parts»; part = part; crc = crc }) (now («data» .entry)) (now (parts .entry)) (now (joined .entry)) .answer) ⌝ }
-    ensures { λ _. ⌜ heldReceiver (now (ticks .exit)) (now (counts .exit)) (now (lengths .exit)) ≡ snapCall (heldReceiver (now (ticks .entry)) (now (counts .entry)) (now (lengths .entry))) (record { tick = tick; deltaTick = «delta_tick»; numParts = «num_parts»; part = part; crc = crc }) (now («data» .entry)) (now (parts .entry)) (now (joined .entry)) .receiver ⌝ }
-    ensures { λ r. ⌜ ((r ≡ 0 → ⊥) → (now (ticks .exit) ≡ now (ticks .entry)) × ((now (counts .exit) ≡ now (counts .entry)) × (now (lengths .exit) ≡ now (lengths .entry)))) ⌝ }
+    ensures { λ _. ⌜ now (ticks .exit) ≡ ticksAfter (now (ticks .entry)) (snapCall (heldReceiver (now (ticks .entry)) (now (counts .entry)) (now (lengths .entry))) (record { tick = tick; deltaTick = «delta_tick»; numParts = «num_parts»; part = part; crc = crc }) (now («data» .entry)) (now (parts .entry)) (now (joined .entry))) ⌝ }
+    ensures { λ _. ⌜ now (counts .exit) ≡ countsAfter (now (counts .entry)) (snapCall (heldReceiver (now (ticks .entry)) (now (counts .entry)) (now (lengths .entry))) (record { tick = tick; deltaTick = «delta_tick»; numParts = «num_parts»; part = part; crc = crc }) (now («data» .entry)) (now (parts .entry)) (now (joined .entry))) ⌝ }
+    ensures { λ _. ⌜ now (lengths .exit) ≡ snapCall (heldReceiver (now (ticks .entry)) (now (counts .entry)) (now (lengths .entry))) (record { tick = tick; deltaTick = «delta_tick»; numParts = «num_parts»; part = part; crc = crc }) (now («data» .entry)) (now (parts .entry)) (now (joined .entry)) .receiver .parts ⌝ }
     ensures { λ _. ⌜ now (parts .exit) ≡ snapCall (heldReceiver (now (ticks .entry)) (now (counts .entry)) (now (lengths .entry))) (record { tick = tick; deltaTick = «delta_tick»; numParts = «num_parts»; part = part; crc = crc }) (now («data» .entry)) (now (parts .entry)) (now (joined .entry)) .parts ⌝ }
     ensures { λ _. ⌜ now (joined .exit) ≡ snapCall (heldReceiver (now (ticks .entry)) (now (counts .entry)) (now (lengths .entry))) (record { tick = tick; deltaTick = «delta_tick»; numParts = «num_parts»; part = part; crc = crc }) (now («data» .entry)) (now (parts .entry)) (now (joined .entry)) .joined ⌝ }
     ensures { λ _. ⌜ now (kind .exit) ≡ output kindOf (now (kind .entry)) (snapCall (heldReceiver (now (ticks .entry)) (now (counts .entry)) (now (lengths .entry))) (record { tick = tick; deltaTick = «delta_tick»; numParts = «num_parts»; part = part; crc = crc }) (now («data» .entry)) (now (parts .entry)) (now (joined .entry)) .answer) ⌝ }
@@ -230,8 +235,9 @@ pub extern "C" fn cef_receiver_snap_single(
     warnings: &mut [usize; 13],
 ) -> u32
     ensures { λ r. ⌜ r ≡ status (snapSingleCall (heldReceiver (now (ticks .entry)) (now (counts .entry)) (now (lengths .entry))) tick «delta_tick» crc (now («data» .entry)) [] (now (joined .entry)) .answer) ⌝ }
-    ensures { λ _. ⌜ heldReceiver (now (ticks .exit)) (now (counts .exit)) (now (lengths .exit)) ≡ snapSingleCall (heldReceiver (now (ticks .entry)) (now (counts .entry)) (now (lengths .entry))) tick «delta_tick» crc (now («data» .entry)) [] (now (joined .entry)) .receiver ⌝ }
-    ensures { λ r. ⌜ ((r ≡ 0 → ⊥) → (now (ticks .exit) ≡ now (ticks .entry)) × ((now (counts .exit) ≡ now (counts .entry)) × (now (lengths .exit) ≡ now (lengths .entry)))) ⌝ }
+    ensures { λ _. ⌜ now (ticks .exit) ≡ ticksAfter (now (ticks .entry)) (snapSingleCall (heldReceiver (now (ticks .entry)) (now (counts .entry)) (now (lengths .entry))) tick «delta_tick» crc (now («data» .entry)) [] (now (joined .entry))) ⌝ }
+    ensures { λ _. ⌜ now (counts .exit) ≡ countsAfter (now (counts .entry)) (snapSingleCall (heldReceiver (now (ticks .entry)) (now (counts .entry)) (now (lengths .entry))) tick «delta_tick» crc (now («data» .entry)) [] (now (joined .entry))) ⌝ }
+    ensures { λ _. ⌜ now (lengths .exit) ≡ snapSingleCall (heldReceiver (now (ticks .entry)) (now (counts .entry)) (now (lengths .entry))) tick «delta_tick» crc (now («data» .entry)) [] (now (joined .entry)) .receiver .parts ⌝ }
     ensures { λ _. ⌜ now (joined .exit) ≡ snapSingleCall (heldReceiver (now (ticks .entry)) (now (counts .entry)) (now (lengths .entry))) tick «delta_tick» crc (now («data» .entry)) [] (now (joined .entry)) .joined ⌝ }
     ensures { λ _. ⌜ now (kind .exit) ≡ output kindOf (now (kind .entry)) (snapSingleCall (heldReceiver (now (ticks .entry)) (now (counts .entry)) (now (lengths .entry))) tick «delta_tick» crc (now («data» .entry)) [] (now (joined .entry)) .answer) ⌝ }
     ensures { λ _. ⌜ now (received .exit) ≡ output (ticksOr (now (received .entry))) (now (received .entry)) (snapSingleCall (heldReceiver (now (ticks .entry)) (now (counts .entry)) (now (lengths .entry))) tick «delta_tick» crc (now («data» .entry)) [] (now (joined .entry)) .answer) ⌝ }
@@ -264,8 +270,9 @@ pub extern "C" fn cef_receiver_snap_empty(
     warnings: &mut [usize; 13],
 ) -> u32
     ensures { λ r. ⌜ r ≡ status (snapEmptyCall (heldReceiver (now (ticks .entry)) (now (counts .entry)) (now (lengths .entry))) tick «delta_tick» [] [] .answer) ⌝ }
-    ensures { λ _. ⌜ heldReceiver (now (ticks .exit)) (now (counts .exit)) (now (lengths .exit)) ≡ snapEmptyCall (heldReceiver (now (ticks .entry)) (now (counts .entry)) (now (lengths .entry))) tick «delta_tick» [] [] .receiver ⌝ }
-    ensures { λ r. ⌜ ((r ≡ 0 → ⊥) → (now (ticks .exit) ≡ now (ticks .entry)) × ((now (counts .exit) ≡ now (counts .entry)) × (now (lengths .exit) ≡ now (lengths .entry)))) ⌝ }
+    ensures { λ _. ⌜ now (ticks .exit) ≡ ticksAfter (now (ticks .entry)) (snapEmptyCall (heldReceiver (now (ticks .entry)) (now (counts .entry)) (now (lengths .entry))) tick «delta_tick» [] []) ⌝ }
+    ensures { λ _. ⌜ now (counts .exit) ≡ countsAfter (now (counts .entry)) (snapEmptyCall (heldReceiver (now (ticks .entry)) (now (counts .entry)) (now (lengths .entry))) tick «delta_tick» [] []) ⌝ }
+    ensures { λ _. ⌜ now (lengths .exit) ≡ snapEmptyCall (heldReceiver (now (ticks .entry)) (now (counts .entry)) (now (lengths .entry))) tick «delta_tick» [] [] .receiver .parts ⌝ }
     ensures { λ _. ⌜ now (kind .exit) ≡ output kindOf (now (kind .entry)) (snapEmptyCall (heldReceiver (now (ticks .entry)) (now (counts .entry)) (now (lengths .entry))) tick «delta_tick» [] [] .answer) ⌝ }
     ensures { λ _. ⌜ now (received .exit) ≡ output (ticksOr (now (received .entry))) (now (received .entry)) (snapEmptyCall (heldReceiver (now (ticks .entry)) (now (counts .entry)) (now (lengths .entry))) tick «delta_tick» [] [] .answer) ⌝ }
     ensures { λ _. ⌜ now (len .exit) ≡ output (lengthOr (now (len .entry))) (now (len .entry)) (snapEmptyCall (heldReceiver (now (ticks .entry)) (now (counts .entry)) (now (lengths .entry))) tick «delta_tick» [] [] .answer) ⌝ }

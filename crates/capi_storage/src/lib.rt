@@ -6,7 +6,7 @@ ghost use Rattle.definitions.specs.Warnings.{Counts};
 ghost use Rattle.definitions.specs.Storage.{beside, freshStorage};
 ghost use Rattle.definitions.specs.StorageCalls.{addDeltaCall, resetCall, setDeltaTickCall, addSnapCall, tickCall, tableCall};
 ghost use Rattle.boundary.specs.Boundary.{status, output, partInto, keyOr, ended, given};
-ghost use Rattle.boundary_states.specs.Rows.{heldStore};
+ghost use Rattle.boundary_states.specs.Rows.{storeTicks, storeCounts, heldStore};
 ghost use Rattle.storage.specs.Answers.{setWith, addedIn};
 ghost use Rattle.storage.specs.Taking.{takenWith};
 ghost use Rattle.capi_storage.specs.Told.{Told, ToldAdded, Names, clashOr};
@@ -25,7 +25,8 @@ use storage::Taken;
 // A store without tables.
 #[no_mangle]
 pub extern "C" fn cef_storage_new(ticks: &mut [i32; 2], counts: &mut [u32; 3])
-    ensures { λ _. ⌜ heldStore (now (ticks .exit)) (now (counts .exit)) ≡ beside freshStorage ⌝ }
+    ensures { λ _. ⌜ now (ticks .exit) ≡ storeTicks (beside freshStorage) ⌝ }
+    ensures { λ _. ⌜ now (counts .exit) ≡ storeCounts (beside freshStorage) ⌝ }
 {
     write_storage(Storage::new(), ticks, counts);
 }
@@ -33,7 +34,8 @@ pub extern "C" fn cef_storage_new(ticks: &mut [i32; 2], counts: &mut [u32; 3])
 // Empties the store and its area, whatever it held; the base tick stays.
 #[no_mangle]
 pub extern "C" fn cef_storage_reset(ticks: &mut [i32; 2], counts: &mut [u32; 3], area: &mut [i32])
-    ensures { λ _. ⌜ heldStore (now (ticks .exit)) (now (counts .exit)) ≡ resetCall (heldStore (now (ticks .entry)) (now (counts .entry))) (now (area .entry)) .store ⌝ }
+    ensures { λ _. ⌜ now (ticks .exit) ≡ storeTicks (resetCall (heldStore (now (ticks .entry)) (now (counts .entry))) (now (area .entry)) .store) ⌝ }
+    ensures { λ _. ⌜ now (counts .exit) ≡ storeCounts (resetCall (heldStore (now (ticks .entry)) (now (counts .entry))) (now (area .entry)) .store) ⌝ }
     ensures { λ _. ⌜ now (area .exit) ≡ resetCall (heldStore (now (ticks .entry)) (now (counts .entry))) (now (area .entry)) .area ⌝ }
 {
     let s = load_storage(ticks, counts);

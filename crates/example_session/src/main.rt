@@ -5,6 +5,7 @@ use delta_chunks::chunk_data;
 use delta_chunks::chunk_numbers;
 use delta_chunks::num_chunks;
 use format::Error;
+use format::OptionTick;
 use format::Stored;
 use format::Warnings;
 use gamenet_snap::SnapMsg;
@@ -27,7 +28,6 @@ use snap::TypeId;
 use storage::Added;
 use storage::Set;
 use storage::Storage;
-use storage::Tick;
 
 // ---- numbers that look like chance, and are the same in every run
 
@@ -876,9 +876,10 @@ fn build(table: &mut [i32; 16384], seed: u64) -> u64 {
 
 // The table of the base again, where one is set; whether that was so.
 fn repeat(s: Storage, area: &[i32], table: &mut [i32]) -> bool {
-    if !s.has_delta {
+    let base = s.delta_tick();
+    let OptionTick::Some(_) = base else {
         return false;
-    }
+    };
     let count = s.count;
     if count == 0 {
         return false;
@@ -1018,8 +1019,8 @@ fn acknowledged(h: Link) -> i32 {
     let manager = printer.manager;
     let tick = manager.ack_tick();
     match tick {
-        Tick::At(t) => t,
-        Tick::None => -1,
+        OptionTick::Some(t) => t,
+        OptionTick::None => -1,
     }
 }
 

@@ -92,6 +92,12 @@ pub fn error_number(e: Error) -> u32
     }
 }
 
+// A tick, where there is one.
+pub enum OptionTick {
+    Some(i32),
+    None,
+}
+
 // How often each kind of warning was counted.
 pub struct Warnings {
     // The packer's.

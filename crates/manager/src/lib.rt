@@ -10,16 +10,16 @@ ghost use Rattle.definitions.specs.Receiver.{freshReceiver};
 ghost use Rattle.definitions.specs.Storage.{beside, freshStorage};
 ghost use Rattle.definitions.specs.StorageCalls.{resetCall};
 ghost use Rattle.definitions.specs.Manager.{messageCall};
+ghost use Rattle.format.specs.Ticks.{tickOf};
 ghost use Rattle.receiver.specs.States.{receiverOf};
 ghost use Rattle.storage.specs.States.{storeOf};
-ghost use Rattle.storage.specs.Answers.{tickOf};
 ghost use Rattle.manager.specs.Answers.{handlings};
 use format::Error;
+use format::OptionTick;
 use format::Warnings;
 use gamenet_snap::SnapMsg;
 use receiver::DeltaReceiver;
 use storage::Storage;
-use storage::Tick;
 
 pub mod checked;
 
@@ -63,7 +63,7 @@ impl Manager {
     }
 
     // The tick acknowledged last.
-    pub fn ack_tick(self) -> Tick
+    pub fn ack_tick(self) -> OptionTick
         ensures { λ r. ⌜ tickOf r ≡ storeOf (self .storage) .ackTick ⌝ }
     {
         self.storage.ack_tick()

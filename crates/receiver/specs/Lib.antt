@@ -2,3 +2,4 @@
 pub mod States
 pub mod Answers
 pub mod Moves
+pub mod Settled

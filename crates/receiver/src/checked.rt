@@ -2,31 +2,30 @@
 ghost use mathlib.Core.Path.{_≡_};
 ghost use mathlib.Core.Bool.{Bool, true, cond};
 ghost use mathlib.Core.List.{List};
-ghost use mathlib.Core.Option.{some, none};
+ghost use mathlib.Core.Option.{none};
 ghost use Prim.Native.Nat.{ℕ, _+_, _*_, _<_, _≤_};
 ghost use lib.ListN.{length, take, set};
 ghost use Rattle.definitions.specs.Tables as Tables;
 ghost use Rattle.definitions.specs.Areas.{lay, layAt};
 ghost use Rattle.definitions.specs.Receiver as Receiver;
 ghost use Rattle.format.specs.Numbers.{number};
+ghost use Rattle.format.specs.Ticks.{tickOf};
 ghost use Rattle.format.specs.Totals.{counts};
-ghost use Rattle.receiver.specs.States.{ticksOf, receiverOf, receiverWith, previousIn, currentIn, openedWith, partsFor, partOf, Opens};
+ghost use Rattle.receiver.specs.States.{ticksOf, receiverOf, receiverWith, currentIn, openedWith, partsFor, partOf, Opens};
 ghost use Rattle.receiver.specs.Answers.{flagged, refusing, settled, taking, answered, taken, judgedAs, Fits};
+use super::Current;
+use super::CurrentDelta;
 use super::DeltaReceiver;
 use super::Received;
 use super::Receiving;
 use format::Error;
+use format::OptionTick;
 use format::Warnings;
 
 // What a receiver holds beside the lengths of its parts.
 pub struct Ticks {
-    pub has_previous: bool,
-    pub previous_tick: i32,
-    pub has_current: bool,
-    pub tick: i32,
-    pub delta_tick: i32,
-    pub num_parts: u32,
-    pub crc: i32,
+    pub previous_tick: OptionTick,
+    pub current: Current,
 }
 
 // What a message comes to where the lengths are changed in place.
@@ -83,14 +82,11 @@ pub fn warnings(duplicate: bool, differing: bool) -> Warnings
 pub fn ticks_of(r: DeltaReceiver) -> Ticks
     ensures { λ t. ⌜ t ≡ ticksOf r ⌝ }
 {
+    let previous_tick = r.previous_tick;
+    let current = r.current;
     Ticks {
-        has_previous: r.has_previous,
-        previous_tick: r.previous_tick,
-        has_current: r.has_current,
-        tick: r.tick,
-        delta_tick: r.delta_tick,
-        num_parts: r.num_parts,
-        crc: r.crc,
+        previous_tick,
+        current,
     }
 }
 
@@ -98,14 +94,11 @@ pub fn ticks_of(r: DeltaReceiver) -> Ticks
 pub fn with_lengths(t: Ticks, parts: [u16; 32]) -> DeltaReceiver
     ensures { λ r. ⌜ receiverOf r ≡ receiverWith t parts ⌝ }
 {
+    let previous_tick = t.previous_tick;
+    let current = t.current;
     DeltaReceiver {
-        has_previous: t.has_previous,
-        previous_tick: t.previous_tick,
-        has_current: t.has_current,
-        tick: t.tick,
-        delta_tick: t.delta_tick,
-        num_parts: t.num_parts,
-        crc: t.crc,
+        previous_tick,
+        current,
         parts,
     }
 }
@@ -137,17 +130,12 @@ pub fn refused(error: Error, r: Ticks) -> Taking
 }
 
 // The ticks of a receiver without an unfinished one.
-pub fn without_current(has_previous: bool, previous_tick: i32) -> Ticks
-    ensures { λ r. ⌜ ((lengths : List ℕ) → receiverWith r lengths ≡ record { previousTick = cond «has_previous» (some «previous_tick») none; current = none; parts = lengths }) ⌝ }
+pub fn without_current(previous_tick: OptionTick) -> Ticks
+    ensures { λ r. ⌜ ((lengths : List ℕ) → receiverWith r lengths ≡ record { previousTick = tickOf «previous_tick»; current = none; parts = lengths }) ⌝ }
 {
     Ticks {
-        has_previous,
         previous_tick,
-        has_current: false,
-        tick: 0,
-        delta_tick: 0,
-        num_parts: 0,
-        crc: 0,
+        current: Current::None,
     }
 }
 
@@ -168,26 +156,28 @@ pub fn count_in(lengths: &[u16]) -> usize
 }
 
 // Whether a tick is above the last finished.
-pub fn above_previous(r: Ticks, tick: i32) -> bool
-    ensures { λ b. ⌜ b ≡ Receiver.abovePrevious (previousIn r) tick ⌝ }
+pub fn above_previous(previous: OptionTick, tick: i32) -> bool
+    ensures { λ b. ⌜ b ≡ Receiver.abovePrevious (tickOf previous) tick ⌝ }
 {
-    if r.has_previous {
-        return ints::signed_less(r.previous_tick, tick);
-    }
-    true
+    let OptionTick::Some(finished) = previous else {
+        return true;
+    };
+    ints::signed_less(finished, tick)
 }
 
 // Whether a receiver of which n parts are in is in form.
 pub fn ticks_form(r: Ticks, n: usize) -> bool
     ensures { λ b. ⌜ ((lengths : List ℕ) → n ≡ Receiver.countIn lengths 32 → b ≡ Receiver.receiverForm (receiverWith r lengths)) ⌝ }
 {
-    if !r.has_current {
+    let current = r.current;
+    let Current::Some(c) = current else {
         return n == 0;
-    }
-    if !above_previous(r, r.tick) {
+    };
+    let previous = r.previous_tick;
+    if !above_previous(previous, c.tick) {
         return false;
     }
-    let k = r.num_parts as usize;
+    let k = c.num_parts as usize;
     if DeltaReceiver::MAX_PARTS < k {
         return false;
     }
@@ -210,36 +200,33 @@ pub fn in_form(r: DeltaReceiver) -> bool
 pub fn is_old(r: Ticks, tick: i32) -> bool
     ensures { λ b. ⌜ ((lengths : List ℕ) → b ≡ Receiver.isOld (receiverWith r lengths) tick) ⌝ }
 {
-    if r.has_current {
-        return ints::signed_less(tick, r.tick);
-    }
-    !above_previous(r, tick)
+    let current = r.current;
+    let Current::Some(c) = current else {
+        let previous = r.previous_tick;
+        return !above_previous(previous, tick);
+    };
+    ints::signed_less(tick, c.tick)
 }
 
 // Whether a tick is the unfinished one.
 pub fn is_current(r: Ticks, tick: i32) -> bool
     ensures { λ b. ⌜ ((lengths : List ℕ) → b ≡ Receiver.isCurrent (receiverWith r lengths) tick) ⌝ }
 {
-    if r.has_current {
-        return same(r.tick, tick);
-    }
-    false
+    let current = r.current;
+    let Current::Some(c) = current else {
+        return false;
+    };
+    same(c.tick, tick)
 }
 
-// The ticks with the part's as the unfinished one; a newer tick drops an older one.
-pub fn opened(r: Ticks, m: Part) -> Ticks
+// What a part says where it is the first one of its tick.
+pub fn first_says(m: Part) -> CurrentDelta
     requires { ⌜ Tables.num (m .«num_parts») ≤ 32 ⌝ }
-    ensures { λ o. ⌜ Opens r m o ⌝ }
+    ensures { λ o. ⌜ currentIn o ≡ Receiver.firstSays (partOf m) ⌝ }
 {
-    if is_current(r, m.tick) {
-        return r;
-    }
     let delta_tick = ints::wrapping_sub(m.tick, m.delta_tick);
     let num_parts = ints::num(m.num_parts) as u32;
-    Ticks {
-        has_previous: r.has_previous,
-        previous_tick: r.previous_tick,
-        has_current: true,
+    CurrentDelta {
         tick: m.tick,
         delta_tick,
         num_parts,
@@ -247,8 +234,23 @@ pub fn opened(r: Ticks, m: Part) -> Ticks
     }
 }
 
+// The unfinished tick that a part belongs to: the part's, where it is a new one.
+pub fn opened(r: Ticks, m: Part) -> CurrentDelta
+    requires { ⌜ Tables.num (m .«num_parts») ≤ 32 ⌝ }
+    ensures { λ o. ⌜ Opens r m o ⌝ }
+{
+    let current = r.current;
+    let Current::Some(c) = current else {
+        return first_says(m);
+    };
+    if same(c.tick, m.tick) {
+        return c;
+    }
+    first_says(m)
+}
+
 // Whether a part's count, sum or distance is not what the first one said.
-pub fn differs(o: Ticks, m: Part) -> bool
+pub fn differs(o: CurrentDelta, m: Part) -> bool
     ensures { λ b. ⌜ b ≡ Receiver.differs (currentIn o) (partOf m) ⌝ }
 {
     if !same(m.delta_tick, o.delta_tick) {
@@ -350,22 +352,27 @@ pub fn join(lengths: &[u16], parts: &[u8], joined: &mut [u8]) -> usize
 
 // A part came in, so that n are: the tick is finished where it was the last one missing.
 pub fn put_part(
-    o: Ticks,
+    previous_tick: OptionTick,
+    o: CurrentDelta,
     n: usize,
     warnings: Warnings,
     lengths: &mut [u16; 32],
     parts: &[u8],
     joined: &mut [u8],
 ) -> Taking
-    requires { ⌜ (o .«has_current» ≡ true) × (n ≡ Receiver.countIn (now lengths) 32) × (28800 ≤ length (now parts)) × (28800 ≤ length (now joined)) ⌝ }
-    ensures { λ a. ⌜ settled (counts warnings) (Receiver.putPart (previousIn o) (openedWith o (now (lengths .entry))) (now (parts .entry)) (now (joined .entry))) ≡ taken a (now (lengths .exit)) (now (parts .entry)) (now (joined .exit)) ⌝ }
+    requires { ⌜ (n ≡ Receiver.countIn (now lengths) 32) × (28800 ≤ length (now parts)) × (28800 ≤ length (now joined)) ⌝ }
+    ensures { λ a. ⌜ settled (counts warnings) (Receiver.putPart (tickOf «previous_tick») (openedWith o (now (lengths .entry))) (now (parts .entry)) (now (joined .entry))) ≡ taken a (now (lengths .exit)) (now (parts .entry)) (now (joined .exit)) ⌝ }
 {
     let k = o.num_parts as usize;
     if n != k {
+        let ticks = Ticks {
+            previous_tick,
+            current: Current::Some(o),
+        };
         return Taking {
             answer: Received::NotYet,
             warnings,
-            ticks: o,
+            ticks,
         };
     }
     let len = join(lengths, parts, joined);
@@ -379,7 +386,7 @@ pub fn put_part(
     Taking {
         answer,
         warnings,
-        ticks: without_current(true, o.tick),
+        ticks: without_current(OptionTick::Some(o.tick)),
     }
 }
 
@@ -410,7 +417,9 @@ pub fn take(
     }
     put_length(current, lengths, p, data.len());
     put_bytes(parts, DeltaReceiver::PART_SIZE * p, data);
-    put_part(o, count_with(current, n), w, lengths, parts, joined)
+    let previous_tick = r.previous_tick;
+    let n = count_with(current, n);
+    put_part(previous_tick, o, n, w, lengths, parts, joined)
 }
 
 // What the receiver's form, the areas and the numbers of a part say of it, where n parts are in.

@@ -8,20 +8,30 @@ ghost use Rattle.receiver.specs.States.{receiverOf};
 ghost use Rattle.receiver.specs.Answers.{receivedWith};
 use checked::Part;
 use format::Error;
+use format::OptionTick;
 use format::Warnings;
 
 pub mod checked;
 pub mod whole;
 
-// The last finished tick and the unfinished one, where there are any; what the first part of the unfinished one said; and the length of each part, above 900 where it is not in.
-pub struct DeltaReceiver {
-    pub has_previous: bool,
-    pub previous_tick: i32,
-    pub has_current: bool,
+// What the first part of an unfinished tick said.
+pub struct CurrentDelta {
     pub tick: i32,
     pub delta_tick: i32,
     pub num_parts: u32,
     pub crc: i32,
+}
+
+// An unfinished tick, where there is one.
+pub enum Current {
+    Some(CurrentDelta),
+    None,
+}
+
+// The last finished tick and the unfinished one, where there are any, and the length of each part, above 900 where it is not in.
+pub struct DeltaReceiver {
+    pub previous_tick: OptionTick,
+    pub current: Current,
     pub parts: [u16; 32],
 }
 
@@ -62,15 +72,16 @@ impl DeltaReceiver {
     pub fn new() -> DeltaReceiver
         ensures { λ r. ⌜ receiverOf r ≡ freshReceiver ⌝ }
     {
-        let has_previous = false;
-        checked::with_lengths(checked::without_current(has_previous, 0), [901u16; 32])
+        let t = checked::without_current(OptionTick::None);
+        checked::with_lengths(t, [901u16; 32])
     }
 
     // Forgets both ticks.
     pub fn reset(self) -> DeltaReceiver
         ensures { λ r. ⌜ receiverOf r ≡ freshReceiver ⌝ }
     {
-        let t = checked::without_current(false, 0);
+        let previous_tick = OptionTick::None;
+        let t = checked::without_current(previous_tick);
         checked::with_lengths(t, [901u16; 32])
     }
 

@@ -11,6 +11,7 @@ use super::checked;
 use super::checked::Taking;
 use super::checked::Ticks;
 use format::Error;
+use format::OptionTick;
 
 // A single message, its bytes into joined; the lengths are changed in place.
 pub fn receive_single(
@@ -49,7 +50,7 @@ pub fn receive_single(
     Taking {
         answer,
         warnings,
-        ticks: checked::without_current(true, tick),
+        ticks: checked::without_current(OptionTick::Some(tick)),
     }
 }
 
@@ -75,6 +76,6 @@ pub fn receive_empty(r: Ticks, tick: i32, delta_tick: i32, lengths: &mut [u16; 3
     Taking {
         answer,
         warnings,
-        ticks: checked::without_current(true, tick),
+        ticks: checked::without_current(OptionTick::Some(tick)),
     }
 }

@@ -7,6 +7,7 @@
 //     l PLACE                                 the table at a place is looked at
 // An answer is the 13 counts of warnings, COUNT ACK, how many tables are held and the tick acknowledged or -, and then more, tick TICK, or refused NUMBER. Of a look it is TICK INT.., or end.
 use format::Error;
+use format::OptionTick;
 use format::Warnings;
 use libc::STDIN_FILENO;
 use libc::STDOUT_FILENO;
@@ -22,7 +23,6 @@ use replay_text::put_number;
 use replay_text::put_odd;
 use replay_text::word;
 use storage::HeldTick;
-use storage::Tick;
 
 // A manager, and how many ints its store's area and the delta area have.
 struct State {
@@ -44,10 +44,10 @@ fn put_next_int(out: &mut [u8], at: usize, n: i32) -> usize {
 }
 
 // A space and a tick, or a minus where there is none; the place after them.
-fn put_tick(out: &mut [u8], at: usize, tick: Tick) -> usize {
+fn put_tick(out: &mut [u8], at: usize, tick: OptionTick) -> usize {
     match tick {
-        Tick::At(n) => put_next_int(out, at, n),
-        Tick::None => put(out, at, b" -"),
+        OptionTick::Some(n) => put_next_int(out, at, n),
+        OptionTick::None => put(out, at, b" -"),
     }
 }
 

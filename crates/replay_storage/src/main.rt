@@ -7,6 +7,7 @@
 //     l PLACE                      the table at a place is looked at
 // An answer is UNKNOWN EXCESS WEIRD, three counts of warnings, COUNT ACK BASE, how many tables are held and the two ticks or -, and then done, tick TICK, delta BASE LEN INT.., refused NUMBER, or refused 10 KEY. Of a look it is TICK INT.., or end.
 use format::Error;
+use format::OptionTick;
 use format::Warnings;
 use libc::STDIN_FILENO;
 use libc::STDOUT_FILENO;
@@ -23,7 +24,6 @@ use storage::HeldTick;
 use storage::Set;
 use storage::Storage;
 use storage::Taken;
-use storage::Tick;
 
 // A store, and how many ints its area has.
 struct State {
@@ -52,10 +52,10 @@ fn put_next_int(out: &mut [u8], at: usize, n: i32) -> usize {
 }
 
 // A space and a tick, or a minus where there is none; the place after them.
-fn put_tick(out: &mut [u8], at: usize, tick: Tick) -> usize {
+fn put_tick(out: &mut [u8], at: usize, tick: OptionTick) -> usize {
     match tick {
-        Tick::At(n) => put_next_int(out, at, n),
-        Tick::None => put(out, at, b" -"),
+        OptionTick::Some(n) => put_next_int(out, at, n),
+        OptionTick::None => put(out, at, b" -"),
     }
 }
 

@@ -14,6 +14,7 @@ use Rattle.definitions.specs.Receiver.{same}
 use Rattle.definitions.specs.Storage as Store
 use Rattle.definitions.specs.StorageCalls as Calls
 use Rattle.store_area.specs.Held.{snapsIn, snapAt, noSnap, HeldStore}
+use Rattle.format.specs.declared.OptionTick.the-variants as tick
 use Rattle.storage.specs.States.{deltaOf, holdsIn}
 use Rattle.storage.specs.declared.Storage.{Storage}
 
@@ -118,10 +119,10 @@ reset-is s t a b e f = rw (e, f, cleared-zeros a)
 
 module _ (s : Storage) (x : Store.StoredSnap) (l : List Store.StoredSnap) where
   -- no base tick is set: the empty table
-  pub chosen-empty : s .«has_delta» ≡ false → Store.chosenBase (deltaOf s) x l ≡ noSnap
+  pub chosen-empty : s .«delta_tick» ≡ tick.None → Store.chosenBase (deltaOf s) x l ≡ noSnap
   chosen-empty e = rw e
 
-  module _ (n : ℕ) (e : s .«has_delta» ≡ true) (m : length l ≡ n) where
+  module _ (n : ℕ) {t : ℤ} (e : s .«delta_tick» ≡ tick.Some t) (m : length l ≡ n) where
     -- nothing is held: the table itself
     pub chosen-itself : n ≡ 0 → Store.chosenBase (deltaOf s) x l ≡ x
     chosen-itself z = rw e (none-held x l (m ∙ z))

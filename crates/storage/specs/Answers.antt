@@ -15,8 +15,6 @@ use Rattle.format.specs.Numbers.{number}
 use Rattle.format.specs.Totals.{counts}
 use Rattle.delta_making.specs.Answers.{Differing}
 use Rattle.storage.specs.States.{storeOf}
-use Rattle.storage.specs.declared.Tick.{Tick}
-use Rattle.storage.specs.declared.Tick.the-variants as tick
 use Rattle.storage.specs.declared.HeldTick.{HeldTick}
 use Rattle.storage.specs.declared.HeldTick.the-variants as heldAt
 use Rattle.storage.specs.declared.Set.{Set}
@@ -25,11 +23,6 @@ use Rattle.storage.specs.declared.Setting.{Setting}
 use Rattle.storage.specs.declared.Added.{Added}
 use Rattle.storage.specs.declared.Added.the-variants as added
 use Rattle.storage.specs.declared.Adding.{Adding}
-
--- a tick, if there is one
-abbrev pub tickOf : Tick → Option ℤ
-tickOf (tick.At t) = some t
-tickOf tick.None = none
 
 -- the tick of a held table
 abbrev pub heldTick : HeldTick → Outcome (Option ℤ)

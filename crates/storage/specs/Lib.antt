@@ -5,3 +5,4 @@ pub mod Answers
 pub mod Steps
 pub mod Fewer
 pub mod Taking
+pub mod Settled

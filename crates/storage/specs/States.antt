@@ -1,12 +1,12 @@
 -- What the store of the code holds. Assumes nothing.
 use mathlib.Core.Path.{_≡_}
-use mathlib.Core.Bool.{cond}
 use mathlib.Core.List.{List}
 use mathlib.Core.Option.{Option, some, none}
 use Prim.Native.Nat.{ℕ, _≤_}
 use lib.IntN.{ℤ}
 use lib.ListN.{length}
 use Rattle.definitions.specs.Storage as Store
+use Rattle.format.specs.Ticks.{tickOf}
 use Rattle.store_area.specs.Held.{snapsIn, HeldStore}
 use Rattle.store_area.specs.declared.checked.StoreForm.{StoreForm}
 use Rattle.store_area.specs.declared.checked.StoreForm.the-variants as form
@@ -14,11 +14,11 @@ use Rattle.storage.specs.declared.Storage.{Storage}
 
 -- the tick acknowledged last, if any
 abbrev pub ackOf : Storage → Option ℤ
-ackOf s = cond (s .«has_ack») (some (s .«ack_tick»)) none
+ackOf s = tickOf (s .«ack_tick»)
 
 -- the tick of the base that is set, if any
 abbrev pub deltaOf : Storage → Option ℤ
-deltaOf s = cond (s .«has_delta») (some (s .«delta_tick»)) none
+deltaOf s = tickOf (s .«delta_tick»)
 
 -- what stands beside the area
 abbrev pub storeOf : Storage → Store.Store

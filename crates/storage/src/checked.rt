@@ -39,6 +39,7 @@ use delta_form::checked::DeltaForm;
 use delta_making::Made;
 use delta_making::checked::create;
 use format::Error;
+use format::OptionTick;
 use format::Warnings;
 use store_area::checked::Left;
 use store_area::checked::StoreForm;
@@ -112,12 +113,11 @@ pub fn form(s: Storage, area: &[i32]) -> StoreForm
 pub fn with_delta(s: Storage, count: usize, tick: i32) -> Storage
     ensures { λ r. ⌜ storeOf r ≡ record { count = count; ackTick = ackOf s; deltaTick = some tick } ⌝ }
 {
+    let ack_tick = s.ack_tick;
     Storage {
         count,
-        has_ack: s.has_ack,
-        ack_tick: s.ack_tick,
-        has_delta: true,
-        delta_tick: tick,
+        ack_tick,
+        delta_tick: OptionTick::Some(tick),
     }
 }
 
@@ -125,12 +125,11 @@ pub fn with_delta(s: Storage, count: usize, tick: i32) -> Storage
 pub fn without_delta(s: Storage, count: usize) -> Storage
     ensures { λ r. ⌜ storeOf r ≡ record { count = count; ackTick = ackOf s; deltaTick = none } ⌝ }
 {
+    let ack_tick = s.ack_tick;
     Storage {
         count,
-        has_ack: s.has_ack,
-        ack_tick: s.ack_tick,
-        has_delta: false,
-        delta_tick: 0,
+        ack_tick,
+        delta_tick: OptionTick::None,
     }
 }
 
@@ -138,12 +137,12 @@ pub fn without_delta(s: Storage, count: usize) -> Storage
 pub fn with_count(s: Storage, count: usize) -> Storage
     ensures { λ r. ⌜ storeOf r ≡ record { count = count; ackTick = ackOf s; deltaTick = deltaOf s } ⌝ }
 {
+    let ack_tick = s.ack_tick;
+    let delta_tick = s.delta_tick;
     Storage {
         count,
-        has_ack: s.has_ack,
-        ack_tick: s.ack_tick,
-        has_delta: s.has_delta,
-        delta_tick: s.delta_tick,
+        ack_tick,
+        delta_tick,
     }
 }
 
@@ -218,10 +217,11 @@ pub fn make_delta(
     ensures { λ r. ⌜ ((tick : ℤ) → making room (now (delta .entry)) (createdInts (Store.chosenBase (deltaOf s) (record { tick = tick; snap = Tables.items (now (table .entry)) }) (snapsIn (s .count) (now (area .entry))) .snap) (Tables.items (now (table .entry)))) ≡ record { answer = madeInts r; out = now (delta .exit) }) ⌝ }
     ensures { λ r. ⌜ ((tick : ℤ) → Clash (Store.chosenBase (deltaOf s) (record { tick = tick; snap = Tables.items (now (table .entry)) }) (snapsIn (s .count) (now (area .entry))) .snap) (Tables.items (now (table .entry))) r) ⌝ }
 {
-    if !s.has_delta {
+    let delta_tick = s.delta_tick;
+    let OptionTick::Some(_) = delta_tick else {
         let empty = [0i32; 2];
         return make(&empty, table, nt, room, delta);
-    }
+    };
     if s.count == 0 {
         return make(table, table, nt, room, delta);
     }
@@ -234,9 +234,10 @@ pub fn base_tick(s: Storage, area: &[i32], tick: i32) -> i32
     requires { ⌜ HeldStore (now area) (s .count) ⌝ }
     ensures { λ r. ⌜ ((t : Tables.Table) → r ≡ Store.chosenBase (deltaOf s) (record { tick = tick; snap = t }) (snapsIn (s .count) (now (area .entry))) .tick) ⌝ }
 {
-    if !s.has_delta {
+    let delta_tick = s.delta_tick;
+    let OptionTick::Some(_) = delta_tick else {
         return -1;
-    }
+    };
     if s.count == 0 {
         return tick;
     }
@@ -428,12 +429,11 @@ pub fn stay(count: usize) -> usize
 pub fn with_ack(s: Storage, count: usize, tick: i32) -> Storage
     ensures { λ r. ⌜ storeOf r ≡ record { count = count; ackTick = some tick; deltaTick = deltaOf s } ⌝ }
 {
+    let delta_tick = s.delta_tick;
     Storage {
         count,
-        has_ack: true,
-        ack_tick: tick,
-        has_delta: s.has_delta,
-        delta_tick: s.delta_tick,
+        ack_tick: OptionTick::Some(tick),
+        delta_tick,
     }
 }
 
@@ -441,12 +441,11 @@ pub fn with_ack(s: Storage, count: usize, tick: i32) -> Storage
 pub fn without_ack(s: Storage, count: usize) -> Storage
     ensures { λ r. ⌜ storeOf r ≡ record { count = count; ackTick = none; deltaTick = deltaOf s } ⌝ }
 {
+    let delta_tick = s.delta_tick;
     Storage {
         count,
-        has_ack: false,
-        ack_tick: 0,
-        has_delta: s.has_delta,
-        delta_tick: s.delta_tick,
+        ack_tick: OptionTick::None,
+        delta_tick,
     }
 }
 

@@ -9,9 +9,11 @@ ghost use Rattle.definitions.specs.Storage as Store;
 ghost use Rattle.definitions.specs.StorageCalls.{addDeltaCall, resetCall, setDeltaTickCall, addSnapCall, tickCall, tableCall};
 ghost use Rattle.storage.specs.States.{storeOf};
 ghost use Rattle.storage.specs.Taking.{takings};
-ghost use Rattle.storage.specs.Answers.{tickOf, heldTick, settings, addings, Clashing};
+ghost use Rattle.format.specs.Ticks.{tickOf};
+ghost use Rattle.storage.specs.Answers.{heldTick, settings, addings, Clashing};
 use checked::Sent;
 use format::Error;
+use format::OptionTick;
 use format::Warnings;
 use store_area::checked::StoreForm;
 use table::checked::TableForm;
@@ -21,16 +23,8 @@ pub mod checked;
 // How many tables stand in a store's area, the tick acknowledged last and the tick of the base that is set, where there are any.
 pub struct Storage {
     pub count: usize,
-    pub has_ack: bool,
-    pub ack_tick: i32,
-    pub has_delta: bool,
-    pub delta_tick: i32,
-}
-
-// A tick, where there is one.
-pub enum Tick {
-    At(i32),
-    None,
+    pub ack_tick: OptionTick,
+    pub delta_tick: OptionTick,
 }
 
 // The tick of a held table, or that there are fewer tables.
@@ -89,10 +83,8 @@ impl Storage {
     {
         Storage {
             count: 0,
-            has_ack: false,
-            ack_tick: 0,
-            has_delta: false,
-            delta_tick: 0,
+            ack_tick: OptionTick::None,
+            delta_tick: OptionTick::None,
         }
     }
 
@@ -101,33 +93,23 @@ impl Storage {
         ensures { λ r. ⌜ resetCall (storeOf self) (now (area .entry)) ≡ record { answer = return tt; store = storeOf r; area = now (area .exit) } ⌝ }
     {
         ints::clear(area);
-        Storage {
-            count: 0,
-            has_ack: false,
-            ack_tick: 0,
-            has_delta: self.has_delta,
-            delta_tick: self.delta_tick,
-        }
+        checked::without_ack(self, 0)
     }
 
     // The tick acknowledged last.
-    pub fn ack_tick(self) -> Tick
+    pub fn ack_tick(self) -> OptionTick
         ensures { λ r. ⌜ tickOf r ≡ storeOf self .ackTick ⌝ }
     {
-        if self.has_ack {
-            return Tick::At(self.ack_tick);
-        }
-        Tick::None
+        let tick = self.ack_tick;
+        tick
     }
 
     // The tick of the base that is set.
-    pub fn delta_tick(self) -> Tick
+    pub fn delta_tick(self) -> OptionTick
         ensures { λ r. ⌜ tickOf r ≡ storeOf self .deltaTick ⌝ }
     {
-        if self.has_delta {
-            return Tick::At(self.delta_tick);
-        }
-        Tick::None
+        let tick = self.delta_tick;
+        tick
     }
 
     // The tick of the i-th table, the newest first.

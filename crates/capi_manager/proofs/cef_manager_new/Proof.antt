@@ -1,5 +1,5 @@
 -- `capi_manager::cef_manager_new` meets its contract: by what `new` and the rows promise. Assumes nothing.
-use mathlib.Core.Path.{_∙_}
+use Rattle.boundary_states.specs.Holding.{receiver-told, store-told}
 use Rattle.boundary_states.specs.Emptied.{fits-new}
 use borrow.Author.Needs.{needs}
 use Rattle.capi_manager.proofs.cef_manager_new.Statement.{statement}
@@ -16,7 +16,10 @@ write-storage-requires c κs = fits-new (c .before .before .before .before .befo
 
 returns : tie.Need-returns
 returns c =
-    (c .before .before .before .write-receiver .ensures ∙ c .before .before .before .before .before .before .before .new .ensures .0, c .write-storage .ensures ∙ c .before .before .before .before .before .before .before .new .ensures .1)
+    let n = c .before .before .before .before .before .before .before .new .ensures in
+    let r = receiver-told (n .0) (c .before .before .before .write-receiver .ensures) in
+    let s = store-told (n .1) (c .write-storage .ensures) in
+    (r .0, (r .1 .0, (r .1 .1, s)))
 
 pub cef-manager-new-spec : {M : Type 1} → statement M
 cef-manager-new-spec =

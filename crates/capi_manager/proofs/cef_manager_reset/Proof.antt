@@ -1,7 +1,7 @@
 -- `capi_manager::cef_manager_reset` meets its contract: by what `reset` and the rows promise. Assumes nothing.
-use mathlib.Core.Path.{_∙_}
 use denote.Ref.{now}
 use Rattle.storage.specs.States.{storeOf}
+use Rattle.boundary_states.specs.Holding.{receiver-told}
 use Rattle.boundary_states.specs.Emptied.{fits-reset, reset-told}
 use borrow.Author.Needs.{needs}
 use Rattle.capi_manager.proofs.cef_manager_reset.Statement.{statement}
@@ -29,7 +29,9 @@ returns : tie.Need-returns
 returns c =
     let m = c .before .before .before .before .before .before .before .before .reset in
     let l = c .before .before .before .before .before .before .before .before .before .before .load-storage in
-    (c .before .before .before .write-receiver .ensures ∙ m .ensures .0, reset-told (storeOf (l .result)) (now (c .before .before .before .before .before .before .before .before .before .before .before .before .before .before .before .before .before .args .area)) (m .ensures .1) (l .ensures .0) (c .write-storage .ensures))
+    let r = receiver-told (m .ensures .0) (c .before .before .before .write-receiver .ensures) in
+    let s = reset-told (storeOf (l .result)) (now (c .before .before .before .before .before .before .before .before .before .before .before .before .before .before .before .before .before .args .area)) (m .ensures .1) (l .ensures .0) (c .write-storage .ensures .0) (c .write-storage .ensures .1) in
+    (r .0, (r .1 .0, (r .1 .1, s)))
 
 pub cef-manager-reset-spec : {M : Type 1} → statement M
 cef-manager-reset-spec =

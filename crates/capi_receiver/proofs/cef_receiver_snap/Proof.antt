@@ -8,7 +8,7 @@ use Rattle.definitions.specs.Receiver.{snapCall}
 use Rattle.format.specs.Totals.{counts}
 use Rattle.receiver.specs.Moves.{snap-moved}
 use Rattle.boundary_states.specs.Rows.{heldReceiver}
-use Rattle.capi_receiver.proofs.Calls.{kept, same-lengths, still-held, zero-tells, taken}
+use Rattle.capi_receiver.proofs.Calls.{rows-left, rows-written, zero-tells, taken}
 use borrow.Author.Needs.{needs}
 use Rattle.capi_receiver.proofs.cef_receiver_snap.Statement.{statement}
 use Rattle.capi_receiver.proofs.cef_receiver_snap.Tie as tie
@@ -40,8 +40,7 @@ returns c =
     let o = snapCall h (record { tick = a .tick; deltaTick = a .delta-tick; numParts = a .num-parts; part = a .part; crc = a .crc }) (now (a .«data»)) (now (a .parts)) (now (a .joined)) in
     let r = c .before .before .before .before .before .before .before .before .before .before .receive .result in
     let e = snap-moved (now (a .«data»)) (now (a .parts)) (now (a .joined)) (c .before .before .before .before .before .before .before .before .before .before .before .before .before .before .load-ticks .ensures (now (a .lengths))) (toZ-ofZ (f .tick)) (toZ-ofZ (f .delta-tick)) (toZ-ofZ (f .num-parts)) (toZ-ofZ (f .part)) (toZ-ofZ (f .crc)) (c .before .before .before .before .before .before .before .before .before .before .receive .ensures) in
-    let k = kept _ _ _ _ _ _ _ (r .answer) (counts (r .warnings)) e _ (c .before .tell .ensures .0) (c .if1 .taken) in
-    taken o (r .answer) (counts (r .warnings)) e _ (now (a .kind)) _ (now (a .received)) _ (now (a .len)) _ _ _ _ (c .before .tell .ensures) (still-held (r .ticks) (now (a .ticks)) (now (a .counts)) (now (a .lengths)) _ k) (c .before .before .before .before .before .row .ensures) (λ _. (refl, (refl, same-lengths (r .ticks) (now (a .ticks)) (now (a .counts)) (now (a .lengths)) _ k)))
+    taken o (r .answer) (counts (r .warnings)) (r .ticks) e _ (now (a .kind)) _ (now (a .received)) _ (now (a .len)) _ (now (a .ticks)) _ (now (a .counts)) _ _ (c .before .tell .ensures) (rows-left (r .ticks) (r .answer) (counts (r .warnings)) (now (a .ticks)) (now (a .counts)) _ (c .before .tell .ensures .0 _) (c .if1 .taken)) (c .before .before .before .before .before .row .ensures)
 
 write-ticks-requires : tie.Need-write-ticks-requires
 write-ticks-requires c κs = search needs
@@ -61,7 +60,8 @@ returns-2 c =
     let o = snapCall h (record { tick = a .tick; deltaTick = a .delta-tick; numParts = a .num-parts; part = a .part; crc = a .crc }) (now (a .«data»)) (now (a .parts)) (now (a .joined)) in
     let r = c .before .before .before .before .before .before .before .before .before .before .before .before .before .receive .result in
     let e = snap-moved (now (a .«data»)) (now (a .parts)) (now (a .joined)) (c .before .before .before .before .before .before .before .before .before .before .before .before .before .before .before .before .before .load-ticks .ensures (now (a .lengths))) (toZ-ofZ (f .tick)) (toZ-ofZ (f .delta-tick)) (toZ-ofZ (f .num-parts)) (toZ-ofZ (f .part)) (toZ-ofZ (f .crc)) (c .before .before .before .before .before .before .before .before .before .before .before .before .before .receive .ensures) in
-    taken o (r .answer) (counts (r .warnings)) e 0 (now (a .kind)) _ (now (a .received)) _ (now (a .len)) _ _ _ _ (zero-tells (r .answer) (c .before .before .before .before .tell .result) (now (a .kind)) _ (now (a .received)) _ (now (a .len)) _ (c .before .before .before .if1 .left) (c .before .before .before .before .tell .ensures)) (c .write-ticks .ensures _) (c .before .before .before .before .before .before .before .before .row .ensures) (λ f. absurd (f refl))
+    let z = zero-tells (r .answer) (c .before .before .before .before .tell .result) (now (a .kind)) _ (now (a .received)) _ (now (a .len)) _ (c .before .before .before .if1 .left) (c .before .before .before .before .tell .ensures) in
+    taken o (r .answer) (counts (r .warnings)) (r .ticks) e 0 (now (a .kind)) _ (now (a .received)) _ (now (a .len)) _ (now (a .ticks)) _ (now (a .counts)) _ _ z (rows-written (r .ticks) (r .answer) (counts (r .warnings)) (now (a .ticks)) _ (now (a .counts)) _ (z .0 _) (c .write-ticks .ensures)) (c .before .before .before .before .before .before .before .before .row .ensures)
 
 pub cef-receiver-snap-spec : {M : Type 1} → statement M
 cef-receiver-snap-spec =

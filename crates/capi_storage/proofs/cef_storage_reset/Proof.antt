@@ -19,7 +19,7 @@ same-length : tie.Need-same-length
 same-length c = search needs
 
 returns : tie.Need-returns
-returns c = reset-told (storeOf (c .before .before .before .before .before .before .load-storage .result)) (now (c .before .before .before .before .before .before .before .before .before .args .area)) (c .before .before .before .before .reset .ensures) (c .before .before .before .before .before .before .load-storage .ensures .0) (c .write-storage .ensures)
+returns c = reset-told (storeOf (c .before .before .before .before .before .before .load-storage .result)) (now (c .before .before .before .before .before .before .before .before .before .args .area)) (c .before .before .before .before .reset .ensures) (c .before .before .before .before .before .before .load-storage .ensures .0) (c .write-storage .ensures .0) (c .write-storage .ensures .1)
 
 pub cef-storage-reset-spec : {M : Type 1} → statement M
 cef-storage-reset-spec =

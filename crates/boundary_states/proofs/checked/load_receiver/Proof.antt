@@ -14,4 +14,5 @@ returns : tie.Need-returns
 returns c = c .with-lengths .ensures ∙ c .before .before .load-ticks .ensures _
 
 pub load-receiver-spec : {M : Type 1} → statement M
-load-receiver-spec = tie.close (tie.spec load-ticks-requires with-lengths-requires returns)
+load-receiver-spec =
+    tie.close (tie.spec load-ticks-requires with-lengths-requires returns)

@@ -1,9 +1,9 @@
 -- `boundary_states::checked::load_storage` meets its contract: by the entries. Assumes nothing.
-use mir.Syntax.{w32}
-use denote.Ref.{now}
-use mir.Facts.{toZ-ofZ}
-use Rattle.boundary_states.proofs.RowLaws.{storage-loaded}
 use borrow.Author.Needs.{needs}
+use mir.Syntax.{w32}
+use mir.Facts.{toZ-ofZ}
+use denote.Ref.{now}
+use Rattle.boundary_states.proofs.RowLaws.{storage-loaded}
 use Rattle.boundary_states.proofs.checked.load_storage.Statement.{statement}
 use Rattle.boundary_states.proofs.checked.load_storage.Tie as tie
 
@@ -13,29 +13,30 @@ element-copy-out-size c = search needs
 size-requires : tie.Need-size-requires
 size-requires c κs = search needs
 
-element-copy-out-has-ack : tie.Need-element-copy-out-has-ack
-element-copy-out-has-ack c = search needs
+element-copy-out-tick-in : tie.Need-element-copy-out-tick-in
+element-copy-out-tick-in c = search needs
 
-element-copy-out-has-delta : tie.Need-element-copy-out-has-delta
-element-copy-out-has-delta c = search needs
+element-copy-out-tick-in-2 : tie.Need-element-copy-out-tick-in-2
+element-copy-out-tick-in-2 c = search needs
 
-element-copy-out-ack-tick : tie.Need-element-copy-out-ack-tick
-element-copy-out-ack-tick c = search needs
+tick-in-requires : tie.Need-tick-in-requires
+tick-in-requires c κs = search needs
 
-element-copy-out-delta-tick : tie.Need-element-copy-out-delta-tick
-element-copy-out-delta-tick c = search needs
+element-copy-out-tick-in-3 : tie.Need-element-copy-out-tick-in-3
+element-copy-out-tick-in-3 c = search needs
+
+element-copy-out-tick-in-4 : tie.Need-element-copy-out-tick-in-4
+element-copy-out-tick-in-4 c = search needs
+
+tick-in-requires-2 : tie.Need-tick-in-requires-2
+tick-in-requires-2 c κs = search needs
 
 returns : tie.Need-returns
-returns c = (storage-loaded (now (c .before .before .before .before .before .before .args .ticks)) (now (c .before .before .before .before .before .before .args .counts)) (toZ-ofZ {w = w32} (record { sfits = c .before .ack-tick .given })) (toZ-ofZ {w = w32} (record { sfits = c .delta-tick .given })) (c .before .before .before .before .size .ensures .0), c .before .before .before .before .size .ensures .1)
+returns c =
+    let a = c .before .before .before .before .before .before .before .before .args in
+    let n = c .before .before .before .before .before .before .size .ensures in
+    (storage-loaded (record { count = c .before .before .before .before .before .before .size .result; «ack_tick» = c .before .before .before .tick-in .result; «delta_tick» = c .tick-in2 .result }) (now (a .ticks)) (now (a .counts)) (n .0) (c .before .before .before .tick-in .ensures) (c .tick-in2 .ensures) (toZ-ofZ {w = w32} (record { sfits = c .before .before .before .before .tick-in-arg2 .given })) (toZ-ofZ {w = w32} (record { sfits = c .before .tick-in-arg4 .given })), n .1)
 
 pub load-storage-spec : {M : Type 1} → statement M
 load-storage-spec =
-    tie.close
-    (tie.spec
-    element-copy-out-size
-    size-requires
-    element-copy-out-has-ack
-    element-copy-out-has-delta
-    element-copy-out-ack-tick
-    element-copy-out-delta-tick
-    returns)
+    tie.close (tie.spec element-copy-out-size size-requires element-copy-out-tick-in element-copy-out-tick-in-2 tick-in-requires element-copy-out-tick-in-3 element-copy-out-tick-in-4 tick-in-requires-2 returns)

@@ -16,7 +16,9 @@ returns-3 : tie.Need-returns-3
 returns-3 c = other-opened (c .before .before .before .before .before .before .before .before .before .before .before .before .before .args .a) (c .before .before .before .before .before .before .before .before .before .before .before .before .before .args .b) (λ (o : Current). o .numParts) (c .if3 .taken)
 
 returns-4 : tie.Need-returns-4
-returns-4 c = by-sum (c .before .before .before .before .before .before .before .before .before .before .before .before .before .before .before .before .before .args .a) (c .before .before .before .before .before .before .before .before .before .before .before .before .before .before .before .before .before .args .b) (record { sfits = c .before .before .struct-told5 .given .1 .1 .1 .1 .1 .1 .0 .1 }) (record { sfits = c .struct-told6 .given .1 .1 .1 .1 .1 .1 .0 .1 }) (same-int (record { sfits = c .before .before .before .before .before .before .before .before .before .before .before .before .before .before .before .struct-told .given .1 .1 .1 .0 .1 }) (record { sfits = c .before .before .before .before .before .before .before .before .before .before .before .before .before .struct-told2 .given .1 .1 .1 .0 .1 }) (c .before .before .before .before .before .before .before .before .before .before .before .before .if1 .left)) (same-int (record { sfits = c .before .before .before .before .before .before .before .before .before .before .struct-told3 .given .1 .1 .1 .1 .0 .1 }) (record { sfits = c .before .before .before .before .before .before .before .before .struct-told4 .given .1 .1 .1 .1 .0 .1 }) (c .before .before .before .before .before .before .before .if2 .left)) (c .before .before .before .before .if3 .left)
+returns-4 c =
+    by-sum (c .before .before .before .before .before .before .before .before .before .before .before .before .before .before .before .before .before .args .a) (c .before .before .before .before .before .before .before .before .before .before .before .before .before .before .before .before .before .args .b) (record { sfits = c .before .before .struct-told5 .given .1 .1 .1 .0 .1 }) (record { sfits = c .struct-told6 .given .1 .1 .1 .0 .1 }) (same-int (record { sfits = c .before .before .before .before .before .before .before .before .before .before .before .before .before .before .before .struct-told .given .0 .1 }) (record { sfits = c .before .before .before .before .before .before .before .before .before .before .before .before .before .struct-told2 .given .0 .1 }) (c .before .before .before .before .before .before .before .before .before .before .before .before .if1 .left)) (same-int (record { sfits = c .before .before .before .before .before .before .before .before .before .before .struct-told3 .given .1 .0 .1 }) (record { sfits = c .before .before .before .before .before .before .before .before .struct-told4 .given .1 .0 .1 }) (c .before .before .before .before .before .before .before .if2 .left)) (c .before .before .before .before .if3 .left)
 
 pub same-opened-spec : {M : Type 1} → statement M
-same-opened-spec = tie.close (tie.spec returns returns-2 returns-3 returns-4)
+same-opened-spec =
+    tie.close (tie.spec returns returns-2 returns-3 returns-4)

@@ -1,16 +1,41 @@
 -- `boundary_states::checked::same_tick` meets its contract: by what is there. Assumes nothing.
-use Rattle.boundary_states.proofs.Comparing.{both-ticks, first-tick, no-tick}
+use mathlib.Core.Path.{ap}
+use borrow.Author.Needs.{needs}
+use Rattle.format.specs.Ticks.{tickOf}
+use Rattle.boundary_states.proofs.Comparing.{same-tick, both-there, first-there, second-there, none-there}
 use Rattle.boundary_states.proofs.checked.same_tick.Statement.{statement}
 use Rattle.boundary_states.proofs.checked.same_tick.Tie as tie
 
+enum-known-a : tie.Need-enum-known-a
+enum-known-a c = search needs
+
+enum-told : tie.Need-enum-told
+enum-told c = search needs
+
+enum-told-2 : tie.Need-enum-told-2
+enum-told-2 c = search needs
+
+enum-told-3 : tie.Need-enum-told-3
+enum-told-3 c = search needs
+
 returns : tie.Need-returns
-returns c = both-ticks _ _ _ _ (c .before .before .fits .tick) (c .before .before .fits .other) (c .before .if1 .taken) (c .if2 .taken)
+returns c = second-there (ap tickOf (c .before .before .enum-told .given .1)) (ap tickOf (c .enum-told3 .given .1))
 
 returns-2 : tie.Need-returns-2
-returns-2 c = first-tick _ _ _ _ (c .before .if1 .taken) (c .if2 .left)
+returns-2 c = none-there (ap tickOf (c .before .before .enum-told .given .1)) (ap tickOf (c .enum-told2 .given .1))
+
+enum-known-b : tie.Need-enum-known-b
+enum-known-b c = search needs
+
+enum-told-4 : tie.Need-enum-told-4
+enum-told-4 c = search needs
 
 returns-3 : tie.Need-returns-3
-returns-3 c = no-tick (c .before .args .has) (c .before .args .has-other) (c .before .args .tick) (c .before .args .other) (c .if1 .left)
+returns-3 c = first-there (ap tickOf (c .before .before .before .a .given .1)) (ap tickOf (c .enum-told4 .given .1))
+
+returns-4 : tie.Need-returns-4
+returns-4 c = both-there (ap tickOf (c .before .before .before .before .a .given .1)) (ap tickOf (c .before .b .given .1)) (same-tick (record { sfits = c .before .before .before .known-told .given .0 .1 }) (record { sfits = c .known-told2 .given .0 .1 }))
 
 pub same-tick-spec : {M : Type 1} → statement M
-same-tick-spec = tie.close (tie.spec returns returns-2 returns-3)
+same-tick-spec =
+    tie.close (tie.spec enum-known-a enum-told enum-told-2 enum-told-3 returns returns-2 enum-known-b enum-told-4 returns-3 returns-4)

@@ -15,7 +15,7 @@ use Rattle.receiver.proofs.checked.differs.Tie as tie
 near : (c : tie.After-same) → let a = c .before .before .before .args in c .same .result ≡ Receiver.same (a .m .«delta_tick») (a .o .«delta_tick»)
 near c =
     let a = c .before .before .before .args in
-    rw (toZ-ofZ {w = w32} {z = a .m .«delta_tick»} (record { sfits = c .before .before .struct-told .given .1 .0 .1 }), toZ-ofZ {w = w32} {z = a .o .«delta_tick»} (record { sfits = c .before .struct-told2 .given .1 .1 .1 .1 .0 .1 })) at (c .same .ensures)
+    rw (toZ-ofZ {w = w32} {z = a .m .«delta_tick»} (record { sfits = c .before .before .struct-told .given .1 .0 .1 }), toZ-ofZ {w = w32} {z = a .o .«delta_tick»} (record { sfits = c .before .struct-told2 .given .1 .0 .1 })) at (c .same .ensures)
 
 -- the part count
 count : (c : tie.After-num) → c .num .result ≡ num (c .before .before .before .before .before .before .before .args .m .«num_parts»)
@@ -49,7 +49,7 @@ returns-3 : tie.Need-returns-3
 returns-3 c =
     let a = c .before .before .before .before .before .before .before .before .before .before .before .args in
     let s : c .same2 .result ≡ Receiver.same (a .m .crc) (a .o .crc) =
-    rw (toZ-ofZ {w = w32} {z = a .m .crc} (record { sfits = c .before .before .struct-told4 .given .1 .1 .1 .1 .0 .1 }), toZ-ofZ {w = w32} {z = a .o .crc} (record { sfits = c .before .struct-told5 .given .1 .1 .1 .1 .1 .1 .0 .1 })) at (c .same2 .ensures) in
+    rw (toZ-ofZ {w = w32} {z = a .m .crc} (record { sfits = c .before .before .struct-told4 .given .1 .1 .1 .1 .0 .1 }), toZ-ofZ {w = w32} {z = a .o .crc} (record { sfits = c .before .struct-told5 .given .1 .1 .1 .0 .1 })) at (c .same2 .ensures) in
     by-sum (currentIn (a .o)) (partOf (a .m)) (sym (near (c .before .before .before .before .before .before .before .before)) ∙ not-false _ (c .before .before .before .before .before .before .before .if1 .left)) _ (sym (count (c .before .before .before .before)) ∙ c .before .before .before .if2 .left) s
 
 pub differs-spec : {M : Type 1} → statement M

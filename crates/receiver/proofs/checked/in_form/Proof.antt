@@ -11,7 +11,7 @@ use Rattle.receiver.proofs.checked.in_form.Tie as tie
 
 -- there are 32 lengths
 all-there : (c : tie.Start) → length (c .args .r .parts) ≡ 32
-all-there c = whole (c .args .r .parts) (c .good .0 .1 .1 .1 .1 .1 .1 .1 .1 .1 .0 .1 .0 .1)
+all-there c = whole (c .args .r .parts) (c .good .0 .1 .1 .1 .1 .0 .1 .0 .1)
 
 slice-aggregate-count-in : tie.Need-slice-aggregate-count-in
 slice-aggregate-count-in c = sym (all-there (c .before .before))

@@ -6,18 +6,23 @@ use Rattle.definitions.specs.Receiver.{isCurrent}
 use Rattle.receiver.proofs.checked.is_current.Statement.{statement}
 use Rattle.receiver.proofs.checked.is_current.Tie as tie
 
-same-requires : tie.Need-same-requires
-same-requires c κs = search needs
+enum-known-current : tie.Need-enum-known-current
+enum-known-current c = search needs
+
+enum-told : tie.Need-enum-told
+enum-told c = search needs
 
 returns : tie.Need-returns
 unfolding isCurrent
-returns c lengths =
-    let s = c .before .before .before in
-    rw (c .before .before .if1 .taken, c .same .ensures, toZ-ofZ {w = w32} {z = s .args .r .tick} (record { sfits = c .before .struct-told .given .1 .1 .1 .0 .1 }), toZ-ofZ (s .fits .tick))
+returns c lengths = rw (c .enum-told .given .1)
+
+same-requires : tie.Need-same-requires
+same-requires c κs = search needs
 
 returns-2 : tie.Need-returns-2
 unfolding isCurrent
-returns-2 c lengths = rw (c .if1 .left)
+returns-2 c lengths =
+    rw (c .before .before .before .current .given .1, c .same .ensures, toZ-ofZ {w = w32} {z = c .before .before .before .current .given .0 .0 .tick} (record { sfits = c .before .struct-told .given .0 .1 }), toZ-ofZ (c .before .before .before .before .before .fits .tick))
 
 pub is-current-spec : {M : Type 1} → statement M
-is-current-spec = tie.close (tie.spec same-requires returns returns-2)
+is-current-spec = tie.close (tie.spec enum-known-current enum-told returns same-requires returns-2)

@@ -64,7 +64,6 @@ put-part-requires c κs =
     let s = c .before .before .before .before .before .before .before .before .before .before .before .before .before .before .before .before .before .before .before .before .before .before in
     let a = s .args in
     let p = s .pre .0 in (
-      c .before .before .before .before .before .before .before .before .before .before .before .before .before .before .before .before .opened .ensures .is-open,
       counts-with (c .before .before .before .before .before .before .before .before .before .before .before .before .before .before .before .before .before .is-current .result) (a .lengths .now) (a .p) _ (a .n) _ (c .before .before .before .before .before .before .before .before .before .before .before .before .is-in-arg2 .given .0) (p .1) (p .2) (sym (c .before .before .before .before .before .before .before .before .before .before .before .is-in .ensures) ∙ c .before .before .before .before .before .before .before .before .before .before .if1 .left) (s .pre .1 .0) (c .before .before .before .count-with .ensures)
           ∙ ap (λ (l : List ℕ). Receiver.countIn l 32) (sym (c .before .before .before .before .before .before .before .before .put-length .ensures)),
       search needs,

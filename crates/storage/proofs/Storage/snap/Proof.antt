@@ -4,6 +4,7 @@ use Rattle.storage.specs.Told.{not-held, told, Told}
 use Rattle.storage.specs.States.{storeOf}
 use denote.Ref.{now}
 use mathlib.Core.Path.{sym, _∙_}
+use native.Mathlib.Omega.{arith}
 use borrow.Author.Needs.{needs}
 use Rattle.storage.proofs.Storage.snap.Statement.{statement}
 use Rattle.storage.proofs.Storage.snap.Tie as tie
@@ -30,7 +31,7 @@ returns c =
     table-47 (storeOf (s .self)) (now (s .area)) (s .i) (not-held _ _ (sym (c .before .enum-told2 .given .1) ∙ c .before .before .before .form .ensures))
 
 table-at-requires : tie.Need-table-at-requires
-table-at-requires c κs = (in-form (c .before .before) .holds .held, c .if1 .taken)
+table-at-requires c κs = (in-form (c .before .before) .holds .held, omega (arith, c .if1 .taken))
 
 returns-2 : tie.Need-returns-2
 returns-2 c =

@@ -6,6 +6,7 @@ use denote.Ref.{now}
 use mathlib.Core.Path.{sym, _∙_}
 use mir.Facts.{toZ-ofZ}
 use mir.Syntax.{w32}
+use native.Mathlib.Omega.{arith}
 use borrow.Author.Needs.{needs}
 use Rattle.storage.proofs.Storage.snap_tick.Statement.{statement}
 use Rattle.storage.proofs.Storage.snap_tick.Tie as tie
@@ -29,7 +30,7 @@ returns c =
     tick-47 (storeOf (s .self)) (now (s .area)) (s .i) (not-held _ _ (sym (c .enum-told2 .given .1) ∙ c .before .before .form .ensures))
 
 tick-at-requires : tie.Need-tick-at-requires
-tick-at-requires c κs = (in-form (c .before .before) .holds .held, c .if1 .taken)
+tick-at-requires c κs = (in-form (c .before .before) .holds .held, omega (arith, c .if1 .taken))
 
 returns-2 : tie.Need-returns-2
 returns-2 c =

@@ -1,7 +1,6 @@
 -- `checked::base_tick` meets its contract: by which table is the base. Assumes nothing.
 use Rattle.definitions.specs.Storage as Store
 use Rattle.storage.proofs.Forms.{chosen-empty, chosen-itself, chosen-oldest}
-use borrow.Author.Tests.{not-true, not-false}
 use mathlib.Core.Path.{sym, ap, _∙_}
 use mir.Facts.{toZ-ofZ}
 use mir.Syntax.{w32}
@@ -10,11 +9,17 @@ use borrow.Author.Needs.{needs}
 use Rattle.storage.proofs.checked.base_tick.Statement.{statement}
 use Rattle.storage.proofs.checked.base_tick.Tie as tie
 
+enum-told : tie.Need-enum-told
+enum-told c = search needs
+
+enum-told-2 : tie.Need-enum-told-2
+enum-told-2 c = search needs
+
 returns : tie.Need-returns
-returns c t = ap (λ (y : Store.StoredSnap). y .tick) (sym (chosen-empty (c .before .before .args .s) (record { tick = c .before .before .args .tick; snap = t }) _ (not-true _ (c .if1 .taken))))
+returns c t = ap (λ (y : Store.StoredSnap). y .tick) (sym (chosen-empty (c .before .before .args .s) (record { tick = c .before .before .args .tick; snap = t }) _ (c .enum-told2 .given .1)))
 
 returns-2 : tie.Need-returns-2
-returns-2 c t = let s = c .before .before .before .before in toZ-ofZ (s .fits .tick) ∙ ap (λ (y : Store.StoredSnap). y .tick) (sym (chosen-itself (s .args .s) (record { tick = s .args .tick; snap = t }) _ (s .args .s .count) (not-false _ (c .before .before .if1 .left)) (s .pre .many) (c .if2 .taken)))
+returns-2 c t = let s = c .before .before .before .before in toZ-ofZ (s .fits .tick) ∙ ap (λ (y : Store.StoredSnap). y .tick) (sym (chosen-itself (s .args .s) (record { tick = s .args .tick; snap = t }) _ (s .args .s .count) (c .before .before .enum-told .given .1) (s .pre .many) (c .if1 .taken)))
 
 sub-tick-at : tie.Need-sub-tick-at
 sub-tick-at c = search needs
@@ -23,7 +28,7 @@ tick-at-requires : tie.Need-tick-at-requires
 tick-at-requires c κs = (c .before .before .before .before .before .pre, omega arith)
 
 returns-3 : tie.Need-returns-3
-returns-3 c t = let s = c .before .before .before .before .before .before in toZ-ofZ {w = w32} (record { sfits = c .tick-at .ok }) ∙ (c .tick-at .ensures ∙ ap (λ (y : Store.StoredSnap). y .tick) (sym (chosen-oldest (s .args .s) (record { tick = s .args .tick; snap = t }) _ (s .args .s .count) (not-false _ (c .before .before .before .before .if1 .left)) (s .pre .many) (c .before .before .if2 .left))))
+returns-3 c t = let s = c .before .before .before .before .before .before in toZ-ofZ {w = w32} (record { sfits = c .tick-at .ok }) ∙ (c .tick-at .ensures ∙ ap (λ (y : Store.StoredSnap). y .tick) (sym (chosen-oldest (s .args .s) (record { tick = s .args .tick; snap = t }) _ (s .args .s .count) (c .before .before .before .before .enum-told .given .1) (s .pre .many) (c .before .before .if1 .left))))
 
 pub base-tick-spec : {M : Type 1} → statement M
-base-tick-spec = tie.close (tie.spec returns returns-2 sub-tick-at tick-at-requires returns-3)
+base-tick-spec = tie.close (tie.spec enum-told enum-told-2 returns returns-2 sub-tick-at tick-at-requires returns-3)

@@ -8,7 +8,6 @@ use Rattle.storage.specs.States.{deltaOf}
 use Rattle.store_area.specs.Held.{snapsIn, snapAt}
 use Rattle.store_area.specs.Tables.{sound-at}
 use Rattle.table.specs.Held.{Held}
-use borrow.Author.Tests.{not-true, not-false}
 use denote.Ref.{now}
 use lib.IntN.{ℤ, pos}
 use mathlib.Core.List.{List, [], _∷_}
@@ -37,6 +36,12 @@ based c =
     let h = s .pre .0 in
     whole-table (now (c .table-at .result)) (snapAt (L s) (s .args .s .count - 1) .snap) (sound-at (L s) (s .args .s .count - 1) (h .stands .sounds) (omega (arith, h .many))) (c .table-at .ensures)
 
+enum-told : tie.Need-enum-told
+enum-told c = search needs
+
+enum-told-2 : tie.Need-enum-told-2
+enum-told-2 c = search needs
+
 slice-aggregate-make : tie.Need-slice-aggregate-make
 slice-aggregate-make c = search needs
 
@@ -51,7 +56,7 @@ returns c =
     let s = c .before .before .before .before .before .before in
     let m = c .before .make in
     let e : (at : ℤ) → items (pos 0 ∷ pos 0 ∷ []) ≡ Store.chosenBase (deltaOf (s .args .s)) (new s at) (L s) .snap =
-    λ at. empty-table .1 ∙ ap (λ (y : Store.StoredSnap). y .snap) (sym (chosen-empty (s .args .s) (new s at) (L s) (not-true _ (c .before .before .before .before .if1 .taken)))) in
+    λ at. empty-table .1 ∙ ap (λ (y : Store.StoredSnap). y .snap) (sym (chosen-empty (s .args .s) (new s at) (L s) (c .before .before .before .before .enum-told2 .given .1))) in
     (λ at. by-base _ _ _ _ _ (items (now (s .args .table))) (m .result) (e at) (m .ensures) .0, λ at. by-base _ _ _ _ _ (items (now (s .args .table))) (m .result) (e at) (m .ensures) .1)
 
 make-requires-2 : tie.Need-make-requires-2
@@ -65,7 +70,7 @@ returns-2 c =
     let s = c .before .before .before .before .before .before .before in
     let m = c .before .make2 in
     let e : (at : ℤ) → items (now (s .args .table)) ≡ Store.chosenBase (deltaOf (s .args .s)) (new s at) (L s) .snap =
-    λ at. ap (λ (y : Store.StoredSnap). y .snap) (sym (chosen-itself (s .args .s) (new s at) (L s) (s .args .s .count) (not-false _ (c .before .before .before .before .before .if1 .left)) (s .pre .0 .many) (c .before .before .before .if2 .taken))) in
+    λ at. ap (λ (y : Store.StoredSnap). y .snap) (sym (chosen-itself (s .args .s) (new s at) (L s) (s .args .s .count) (c .before .before .before .before .before .enum-told .given .1) (s .pre .0 .many) (c .before .before .before .if1 .taken))) in
     (λ at. by-base _ _ _ _ _ (items (now (s .args .table))) (m .result) (e at) (m .ensures) .0, λ at. by-base _ _ _ _ _ (items (now (s .args .table))) (m .result) (e at) (m .ensures) .1)
 
 sub-table-at : tie.Need-sub-table-at
@@ -85,13 +90,15 @@ returns-3 c =
     let s = c .before .before .before .before .before .before .before .before .before in
     let m = c .before .make3 in
     let e : (at : ℤ) → items (now (c .before .before .before .table-at .result)) ≡ Store.chosenBase (deltaOf (s .args .s)) (new s at) (L s) .snap =
-    λ at. based (c .before .before .before) .1 ∙ ap (λ (y : Store.StoredSnap). y .snap) (sym (chosen-oldest (s .args .s) (new s at) (L s) (s .args .s .count) (not-false _ (c .before .before .before .before .before .before .before .if1 .left)) (s .pre .0 .many) (c .before .before .before .before .before .if2 .left))) in
+    λ at. based (c .before .before .before) .1 ∙ ap (λ (y : Store.StoredSnap). y .snap) (sym (chosen-oldest (s .args .s) (new s at) (L s) (s .args .s .count) (c .before .before .before .before .before .before .before .enum-told .given .1) (s .pre .0 .many) (c .before .before .before .before .before .if1 .left))) in
     (λ at. by-base _ _ _ _ _ (items (now (s .args .table))) (m .result) (e at) (m .ensures) .0, λ at. by-base _ _ _ _ _ (items (now (s .args .table))) (m .result) (e at) (m .ensures) .1)
 
 pub make-delta-spec : {M : Type 1} → statement M
 make-delta-spec =
     tie.close
     (tie.spec
+    enum-told
+    enum-told-2
     slice-aggregate-make
     make-requires
     same-length
