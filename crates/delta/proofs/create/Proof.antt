@@ -48,7 +48,9 @@ returns-2 c =
 
 create-requires : tie.Need-create-requires
 create-requires c κs =
-    (formed _ _ _ (base-told (c .before .before .before .before .before)) .0, formed _ _ _ (target-told (c .before)) .0)
+    let b = formed _ _ _ (base-told (c .before .before .before .before .before)) .0 in
+    let t = formed _ _ _ (target-told (c .before)) .0 in
+    search needs
 
 same-length : tie.Need-same-length
 same-length c = search needs

@@ -1,13 +1,10 @@
+-- `ints::wrapping_add` meets its contract: the sum of the bits of both. Assumes nothing.
+use mathlib.Core.Path.{_≡_, ap, _∙_}
 use mir.Facts.{toZ-ofZ}
-use Rattle.definitions.specs.Ints.{wrappingAdd}
+use Rattle.definitions.specs.Ints.{bits, wrappingAdd}
 use borrow.Author.Needs.{needs}
 use Rattle.ints.proofs.wrapping_add.Statement.{statement}
 use Rattle.ints.proofs.wrapping_add.Tie as tie
-use Rattle.ints.proofs.wrapping_add.Reads as reads
-use Rattle.ints.proofs.wrapping_add.Lts as lts
-use Rattle.ints.proofs.from_bits.Reads as from-bits-reads
-use Rattle.ints.proofs.to_bits.Reads as to-bits-reads
-use Rattle.std.proofs.num.wrapping_add_u32.Reads as wrapping-add-u32-reads
 
 to-bits-requires : tie.Need-to-bits-requires
 to-bits-requires c κs = search needs
@@ -24,9 +21,10 @@ from-bits-requires c κs = search needs
 returns : tie.Need-returns
 unfolding wrappingAdd
 returns c =
-    let s = c .before .before .before .before .fits in
-    rw
-    (toZ-ofZ (record { sfits = c .from-bits .ok }), c .from-bits .ensures, c .before .wrapping-add-u32 .ensures, c .before .before .before .to-bits .ensures, c .before .before .to-bits2 .ensures, toZ-ofZ (s .a), toZ-ofZ (s .b))
+    let s = c .before .before .before .before in
+    let a : c .before .before .before .to-bits .result ≡ bits (s .args .a) = c .before .before .before .to-bits .ensures ∙ ap bits (toZ-ofZ (s .fits .a)) in
+    let b : c .before .before .to-bits2 .result ≡ bits (s .args .b) = c .before .before .to-bits2 .ensures ∙ ap bits (toZ-ofZ (s .fits .b)) in
+    rw (toZ-ofZ (record { sfits = c .from-bits .ok }), c .from-bits .ensures, c .before .wrapping-add-u32 .ensures, a, b)
 
 pub wrapping-add-spec : {M : Type 1} → statement M
 wrapping-add-spec =

@@ -1,4 +1,5 @@
-use mathlib.Core.Path.{_≡_}
+-- `ints::wrapping_sub` meets its contract: the difference of the bits of both. Assumes nothing.
+use mathlib.Core.Path.{_≡_, ap, _∙_}
 use Prim.Native.Nat.{_+_, _-_, _%_, _^_}
 use native.Mathlib.Omega.{arith}
 use mir.Facts.{toZ-ofZ}
@@ -7,11 +8,6 @@ use Rattle.laws.specs.IntLaws.{bits-lt}
 use borrow.Author.Needs.{needs}
 use Rattle.ints.proofs.wrapping_sub.Statement.{statement}
 use Rattle.ints.proofs.wrapping_sub.Tie as tie
-use Rattle.ints.proofs.wrapping_sub.Reads as reads
-use Rattle.ints.proofs.wrapping_sub.Lts as lts
-use Rattle.ints.proofs.from_bits.Reads as from-bits-reads
-use Rattle.ints.proofs.to_bits.Reads as to-bits-reads
-use Rattle.std.proofs.num.wrapping_sub_u32.Reads as wrapping-sub-u32-reads
 
 to-bits-requires : tie.Need-to-bits-requires
 to-bits-requires c κs = search needs
@@ -28,13 +24,11 @@ from-bits-requires c κs = search needs
 returns : tie.Need-returns
 unfolding wrappingSub
 returns c =
-    let s = c .before .before .before .before .fits in
-    let a : c .before .before .before .to-bits .result ≡ bits (c .before .before .before .before .args .a) =
-    rw (toZ-ofZ (s .a)) at (c .before .before .before .to-bits .ensures) in
-    let b : c .before .before .to-bits2 .result ≡ bits (c .before .before .before .before .args .b) =
-    rw (toZ-ofZ (s .b)) at (c .before .before .to-bits2 .ensures) in
-    let e : c .before .wrapping-sub-u32 .result ≡ (bits (c .before .before .before .before .args .a) + (2 ^ 32 - bits (c .before .before .before .before .args .b))) % 2 ^ 32 =
-    omega (arith, a, b, bits-lt (s .a), bits-lt (s .b), c .before .wrapping-sub-u32 .ensures, c .before .wrapping-sub-u32 .ok) in
+    let s = c .before .before .before .before in
+    let a : c .before .before .before .to-bits .result ≡ bits (s .args .a) = c .before .before .before .to-bits .ensures ∙ ap bits (toZ-ofZ (s .fits .a)) in
+    let b : c .before .before .to-bits2 .result ≡ bits (s .args .b) = c .before .before .to-bits2 .ensures ∙ ap bits (toZ-ofZ (s .fits .b)) in
+    let e : c .before .wrapping-sub-u32 .result ≡ (bits (s .args .a) + (2 ^ 32 - bits (s .args .b))) % 2 ^ 32 =
+    omega (arith, a, b, bits-lt (s .fits .a), bits-lt (s .fits .b), c .before .wrapping-sub-u32 .ensures, c .before .wrapping-sub-u32 .ok) in
     rw (toZ-ofZ (record { sfits = c .from-bits .ok }), c .from-bits .ensures, e)
 
 pub wrapping-sub-spec : {M : Type 1} → statement M

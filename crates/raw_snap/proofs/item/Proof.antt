@@ -1,5 +1,6 @@
 -- `raw_snap::item` meets its contract: by the form of the area and the place of the key. Assumes nothing.
 use mathlib.Core.Path.{_≡_, sym, _∙_}
+use native.Mathlib.Omega.{arith}
 use denote.Ref.{now}
 use borrow.Author.Needs.{needs}
 use mir.Facts.{toZ-ofZ}
@@ -45,7 +46,7 @@ find-requires : tie.Need-find-requires
 find-requires c κs = holding (c .before .before)
 
 data-at-requires : tie.Need-data-at-requires
-data-at-requires c κs = (holding (c .before .before .before .before), c .if1 .taken)
+data-at-requires c κs = (holding (c .before .before .before .before), omega arith)
 
 returns-2 : tie.Need-returns-2
 returns-2 c =

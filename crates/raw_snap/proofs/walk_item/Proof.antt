@@ -1,5 +1,6 @@
 -- `raw_snap::walk_item` meets its contract: by the form of the area and the place in the walk. Assumes nothing.
 use mathlib.Core.Path.{_≡_, sym, _∙_}
+use native.Mathlib.Omega.{arith}
 use denote.Ref.{now}
 use borrow.Author.Needs.{needs}
 use Rattle.definitions.specs.Tables.{tableOf}
@@ -43,7 +44,7 @@ walk-place-requires : tie.Need-walk-place-requires
 walk-place-requires c κs = (holding (c .before .before), c .if1 .left)
 
 data-at-requires : tie.Need-data-at-requires
-data-at-requires c κs = (holding (c .before .before .before), c .walk-place .ensures .0)
+data-at-requires c κs = (holding (c .before .before .before), omega (arith, c .walk-place .ensures .0))
 
 returns-3 : tie.Need-returns-3
 returns-3 c =

@@ -1,5 +1,6 @@
 -- `raw_snap::walk_key` meets its contract: by the form of the area and the place in the walk. Assumes nothing.
 use mathlib.Core.Path.{_≡_, sym, ap, _∙_}
+use native.Mathlib.Omega.{arith}
 use mir.Syntax.{w32}
 use mir.Val.{SFits}
 use denote.Ref.{now}
@@ -42,7 +43,7 @@ walk-place-requires : tie.Need-walk-place-requires
 walk-place-requires c κs = (holding (c .before .before), c .if1 .left)
 
 key-at-requires : tie.Need-key-at-requires
-key-at-requires c κs = (holding (c .before .before .before), c .walk-place .ensures .0)
+key-at-requires c κs = (holding (c .before .before .before), omega (arith, c .walk-place .ensures .0))
 
 returns-3 : tie.Need-returns-3
 returns-3 c =

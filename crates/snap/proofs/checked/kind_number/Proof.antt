@@ -41,7 +41,7 @@ names-kind-requires : tie.Need-names-kind-requires Inv-loop μ-loop
 names-kind-requires c κs = (c .before .before .pre, c .loop-test .taken)
 
 key-at-requires : tie.Need-key-at-requires Inv-loop μ-loop
-key-at-requires c κs = (c .before .before .before .before .pre, c .before .before .loop-test .taken)
+key-at-requires c κs = (c .before .before .before .before .pre, omega (arith, c .before .before .loop-test .taken))
 
 key-to-id-requires : tie.Need-key-to-id-requires Inv-loop μ-loop
 key-to-id-requires c κs = search needs
