@@ -1,2 +1,2 @@
--- What the functions of `apply_judging` are given, and what their answers mean. Assumes nothing.
+-- What the functions of `apply_judging` require, and what their answers mean. Assumes nothing.
 pub mod Judging

@@ -1,4 +1,4 @@
-// A delta judged against its base: the refusals in the order of the updates, and the result's sizes.
+// Judges a delta against its base: the refusals in the order of the updates, and the sizes of the result.
 ghost use mathlib.Core.Path.{_≡_};
 ghost use mathlib.Core.Bool.{true};
 ghost use mathlib.Core.List.{[]};
@@ -42,13 +42,13 @@ pub struct Sizes {
     pub ints: usize,
 }
 
-// What a delta comes to: its judgement, and whether the base lacks a deleted key.
+// The result of judging a delta: its judgement, and whether the base lacks a deleted key.
 pub struct Judgement {
     pub judged: Judged,
     pub unknown_delete: bool,
 }
 
-// Whether there is an item i of n, and it has the key.
+// Whether there is an item i of n and it has the key.
 fn is_key_of(area: &[i32], n: usize, i: usize, key: i32) -> bool
     requires { ⌜ Held (now area) n ⌝ }
     ensures { λ r. ⌜ (r ≡ true → Place (now (area .entry)) (bits key) i) ⌝ }
@@ -59,7 +59,7 @@ fn is_key_of(area: &[i32], n: usize, i: usize, key: i32) -> bool
     false
 }
 
-// The place of a key among the n items, looked for from a hint on, or else from the start.
+// The place of a key among the n items, searched from a hint on, or else from the start.
 fn place_from(area: &[i32], n: usize, hint: usize, key: i32) -> usize
     requires { ⌜ Held (now area) n × (hint ≤ n) ⌝ }
     ensures { λ r. ⌜ Place (now (area .entry)) (bits key) r ⌝ }
@@ -73,7 +73,7 @@ fn place_from(area: &[i32], n: usize, hint: usize, key: i32) -> usize
     next_place(area, n, 0, key)
 }
 
-// The place of a key among the n items, where the key before was at a place: most often the next one.
+// The place of a key among the n items, if the previous key was at the place before: most often the next one.
 fn place_near(area: &[i32], n: usize, before: usize, key: i32) -> usize
     requires { ⌜ Held (now area) n × (before ≤ n) ⌝ }
     ensures { λ r. ⌜ Place (now (area .entry)) (bits key) r ⌝ }
@@ -85,7 +85,7 @@ fn place_near(area: &[i32], n: usize, before: usize, key: i32) -> usize
     place_from(area, n, before, key)
 }
 
-// The place of the first deleted key that is not below a key as signed, looked for from a hint on, or else from the start.
+// The place of the first deleted key not below key in signed order, searched from a hint on, or else from the start.
 pub fn deleted_near(delta: &[i32], deleted: usize, hint: usize, key: i32) -> usize
     requires { ⌜ DeletedKeys (now delta) deleted × (hint ≤ deleted) ⌝ }
     ensures { λ r. ⌜ Reached (now (delta .entry)) deleted r (rank (bits key)) ⌝ }
@@ -99,7 +99,7 @@ pub fn deleted_near(delta: &[i32], deleted: usize, hint: usize, key: i32) -> usi
     deleted_from(delta, deleted, 0, key)
 }
 
-// Whether a key is deleted: the place of the first deleted key that is not below it is known.
+// Whether a key is deleted, given the place of the first deleted key not below it.
 pub fn is_deleted(delta: &[i32], deleted: usize, place: usize, key: i32) -> bool
     requires { ⌜ DeletedKeys (now delta) deleted × Reached (now delta) deleted place (rank (bits key)) ⌝ }
     ensures { λ r. ⌜ r ≡ elem (bits key) (deletedOf (now (delta .entry)) deleted) ⌝ }
@@ -107,7 +107,7 @@ pub fn is_deleted(delta: &[i32], deleted: usize, place: usize, key: i32) -> bool
     has_deleted(delta, deleted, place, key)
 }
 
-// Whether the update at a place is as long as the base's data, where there is any: its key's place there is b.
+// Whether the update at a place is as long as the base's data, if there is any; b is the place of its key in the base.
 fn is_as_long(base: &[i32], nb: usize, b: usize, delta: &[i32], p: usize) -> bool
     requires { ⌜ Held (now base) nb × Update [] (now delta) p × Place (now base) (updateKey (now delta) p) b ⌝ }
     ensures { λ r. ⌜ r ≡ agree (find (updateKey (now (delta .entry)) p) (items (now (base .entry)))) (updateAt [] (now (delta .entry)) p .values) ⌝ }
@@ -118,7 +118,7 @@ fn is_as_long(base: &[i32], nb: usize, b: usize, delta: &[i32], p: usize) -> boo
     true
 }
 
-// Whether the base keeps the key of the update at a place: the key's places are known.
+// Whether the base keeps the key of the update at a place, given the key's places.
 fn is_kept(
     base: &[i32],
     nb: usize,
@@ -139,7 +139,7 @@ fn is_kept(
     has_key(base, nb, b, key)
 }
 
-// So many items and ints, where the lengths agree.
+// So many items and ints, if the lengths agree; else the refusal.
 fn judge_length(same: bool, items: usize, ints: usize) -> Judged
     requires { ⌜ (items ≤ 1024) × (ints ≤ 16384) ⌝ }
     ensures { λ r. ⌜ (judgedOf r ≡ judgeLength same items ints) × Within r ⌝ }
@@ -150,7 +150,7 @@ fn judge_length(same: bool, items: usize, ints: usize) -> Judged
     Judged::Refused(Error::DeltaDifferingSizes)
 }
 
-// One item more, with so many ints of data.
+// One more item, with so many ints of data.
 fn judge_new(same: bool, size: usize, items: usize, ints: usize) -> Judged
     requires { ⌜ (size < 2 ^ 32) × (items ≤ 1024) × (ints ≤ 16384) ⌝ }
     ensures { λ r. ⌜ (judgedOf r ≡ judgeNew same size items ints) × Within r ⌝ }
@@ -165,7 +165,7 @@ fn judge_new(same: bool, size: usize, items: usize, ints: usize) -> Judged
     judge_length(same, items + 1, more)
 }
 
-// The update at a place, of a table of so many items and ints: its key's places in the base and among the deleted keys are known.
+// Judges the update at a place, for a table of so many items and ints, given its key's places in the base and among the deleted keys.
 fn judge_update(
     base: &[i32],
     nb: usize,
@@ -188,7 +188,7 @@ fn judge_update(
     judge_new(same, update_size(delta, p), items, ints)
 }
 
-// All updates, of a table of so many items and ints: one walk along them, the base and the deleted keys.
+// Judges all updates, for a table of so many items and ints, in one walk along them, the base and the deleted keys.
 fn judge_updates(
     base: &[i32],
     nb: usize,
@@ -231,7 +231,7 @@ fn judge_updates(
     }
 }
 
-// How many items the base keeps, and how many ints their keys and data take, by one walk along it.
+// How many items the base keeps, and how many ints their keys and data take, in one walk along the base.
 fn count_kept(base: &[i32], nb: usize, delta: &[i32], deleted: usize) -> Sizes
     requires { ⌜ Held (now base) nb × DeletedKeys (now delta) deleted ⌝ }
     ensures { λ r. ⌜ (r .items ≡ length (kept (deletedOf (now (delta .entry)) deleted) (Tables.items (now (base .entry)))))
@@ -255,7 +255,7 @@ fn count_kept(base: &[i32], nb: usize, delta: &[i32], deleted: usize) -> Sizes
     Sizes { items: n, ints: w }
 }
 
-// What the base keeps: how many items, and how many ints their keys and data take. Where no key is deleted, that is all.
+// How many items the base keeps, and how many ints their keys and data take. If no key is deleted, it keeps all.
 fn kept_sizes(base: &[i32], nb: usize, delta: &[i32], deleted: usize) -> Sizes
     requires { ⌜ Held (now base) nb × DeletedKeys (now delta) deleted ⌝ }
     ensures { λ r. ⌜ (r .items ≡ length (kept (deletedOf (now (delta .entry)) deleted) (Tables.items (now (base .entry)))))
@@ -270,7 +270,7 @@ fn kept_sizes(base: &[i32], nb: usize, delta: &[i32], deleted: usize) -> Sizes
     count_kept(base, nb, delta, deleted)
 }
 
-// The judgement of a delta of so many deleted keys and updates, and whether the base lacks a deleted key.
+// Judges a delta of so many deleted keys and updates, and says whether the base lacks a deleted key.
 pub fn judge(base: &[i32], nb: usize, delta: &[i32], deleted: usize, updated: usize) -> Judgement
     requires { ⌜ Held (now base) nb × HeldDelta [] (now delta) deleted updated ⌝ }
     ensures { λ r. ⌜ (judgedOf (r .judged) ≡ judgeDelta (items (now (base .entry))) (deltaIn [] (now (delta .entry)))) × Within (r .judged)

@@ -1,2 +1,2 @@
-// Whether a delta is refused by its base, and how long the table is that it makes.
+// Whether a delta is refused for its base, and how long the resulting table is.
 pub mod checked;

@@ -6,7 +6,7 @@ use Rattle.definitions.specs.Outcome.{Outcome}
 use Rattle.format.specs.Answers.{storedWith}
 use Rattle.applying.specs.declared.checked.Applied.{Applied}
 
--- one warning of a deleted key that the base lacks, or none
+-- one warning for a deleted key that the base lacks, or none
 abbrev pub unknownCounts : Bool → Counts
 unknownCounts b =
     record {
@@ -25,6 +25,6 @@ unknownCounts b =
       weirdNegativeDeltaTick = 0;
     }
 
--- document 01's number and values of each case, with the warning beside them
+-- the refusal's number and the values of each case, together with the warning
 abbrev pub appliedInts : Applied → Outcome ℕ
 appliedInts r = storedWith (r .answer) (unknownCounts (r .«unknown_delete»))

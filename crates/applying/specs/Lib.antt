@@ -1,3 +1,3 @@
--- What the functions of `applying` are given, and what their answers mean. Assumes nothing.
+-- What the functions of `applying` require, and what their answers mean. Assumes nothing.
 pub mod Answers
 pub mod Merging

@@ -1,4 +1,4 @@
--- What is known while a base and the updates of a delta are merged. Assumes nothing.
+-- What is known during the merge of a base with a delta's updates. Assumes nothing.
 use Prim.Native.Nat.{ℕ, _+_, _-_, _<_, _≤_}
 use mathlib.Core.Path.{_≡_}
 use mathlib.Core.Bool.{true}
@@ -22,7 +22,7 @@ unfoldable pub restOf : List ℤ → ℕ → List ℤ → ℕ → Merge → Tabl
 restOf base to delta deleted s =
     merged (deletedOf delta deleted) (run (itemAt base) (s .item) (to - s .item)) (updates [] delta (s .update) (s .left))
 
--- the places are within the areas, the updates are as long as the base's data, and there is room for what is left
+-- the places are within the areas, the updates are as long as the base's data, and there is room for the rest
 pub record Going (base : List ℤ) (nb to : ℕ) (delta : List ℤ) (deleted n long : ℕ) (s : Merge) : Type 0 where
   pub item-within : s .item ≤ to
   pub to-within : to ≤ nb
@@ -31,7 +31,7 @@ pub record Going (base : List ℤ) (nb to : ℕ) (delta : List ℤ) (deleted n l
   pub hint : s .hint ≤ deleted
   pub room : Room n long (s .items) (s .at) (restOf base to delta deleted s)
 
--- what comes next: an item whose key is before all updates, one whose key is that of the next update, or an update before all items
+-- the next step: an item whose key is before all updates, one whose key is that of the next update, or an update before all items
 abbrev pub Comes : List ℤ → ℕ → List ℤ → Merge → Next → Type 0
 Comes base to delta s next.Item = (s .item < to) × Ahead (keyAt base (s .item)) (updates [] delta (s .update) (s .left))
 Comes base to delta s next.Both = (s .item < to) × (0 < s .left) × (keyAt base (s .item) ≡ updateKey delta (s .update))

@@ -1,4 +1,4 @@
-// A delta applied to its base, both in areas of their forms: judged first, then merged in two passes, for keys below 2^31 and the others.
+// Applies a delta to its base, both in areas in form: judges first, then merges in two passes, for keys below 2^31 and for the others.
 ghost use mathlib.Core.Path.{_≡_};
 ghost use mathlib.Core.Bool.{true, cond};
 ghost use mathlib.Core.List.{[], _∷_};
@@ -39,13 +39,13 @@ use table::checked::key_at;
 use table::checked::put;
 use table::checked::walk_start;
 
-// What applying comes to: the answer, and whether the base lacks a deleted key.
+// The result of applying: the answer, and whether the base lacks a deleted key.
 pub struct Applied {
     pub answer: Stored,
     pub unknown_delete: bool,
 }
 
-// How far a merge is: the next item of the base, the place of the next update and how many are left, a hint among the deleted keys, how many items were written, and the place of the next one.
+// The state of a merge: next item of the base, place of the next update, updates left, hint among the deleted keys, items written, place of the next item.
 pub struct Merge {
     pub item: usize,
     pub update: usize,
@@ -55,14 +55,14 @@ pub struct Merge {
     pub at: usize,
 }
 
-// What comes next in a merge.
+// The next step of a merge.
 pub enum Next {
     Item,
     Both,
     Update,
 }
 
-// A place among the updates, and how many are left there.
+// A place among the updates, and how many are left from there.
 pub struct Low {
     pub update: usize,
     pub left: usize,
@@ -76,7 +76,7 @@ fn differences(delta: &[i32], p: usize) -> &[i32]
     update_data(delta, &delta[..0], p)
 }
 
-// The offset and the key of item m of n, whose key stands at a place.
+// Writes the offset and the key of item m of n, whose key is at a place.
 fn put_head(out: &mut [i32], n: usize, m: usize, at: usize, key: i32)
     requires { ⌜ (2 + m < length (now out)) × (2 + n ≤ at) × (at < length (now out)) × (at ≤ 16384) ⌝ }
     ensures { λ _. ⌜ now (out .exit) ≡ set (set (now (out .entry)) (2 + m) (pos (4 * (at - (2 + n))))) at key ⌝ }
@@ -85,7 +85,7 @@ fn put_head(out: &mut [i32], n: usize, m: usize, at: usize, key: i32)
     out[at] = key;
 }
 
-// Item m of n: its offset, and from a place on its key and its data.
+// Writes item m of n: its offset, and from a place on its key and its data.
 fn put_item(out: &mut [i32], n: usize, m: usize, at: usize, key: i32, values: &[i32])
     requires { ⌜ Room n (length (now out)) m at (item (bits key) (now values) ∷ []) ⌝ }
     ensures { λ _. ⌜ now (out .exit) ≡ wrote n (now (out .entry)) m at (item (bits key) (now (values .entry)) ∷ []) ⌝ }
@@ -96,7 +96,7 @@ fn put_item(out: &mut [i32], n: usize, m: usize, at: usize, key: i32, values: &[
     ints::copy_into(&mut out[from..to], 0, values);
 }
 
-// The same of an update: its data is the differences, added to the base's data where there is any.
+// The same for an update: its data is the differences, added to the base's data if there is any.
 fn put_sums(
     out: &mut [i32],
     n: usize,
@@ -118,7 +118,7 @@ fn put_sums(
     format::apply_item_delta(has_old, old, more, &mut out[from..to]);
 }
 
-// The next item of the base, which comes before all updates: it is copied, unless its key is deleted.
+// Passes the next item of the base, which comes before all updates: copies it, unless its key is deleted.
 fn pass_item(
     base: &[i32],
     nb: usize,
@@ -157,7 +157,7 @@ fn pass_item(
     }
 }
 
-// The next item of the base with the differences of its update.
+// Writes the next item of the base with the differences of its update added.
 fn add_update(
     base: &[i32],
     nb: usize,
@@ -186,7 +186,7 @@ fn add_update(
     }
 }
 
-// The next update, of a key that the base lacks.
+// Writes the next update, of a key that the base lacks.
 fn put_update(
     base: &[i32],
     nb: usize,
@@ -214,7 +214,7 @@ fn put_update(
     }
 }
 
-// What comes next in a merge: an item of the base alone, an item with its update, or an update of a key that the base lacks.
+// The next step of a merge: an item of the base alone, an item with its update, or an update of a key that the base lacks.
 fn next_of(base: &[i32], nb: usize, to: usize, delta: &[i32], s: Merge) -> Next
     requires { ⌜ Held (now base) nb × (to ≤ nb) × Updates [] (now delta) (s .update) (s .left) × (0 < (to - s .item) + s .left) ⌝ }
     ensures { λ r. ⌜ Comes (now (base .entry)) to (now (delta .entry)) s r ⌝ }
@@ -236,7 +236,7 @@ fn next_of(base: &[i32], nb: usize, to: usize, delta: &[i32], s: Merge) -> Next
     Next::Update
 }
 
-// The next item of the base, or the next update, or both. Each case is called once, so that the compiler keeps the state of the merge in registers.
+// Merges the next item of the base, or the next update, or both. Each case is called once, so that the compiler keeps the state of the merge in registers.
 fn merge_one(
     base: &[i32],
     nb: usize,
@@ -259,7 +259,7 @@ fn merge_one(
     }
 }
 
-// The base's items from one to another and the updates from a place on, both in unsigned order, merged.
+// Merges the base's items from one to another with the updates from a place on, both in unsigned order.
 fn merge_part(
     base: &[i32],
     nb: usize,
@@ -282,7 +282,7 @@ fn merge_part(
     s
 }
 
-// Where the updates begin whose keys are not negative as signed, and how many they are.
+// Where the updates with keys that are not negative begin, and how many there are.
 fn low_updates(delta: &[i32], from: usize, updated: usize) -> Low
     requires { ⌜ Updates [] (now delta) from updated ⌝ }
     ensures { λ r. ⌜ HighBefore (now (delta .entry)) from updated (r .update) (r .left) × NextLow (updates [] (now (delta .entry)) (r .update) (r .left)) ⌝ }
@@ -299,7 +299,7 @@ fn low_updates(delta: &[i32], from: usize, updated: usize) -> Low
     Low { update: p, left }
 }
 
-// The table that the delta makes, of so many items and ints, into the front of out.
+// Writes the table that the delta makes, of so many items and ints, into the front of out.
 fn write_table(
     base: &[i32],
     nb: usize,
@@ -338,7 +338,7 @@ fn write_table(
     merge_part(base, nb, nb, delta, deleted, n, out, rest);
 }
 
-// Nothing is made.
+// The refusal: nothing is made.
 fn refused(error: Error, unknown_delete: bool) -> Applied
     ensures { λ r. ⌜ r ≡ record { answer = stored.Refused error; «unknown_delete» = «unknown_delete» } ⌝ }
 {
@@ -348,7 +348,7 @@ fn refused(error: Error, unknown_delete: bool) -> Applied
     }
 }
 
-// A delta of so many deleted keys and updates applied to a base of nb items, into the front of out; a refused call leaves out as it was.
+// Applies a delta of so many deleted keys and updates to a base of nb items, into the front of out; a refused call leaves out unchanged.
 pub fn apply(
     base: &[i32],
     nb: usize,

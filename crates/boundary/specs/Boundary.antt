@@ -1,4 +1,4 @@
--- An outcome as C sees it: a number, outputs behind pointers, the counts in a row. Assumes nothing.
+-- An outcome as C sees it: a number, outputs through pointers, and the warning counts in a row. Assumes nothing.
 use mathlib.Core.List.{List, [], _∷_}
 use mathlib.Core.Bool.{Bool, not, cond}
 use mathlib.Core.Option.{Option, some, none}
@@ -47,16 +47,16 @@ module _ {A : Type 0} where
   warningsOf (ok a w) = w
   warningsOf (err n w) = w
 
-  -- an output: a part of the value, or what stood there where the call was refused
+  -- an output: a part of the value, or its previous content if the call was refused
   abbrev pub output : {B : Type 0} → (A → B) → B → Outcome A → B
   output f before (ok a w) = f a
   output f before (err n w) = before
 
--- a part of an area laid over the front of another
+-- a part of an area written over the front of another
 unfoldable pub partInto : List ℤ → List ℤ → Wrote ℕ ℤ
 partInto part out = stored out (return part)
 
--- the key or the tick at a place of a walk, or what stood there at its end
+-- the key or the tick at a place of a walk, or the previous content at its end
 abbrev pub keyOr : ℤ → Option ℤ → ℤ
 keyOr before (some k) = k
 keyOr before none = before
@@ -66,12 +66,12 @@ abbrev pub ended : Option ℤ → ℕ
 ended (some k) = 0
 ended none = 1
 
--- a value that is there where a flag is not 0
+-- a value that is present if a flag is not 0
 module _ {A : Type 0} where
   abbrev pub given : ℕ → A → Option A
   given n x = cond (not (eqb n 0)) (some x) none
 
--- a place for a clashing key, before and after a call, by its answer: 10 comes with such a key, else what stood there is left
+-- the output for a clashing key, before and after a call, by its answer: 10 comes with such a key, else the output is unchanged
 pub record Named (b t : Table) (before after : ℤ) (r : ℕ) : Type 0 where
   pub differs : r ≡ deltaDifferingSizes → Differing b t (bits after)
   pub left : (r ≡ deltaDifferingSizes → ⊥) → after ≡ before

@@ -1,3 +1,3 @@
--- What the C functions answer and leave. Assumes nothing.
+-- What the C functions return and write. Assumes nothing.
 pub mod Boundary
 pub mod Outcomes

@@ -1,4 +1,4 @@
--- What the outputs hold, from an outcome that is known. Assumes nothing.
+-- What the outputs hold, given a known outcome. Assumes nothing.
 use mathlib.Core.Path.{_≡_, refl, ap, _∙_}
 use mathlib.Core.Bool.{Bool, true, false, cond}
 use mathlib.Core.List.{List}
@@ -45,7 +45,7 @@ module _ (o : Wrote ℕ ℤ) where
   told-read (write.Ints n) e r count₀ count counts p q t = rw (e, p, q, t) (refl, (refl, (refl, refl)))
   told-read (write.Refused n) e r count₀ count counts p q t = rw (e, p, q, t) (refl, (refl, (refl, refl)))
 
--- what a copy comes to
+-- the result of a copy
 abbrev storedBy : ℕ → Copied → Wrote ℕ ℤ
 storedBy n c = record { answer = cond (c .fits) (return n) (refuse capacityError); out = c .out }
 
@@ -61,7 +61,7 @@ part-stored out xs = rw (zero-add (length xs)) (by-room (leb (length xs) (length
 pub copied : (out xs : List ℤ) {b : Bool} {now : List ℤ} → copyAt out 0 xs ≡ record { fits = b; out = now } → partInto xs out ≡ record { answer = cond b (return (length xs)) (refuse capacityError); out = now }
 copied out xs e = part-stored out xs ∙ ap (storedBy (length xs)) e
 
--- a part that is another
+-- the same for an equal part
 pub moved : (x y out : List ℤ) → x ≡ y → (r count₀ count : ℕ) (now : List ℤ) → (r ≡ status (partInto x out .answer)) × ((now ≡ partInto x out .out) × (count ≡ output (λ (n : ℕ). n) count₀ (partInto x out .answer))) → (r ≡ status (partInto y out .answer)) × ((now ≡ partInto y out .out) × (count ≡ output (λ (n : ℕ). n) count₀ (partInto y out .answer)))
 moved x y out e r count₀ count now p = rw e at p
 
@@ -74,7 +74,7 @@ module _ (o : Outcome (Option ℤ)) where
   pub walk-refused : {n : ℕ} {w : Counts} → o ≡ err n w → (r : ℕ) (key : ℤ) (end : ℕ) → r ≡ n → (r ≡ status o) × ((key ≡ output (keyOr key) key o) × (end ≡ output ended end o))
   walk-refused e r key end p = rw (e, p) (refl, (refl, refl))
 
--- ---- a value that is there or not
+-- ---- a value that is present or absent
 
 module _ {A : Type 0} where
   pub not-given : (has : ℕ) (x : A) → has ≡ 0 → given has x ≡ none

@@ -1,4 +1,4 @@
-// The counts in a row, a flag, a count behind a pointer, and a part that is copied.
+// The warning counts in a row, a flag, a count behind a pointer, and copying a part.
 ghost use mathlib.Core.Path.{_≡_};
 ghost use Rattle.definitions.specs.Packed.{warned};
 ghost use Rattle.format.specs.Totals.{counts};
@@ -30,7 +30,7 @@ pub fn row(w: Warnings) -> [usize; 13]
     ]
 }
 
-// The counts of an integer's warnings in a row.
+// The row of counts for an integer's warnings.
 pub fn warned_row(overlong: bool, padding: bool) -> [usize; 13]
     ensures { λ r. ⌜ r ≡ Boundary.row (warned overlong padding) ⌝ }
 {
@@ -58,7 +58,7 @@ pub fn flag(b: bool) -> u32
     if b { 1 } else { 0 }
 }
 
-// A count where there is one, and the number of the answer.
+// Sets the count if there is one; returns the number of the answer.
 pub fn told(w: Stored, count: &mut usize) -> u32
     ensures { λ r. ⌜ r ≡ status (storedInts w) ⌝ }
     ensures { λ _. ⌜ now (count .exit) ≡ output (λ n. n) (now (count .entry)) (storedInts w) ⌝ }
@@ -72,7 +72,7 @@ pub fn told(w: Stored, count: &mut usize) -> u32
     }
 }
 
-// Ints into the front of out.
+// Copies ints into the front of out.
 pub fn part_into(part: &[i32], out: &mut [i32], count: &mut usize) -> u32
     ensures { λ r. ⌜ r ≡ status (partInto (now (part .entry)) (now (out .entry)) .answer) ⌝ }
     ensures { λ _. ⌜ now (out .exit) ≡ partInto (now (part .entry)) (now (out .entry)) .out ⌝ }

@@ -1,4 +1,4 @@
--- A store in its rows, and one that is emptied: its count fits, and its rows are told. Assumes nothing.
+-- A store in its rows, and one that is emptied: its count fits, and its rows are determined. Assumes nothing.
 use mathlib.Core.Path.{_≡_, sym, ap, _∙_}
 use mathlib.Core.List.{List}
 use native.Mathlib.Omega.{arith}
@@ -10,7 +10,7 @@ use Rattle.definitions.specs.StorageCalls.{StoreStep, resetCall}
 use Rattle.boundary_states.specs.Rows.{storeTicks, storeCounts}
 use Rattle.boundary_states.specs.Few.{Fits}
 
--- a store by another name
+-- for an equal store
 pub fits-before : {s h : Store} → s ≡ h → Fits s → Fits h
 fits-before e f = rw e at f
 

@@ -1,4 +1,4 @@
--- How many tables a call leaves in a store: no more than a row can tell. Assumes nothing.
+-- How many tables a call leaves in a store: no more than a row can hold. Assumes nothing.
 use mathlib.Core.Path.{_≡_, refl}
 use mathlib.Core.Bool.{Bool, true, false, cond, _&&_}
 use mathlib.Core.List.{List, _∷_}
@@ -26,7 +26,7 @@ use Rattle.definitions.specs.Manager.{Manager, fittingDelta, sumOf, receive, af
 use Rattle.laws.specs.StoreForm.{storage-laid}
 use Rattle.storage.specs.Fewer.{few-for}
 
--- ---- what holds of a value, where there is one
+-- ---- what holds of a value, if there is one
 
 module _ {A : Type 0} (P : A → Type 0) where
   abbrev pub Every : Outcome A → Type 0
@@ -37,7 +37,7 @@ module _ {A : Type 0} (P : A → Type 0) where
   every-after w (ok a v) p = p
   every-after w (err n v) p = tt
 
-  -- of two steps, by the second
+  -- for two steps, by the second
   pub every-then : {B : Type 0} (o : Outcome B) (q : Outcome A) → Every q → Every (o >> q)
   every-then (ok b w) q p = every-after w q p
   every-then (err n w) q p = tt
@@ -47,7 +47,7 @@ module _ {A : Type 0} (P : A → Type 0) where
   every-last (err n w) f p = tt
 
 module _ {A B : Type 0} (P : A → Type 0) (Q : B → Type 0) where
-  -- of two steps, by both
+  -- for two steps, by both
   pub every-bind : (o : Outcome A) (f : A → Outcome B) → Every P o → ((a : A) → P a → Every Q (f a)) → Every Q (o >>= f)
   every-bind (ok a w) f p g = every-after Q w (f a) (g a p)
   every-bind (err n w) f p g = tt
@@ -66,7 +66,7 @@ held-few s area = go (storageOf s area) refl
     go (some h) e = storage-laid s area h e .few
     go none e = tt
 
--- of two, one is left
+-- either of two
 either : {A : Type 0} (b : Bool) (k l : Keeps A) → Few (k .storage) → Few (l .storage) → Few (cond b k l .storage)
 either true k l p q = p
 either false k l p q = q

@@ -1,4 +1,4 @@
--- The rows of a state hold it, and are those of the same state by another name. Assumes nothing.
+-- The rows of a state hold it, and equal those of an equal state. Assumes nothing.
 use mathlib.Core.Path.{_≡_, refl, ap, _∙_}
 use mathlib.Core.List.{List}
 use mathlib.Core.Option.{Option, some, none}
@@ -23,14 +23,14 @@ receiver-held r = rw (tick-held (r .previousTick), current-held (r .current))
 pub store-held : (s : Store) → heldStore (storeTicks s) (storeCounts s) ≡ s
 store-held s = rw (tick-held (s .ackTick), tick-held (s .deltaTick))
 
--- rows that are a state's hold it
+-- the rows of a state hold it
 pub receiver-rows : (r : Receiver) {ticks : List ℤ} {counts lengths : List ℕ} → ticks ≡ receiverTicks r → counts ≡ receiverCounts r → lengths ≡ r .parts → heldReceiver ticks counts lengths ≡ r
 receiver-rows r p q l = rw (p, q, l) (receiver-held r)
 
 pub store-rows : (s : Store) {ticks : List ℤ} {counts : List ℕ} → ticks ≡ storeTicks s → counts ≡ storeCounts s → heldStore ticks counts ≡ s
 store-rows s p q = rw (p, q) (store-held s)
 
--- ---- by another name
+-- ---- for an equal state
 
 module _ {r f : Receiver} {ticks : List ℤ} {counts lengths : List ℕ} (e : r ≡ f) where
   pub receiver-told : (ticks ≡ receiverTicks r) × ((counts ≡ receiverCounts r) × (lengths ≡ r .parts)) → (ticks ≡ receiverTicks f) × ((counts ≡ receiverCounts f) × (lengths ≡ f .parts))

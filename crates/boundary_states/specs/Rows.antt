@@ -35,7 +35,7 @@ heldStore ticks counts =
       deltaTick = given (getD counts 2 0) (getD ticks 1 (pos 0));
     }
 
--- ---- the rows of a state: 0 where nothing is there, flags 0 or 1
+-- ---- the rows of a state: 0 for what is absent, flags 0 or 1
 
 -- a tick, 0 without one
 abbrev pub tickOrZero : Option ℤ → ℤ
@@ -47,7 +47,7 @@ abbrev pub currentOrZeros : Option Current → Current
 currentOrZeros (some c) = c
 currentOrZeros none = record { tick = pos 0; deltaTick = pos 0; numParts = 0; crc = pos 0 }
 
--- 1 where something is there, else 0
+-- 1 if something is present, else 0
 module _ {A : Type 0} where
   abbrev pub isThere : Option A → ℕ
   isThere (some x) = 1
@@ -77,7 +77,7 @@ storeCounts s = s .count ∷ isThere (s .ackTick) ∷ isThere (s .deltaTick) ∷
 
 -- ---- a call
 
--- whether two are the same
+-- whether two values are equal
 pub record Compares {A : Type 0} (x y : A) (r : Bool) : Type 0 where
   pub same : r ≡ true → x ≡ y
   pub told : x ≡ y → r ≡ true
@@ -90,13 +90,13 @@ pub record Ticks : Type 0 where
 abbrev pub ticksOf : Receiver → Ticks
 ticksOf r = record { previous = r .previousTick; current = r .current }
 
--- the rows of a receiver before and after a call: they hold it; those of its ticks are left entry for entry where they held these, else they are the receiver's
+-- a receiver's rows before and after a call: they hold it; its ticks' rows are unchanged if they held these ticks, else they are the receiver's
 pub record SavedReceiver (r : Receiver) (ticks₀ : List ℤ) (counts₀ lengths₀ : List ℕ) (ticks : List ℤ) (counts lengths : List ℕ) : Type 0 where
   pub holds : heldReceiver ticks counts lengths ≡ r
   pub left : ticksOf (heldReceiver ticks₀ counts₀ lengths₀) ≡ ticksOf r → (ticks ≡ ticks₀) × (counts ≡ counts₀)
   pub written : (ticksOf (heldReceiver ticks₀ counts₀ lengths₀) ≡ ticksOf r → ⊥) → (ticks ≡ receiverTicks r) × (counts ≡ receiverCounts r)
 
--- the rows of a store before and after a call: they hold it, and are left entry for entry where they held it, else they are the store's
+-- the rows of a store before and after a call: they hold it, and are unchanged if they held it before, else they are the store's
 pub record SavedStore (s : Store) (ticks₀ : List ℤ) (counts₀ : List ℕ) (ticks : List ℤ) (counts : List ℕ) : Type 0 where
   pub holds : heldStore ticks counts ≡ s
   pub left : heldStore ticks₀ counts₀ ≡ s → (ticks ≡ ticks₀) × (counts ≡ counts₀)

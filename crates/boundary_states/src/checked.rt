@@ -17,7 +17,7 @@ use receiver::checked::ticks_of;
 use receiver::checked::with_lengths;
 use storage::Storage;
 
-// A tick that is there where a flag is not 0.
+// A tick that is present if the flag is not 0.
 fn tick_in(flag: u32, tick: i32) -> OptionTick
     ensures { λ r. ⌜ tickOf r ≡ given flag tick ⌝ }
 {
@@ -27,7 +27,7 @@ fn tick_in(flag: u32, tick: i32) -> OptionTick
     OptionTick::None
 }
 
-// An unfinished tick that is there where a flag is not 0.
+// An unfinished tick that is present if the flag is not 0.
 fn current_in(flag: u32, opened: CurrentDelta) -> Current
     ensures { λ r. ⌜ currentOf r ≡ given flag (currentIn opened) ⌝ }
 {
@@ -37,7 +37,7 @@ fn current_in(flag: u32, opened: CurrentDelta) -> Current
     Current::None
 }
 
-// A tick, 0 where there is none.
+// A tick, or 0 if there is none.
 fn tick_or_zero(tick: OptionTick) -> i32
     ensures { λ r. ⌜ r ≡ tickOrZero (tickOf tick) ⌝ }
 {
@@ -47,7 +47,7 @@ fn tick_or_zero(tick: OptionTick) -> i32
     }
 }
 
-// 1 for a tick, 0 where there is none.
+// 1 for a tick, 0 if there is none.
 fn tick_flag(tick: OptionTick) -> u32
     ensures { λ r. ⌜ r ≡ isThere (tickOf tick) ⌝ }
 {
@@ -57,7 +57,7 @@ fn tick_flag(tick: OptionTick) -> u32
     }
 }
 
-// An unfinished tick, zeros where there is none.
+// An unfinished tick, or zeros if there is none.
 fn current_or_zeros(current: Current) -> CurrentDelta
     ensures { λ r. ⌜ currentIn r ≡ currentOrZeros (currentOf current) ⌝ }
 {
@@ -72,7 +72,7 @@ fn current_or_zeros(current: Current) -> CurrentDelta
     opened
 }
 
-// 1 for an unfinished tick, 0 where there is none.
+// 1 for an unfinished tick, 0 if there is none.
 fn current_flag(current: Current) -> u32
     ensures { λ r. ⌜ r ≡ isThere (currentOf current) ⌝ }
 {
@@ -82,7 +82,7 @@ fn current_flag(current: Current) -> u32
     }
 }
 
-// The ticks of a receiver in two rows.
+// Reads the ticks of a receiver from two rows.
 pub fn load_ticks(ticks: &[i32; 4], counts: &[u32; 3]) -> Ticks
     ensures { λ r. ⌜ ((lengths : List ℕ) → receiverWith r lengths ≡ heldReceiver (now (ticks .entry)) (now (counts .entry)) lengths) ⌝ }
 {
@@ -104,7 +104,7 @@ pub fn load_ticks(ticks: &[i32; 4], counts: &[u32; 3]) -> Ticks
     }
 }
 
-// The ticks of a receiver into their rows.
+// Writes the ticks of a receiver into their rows.
 pub fn write_ticks(r: Ticks, ticks: &mut [i32; 4], counts: &mut [u32; 3])
     ensures { λ _. ⌜ now (ticks .exit) ≡ receiverTicks (receiverWith r []) ⌝ }
     ensures { λ _. ⌜ now (counts .exit) ≡ receiverCounts (receiverWith r []) ⌝ }
@@ -119,7 +119,7 @@ pub fn write_ticks(r: Ticks, ticks: &mut [i32; 4], counts: &mut [u32; 3])
     *counts = [has_previous, has_current, opened.num_parts];
 }
 
-// The receiver in three rows.
+// Reads a receiver from three rows.
 pub fn load_receiver(ticks: &[i32; 4], counts: &[u32; 3], lengths: &[u16; 32]) -> DeltaReceiver
     ensures { λ r. ⌜ receiverOf r ≡ heldReceiver (now (ticks .entry)) (now (counts .entry)) (now (lengths .entry)) ⌝ }
 {
@@ -128,7 +128,7 @@ pub fn load_receiver(ticks: &[i32; 4], counts: &[u32; 3], lengths: &[u16; 32]) -
     with_lengths(t, parts)
 }
 
-// A receiver into its rows.
+// Writes a receiver into its rows.
 pub fn write_receiver(
     r: DeltaReceiver,
     ticks: &mut [i32; 4],
@@ -151,7 +151,7 @@ fn size(count: u32) -> usize
     count as usize
 }
 
-// The store in two rows.
+// Reads a store from two rows.
 pub fn load_storage(ticks: &[i32; 2], counts: &[u32; 3]) -> Storage
     ensures { λ r. ⌜ storeOf r ≡ heldStore (now (ticks .entry)) (now (counts .entry)) ⌝ }
     ensures { λ r. ⌜ r .count < 2 ^ 32 ⌝ }
@@ -166,7 +166,7 @@ pub fn load_storage(ticks: &[i32; 2], counts: &[u32; 3]) -> Storage
     }
 }
 
-// A store into its rows.
+// Writes a store into its rows.
 pub fn write_storage(s: Storage, ticks: &mut [i32; 2], counts: &mut [u32; 3])
     requires { ⌜ s .count < 2 ^ 32 ⌝ }
     ensures { λ _. ⌜ now (ticks .exit) ≡ storeTicks (storeOf s) ⌝ }
@@ -179,7 +179,7 @@ pub fn write_storage(s: Storage, ticks: &mut [i32; 2], counts: &mut [u32; 3])
     *counts = [count, tick_flag(ack_tick), tick_flag(delta_tick)];
 }
 
-// Whether two ticks, or their absence, are the same.
+// Whether two ticks are equal or both absent.
 fn same_tick(a: OptionTick, b: OptionTick) -> bool
     ensures { λ r. ⌜ Compares (tickOf a) (tickOf b) r ⌝ }
 {
@@ -195,7 +195,7 @@ fn same_tick(a: OptionTick, b: OptionTick) -> bool
     tick == other
 }
 
-// Whether two unfinished ticks are the same.
+// Whether two unfinished ticks are equal.
 fn same_opened(a: CurrentDelta, b: CurrentDelta) -> bool
     ensures { λ r. ⌜ Compares (currentIn a) (currentIn b) r ⌝ }
 {
@@ -211,7 +211,7 @@ fn same_opened(a: CurrentDelta, b: CurrentDelta) -> bool
     a.crc == b.crc
 }
 
-// Whether two unfinished ticks, or their absence, are the same.
+// Whether two unfinished ticks are equal or both absent.
 fn same_current(a: Current, b: Current) -> bool
     ensures { λ r. ⌜ Compares (currentOf a) (currentOf b) r ⌝ }
 {
@@ -227,7 +227,7 @@ fn same_current(a: Current, b: Current) -> bool
     same_opened(opened, other)
 }
 
-// Whether two receivers are the same but for the lengths of parts.
+// Whether two receivers are equal except for the lengths of parts.
 fn same_ticks(a: DeltaReceiver, b: DeltaReceiver) -> bool
     ensures { λ r. ⌜ Compares (ticksOf (receiverOf a)) (ticksOf (receiverOf b)) r ⌝ }
 {
@@ -241,7 +241,7 @@ fn same_ticks(a: DeltaReceiver, b: DeltaReceiver) -> bool
     same_current(current, other)
 }
 
-// A receiver into its rows; those of its ticks are left where they hold them.
+// Writes a receiver into its rows; those of its ticks are unchanged if they hold them already.
 pub fn save_receiver(
     r: DeltaReceiver,
     ticks: &mut [i32; 4],
@@ -259,7 +259,7 @@ pub fn save_receiver(
     write_receiver(r, ticks, counts, lengths);
 }
 
-// Whether two stores are the same.
+// Whether two stores are equal.
 fn same_storage(a: Storage, b: Storage) -> bool
     ensures { λ r. ⌜ Compares (storeOf a) (storeOf b) r ⌝ }
 {
@@ -276,7 +276,7 @@ fn same_storage(a: Storage, b: Storage) -> bool
     same_tick(base, other_base)
 }
 
-// A store into its rows, which are left where they hold it.
+// Writes a store into its rows, which are unchanged if they hold it already.
 pub fn save_storage(s: Storage, ticks: &mut [i32; 2], counts: &mut [u32; 3])
     requires { ⌜ s .count < 2 ^ 32 ⌝ }
     ensures { λ _. ⌜ SavedStore (storeOf s) (now (ticks .entry)) (now (counts .entry)) (now (ticks .exit)) (now (counts .exit)) ⌝ }

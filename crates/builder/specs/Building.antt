@@ -1,4 +1,4 @@
--- A builder's table in an area, and what adding to it comes to. Assumes nothing.
+-- A builder's table in an area, and the result of adding to it. Assumes nothing.
 use mathlib.Core.Path.{_≡_}
 use mathlib.Core.Bool.{true, false}
 use mathlib.Core.List.{List}
@@ -18,7 +18,7 @@ use Rattle.table.specs.Held.{Held}
 use Rattle.builder.specs.declared.checked.Building.{Building}
 use Rattle.builder.specs.declared.checked.Building.the-variants as building
 
--- r kinds run from 4000 hex on; more than 1,024 where they do not
+-- r kinds run from 4000 hex on; more than 1,024 if they do not
 pub record Runs (t : Table) (r : ℕ) : Type 0 where
   pub run : r ≤ 1024 → (kindsRun 16384 t ≡ true) × (numKinds t ≡ r)
   pub gap : 1024 < r → kindsRun 16384 t ≡ false
@@ -32,16 +32,16 @@ pub record Built-as (a : List ℤ) (n k m : ℕ) : Type 0 where
   pub few : m ≤ 1024
   pub types : isOk (typed (items a)) ≡ true
 
--- what an answer tells of an area
+-- what an answer says of an area
 abbrev pub Built : List ℤ → Building → Type 0
 Built a (building.Table n k m) = Built-as a n k m
 Built a building.Bad = heldBuilder a ≡ refuse notInForm
 
--- what adding an item to the builder's table of an area comes to
+-- the result of adding an item to the builder's table of an area
 abbrev pub addedAs : List ℤ → TypeId → ℕ → List ℤ → Wrote ℕ ℤ
 addedAs a type id values = addWhere a type id values (judgeTypeId type >> return (items a))
 
--- a table of n items and so many ints has no item with the key of i, which has d ints, and an area no room for it with i
+-- a table of n items and so many ints has no item with the key of i, which has d ints, and the area has no room for the table with i
 pub record NoRoom (a : List ℤ) (t : Table) (i : Item) (n ints d : ℕ) : Type 0 where
   pub fresh : isSome (find (i .key) t) ≡ false
   pub count-is : length t ≡ n

@@ -21,7 +21,7 @@ use table_adding::checked::add;
 use types::checked::Types;
 use types::checked::judge_form;
 
-// How many kinds there are, whose items run from id 4000 hex on without a gap, four ints each; 1,025 where they do not.
+// How many kinds there are if their items run from id 4000 hex on without a gap, four ints each; 1,025 if they do not.
 pub fn count_kinds(area: &[i32], n: usize) -> usize
     requires { ⌜ Held (now area) n ⌝ }
     ensures { λ r. ⌜ Runs (items (now (area .entry))) r ⌝ }
@@ -93,7 +93,7 @@ pub fn add_ordinal(
     add(area, n, ints, format::key(number, id), data)
 }
 
-// Why an item is refused in a table of n items and so many ints, where the area has no room for it.
+// Why an item is refused in a table of n items and so many ints if the area has no room for it.
 pub fn refuse_without_room(n: usize, ints: usize, data: &[i32]) -> Error
     requires { ⌜ ints ≤ 16384 ⌝ }
     ensures { λ r. ⌜ RefusesAs n ints (length (now («data» .entry))) r ⌝ }
@@ -107,7 +107,7 @@ pub fn refuse_without_room(n: usize, ints: usize, data: &[i32]) -> Error
     Error::CapacityError
 }
 
-// Adds the item that names a kind, which has no number yet, and then an item of that kind; where the first lacks room, the other is judged
+// Adds the item that names a kind, which has no number yet, and then an item of that kind; if the first has no room, the other is judged
 // all the same, and nothing is written.
 pub fn add_with_kind(
     area: &mut [i32],

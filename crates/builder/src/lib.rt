@@ -1,4 +1,4 @@
-// Tables with types that are made item by item: the kinds of 16 bytes get numbers from 4000 hex on.
+// Tables with types, made item by item: kinds of 16 bytes get numbers from 4000 hex on.
 ghost use mathlib.Core.Path.{_≡_};
 ghost use Rattle.definitions.specs.Builder.{newCall, builderAddItemCall, finishCall};
 ghost use Rattle.format.specs.Answers.{storedInts};
@@ -17,8 +17,8 @@ pub fn new(out: &mut [i32]) -> Stored
     raw_snap::empty(out)
 }
 
-// Adds an item in its place by key. An item of a kind that is new to the table comes with the item that names the kind, which stays, if it
-// fits, where the other is refused; else a refused call leaves the area as it was.
+// Adds an item at its place by key. An item of a kind that is new to the table comes with the item that names the kind; that one stays, if it
+// fits, even if the other is refused. Apart from that, a refused call leaves the area unchanged.
 pub fn add_item(area: &mut [i32], type_id: TypeId, id: u16, data: &[i32]) -> Stored
     ensures { λ r. ⌜ builderAddItemCall (now (area .entry)) (typeOf «type_id») id (now («data» .entry)) ≡ record { answer = storedInts r; out = now (area .exit) } ⌝ }
 {

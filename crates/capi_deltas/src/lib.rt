@@ -12,7 +12,7 @@ use delta_making::Made;
 use format::Error;
 use packer::IntWrite;
 
-// The empty delta into the front of out.
+// Writes the empty delta into the front of out.
 #[no_mangle]
 pub extern "C" fn cef_delta_clear(out: &mut [i32], count: &mut usize) -> u32
     ensures { λ r. ⌜ r ≡ status (clearCall (now (out .entry)) .answer) ⌝ }
@@ -22,7 +22,7 @@ pub extern "C" fn cef_delta_clear(out: &mut [i32], count: &mut usize) -> u32
     told(delta::clear(out), count)
 }
 
-// The delta from a base to a target into the front of out; where two items of one key differ in length, such a key.
+// Writes the delta from a base to a target into the front of out; if two items of one key differ in length, sets such a key.
 #[no_mangle]
 pub extern "C" fn cef_delta_create(
     base: &[i32],
@@ -50,7 +50,7 @@ pub extern "C" fn cef_delta_create(
     }
 }
 
-// A delta's ints under known sizes into the front of out.
+// Writes a delta's ints under known sizes into the front of out.
 #[no_mangle]
 pub extern "C" fn cef_delta_write_to_ints(
     area: &[i32],
@@ -65,7 +65,7 @@ pub extern "C" fn cef_delta_write_to_ints(
     told(delta::write_to_ints(area, sizes, out), count)
 }
 
-// A delta packed under known sizes into the front of out.
+// Packs a delta under known sizes into the front of out.
 #[no_mangle]
 pub extern "C" fn cef_delta_write(
     area: &[i32],
@@ -87,7 +87,7 @@ pub extern "C" fn cef_delta_write(
     }
 }
 
-// A delta of ints under known sizes into the front of out.
+// Reads a delta from ints under known sizes into the front of out.
 #[no_mangle]
 pub extern "C" fn cef_delta_read_from_ints(
     src: &[i32],
@@ -109,7 +109,7 @@ pub extern "C" fn cef_delta_read_from_ints(
     told(answer, count)
 }
 
-// A packed delta under known sizes into the front of out.
+// Reads a packed delta under known sizes into the front of out.
 #[no_mangle]
 pub extern "C" fn cef_delta_read(
     src: &[u8],
@@ -131,7 +131,7 @@ pub extern "C" fn cef_delta_read(
     told(answer, count)
 }
 
-// The differences of an item's data from the base's, where it has any, into the front of out.
+// Writes the differences of an item's data from the base's data, if there is any, into the front of out.
 #[no_mangle]
 pub extern "C" fn cef_create_item_delta(
     has_from: u32,
@@ -150,7 +150,7 @@ pub extern "C" fn cef_create_item_delta(
     told(format::create_item_delta(true, from, to, out), count)
 }
 
-// An item's data from its differences and the base's data, where it has any, into the front of out.
+// Writes an item's data, from its differences and the base's data, if there is any, into the front of out.
 #[no_mangle]
 pub extern "C" fn cef_apply_item_delta(
     has_from: u32,

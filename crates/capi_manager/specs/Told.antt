@@ -17,7 +17,7 @@ use Rattle.manager.specs.declared.Handling.{Handling}
 use Rattle.boundary.specs.Boundary.{row, status, warningsOf, output, keyOr}
 use Rattle.boundary_states.specs.Rows.{SavedReceiver, SavedStore}
 
--- 1 where a table was taken, 0 where parts are missing
+-- 1 if a table was taken, 0 if parts are missing
 abbrev pub tookOne : Option ℤ → ℕ
 tookOne (some tick) = 1
 tookOne none = 0
@@ -57,7 +57,7 @@ pub record Tells (a : Handled) (taken₀ : ℕ) (ack₀ : ℤ) (taken : ℕ) (ac
   pub taken-is : (w : Counts) → taken ≡ output tookOne taken₀ (handledWith a w)
   pub ack-is : (w : Counts) → ack ≡ output (keyOr ack₀) ack₀ (handledWith a w)
 
--- what a message came to, with its counts
+-- the result of a message, with its counts
 pub record Settles (h : Handling) (before after : Rows) (warnings : List ℕ) (r : ℕ) : Type 0 where
   pub tells : Tells (h .answer) (before .taken) (before .ack) (after .taken) (after .ack) r
   pub saved : Saved (receiverOf (h .manager .receiver)) (storeOf (h .manager .storage)) before after

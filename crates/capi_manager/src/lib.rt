@@ -67,7 +67,7 @@ pub extern "C" fn cef_manager_reset(
     write_storage(emptied.storage, ticks, counts);
 }
 
-// Whether a table was taken and its tick, and the number of the answer.
+// Sets whether a table was taken and its tick; returns the number of the answer.
 fn tell(a: Handled, taken: &mut u32, ack: &mut i32) -> u32
     ensures { λ r. ⌜ Tells a (now (taken .entry)) (now (ack .entry)) (now (taken .exit)) (now (ack .exit)) r ⌝ }
 {
@@ -85,7 +85,7 @@ fn tell(a: Handled, taken: &mut u32, ack: &mut i32) -> u32
     }
 }
 
-// The manager that a message leaves into its rows, and what came of the message.
+// Writes the manager after a message into its rows, and sets the outputs of the message.
 fn settle(
     h: Handling,
     receiver_ticks: &mut [i32; 4],
@@ -108,7 +108,7 @@ fn settle(
     tell(answer, taken, ack)
 }
 
-// Takes a part of a delta; the last one missing has all of it joined, read, applied to its base, held and acknowledged.
+// Takes a part of a delta. With the last missing part, the delta is joined, read and applied to its base; the table is held and acknowledged.
 #[no_mangle]
 pub extern "C" fn cef_manager_snap(
     receiver_ticks: &mut [i32; 4],
@@ -218,7 +218,7 @@ pub extern "C" fn cef_manager_snap_single(
     )
 }
 
-// Takes an empty delta: the table is its base again.
+// Takes an empty delta: the table equals its base.
 #[no_mangle]
 pub extern "C" fn cef_manager_snap_empty(
     receiver_ticks: &mut [i32; 4],

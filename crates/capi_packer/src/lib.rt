@@ -1,4 +1,4 @@
-// The calls on packed integers as C sees them. include/cefdugar.h says the same for people who write C.
+// The calls on packed integers as C sees them. include/cefdugar.h documents them for C callers.
 ghost use mathlib.Core.Path.{_≡_};
 ghost use Rattle.definitions.specs.Packer.{readIntAt, writeIntAt, unpackInto};
 ghost use Rattle.boundary.specs.Boundary as Boundary;
@@ -11,7 +11,7 @@ use packer::IntRead;
 use packer::IntWrite;
 use packer::IntsRead;
 
-// The packed integer at a place of src.
+// Reads the packed integer at a place of src.
 #[no_mangle]
 pub extern "C" fn cef_read_int(
     src: &[u8],
@@ -37,7 +37,7 @@ pub extern "C" fn cef_read_int(
     };
     *value = v;
     *next = n;
-    // A test for each warning: the compiler leaves both out for an integer of one byte.
+    // Each warning has its own test: the compiler omits both for an integer of one byte.
     if padding {
         *warnings = warned_row(overlong, true);
         return 0;
@@ -49,7 +49,7 @@ pub extern "C" fn cef_read_int(
     0
 }
 
-// The shortest form of value into out at a place.
+// Writes the shortest form of value into out at a place.
 #[no_mangle]
 pub extern "C" fn cef_write_int(out: &mut [u8], at: usize, value: i32, next: &mut usize) -> u32
     ensures { λ r. ⌜ r ≡ status (writeIntAt (now (out .entry)) at value .answer) ⌝ }
@@ -66,7 +66,7 @@ pub extern "C" fn cef_write_int(out: &mut [u8], at: usize, value: i32, next: &mu
     }
 }
 
-// All the packed integers of src into the front of out.
+// Unpacks all integers of src into the front of out.
 #[no_mangle]
 pub extern "C" fn cef_unpack(
     src: &[u8],

@@ -1,4 +1,4 @@
-// The readers' calls as C sees them. include/cefdugar.h says the same for people who write C.
+// The readers' calls as C sees them. include/cefdugar.h documents them for C callers.
 ghost use mathlib.Core.Path.{_≡_};
 ghost use Rattle.definitions.specs.Packer.{readIntAt};
 ghost use Rattle.definitions.specs.Readers.{plainIntAt};
@@ -12,7 +12,7 @@ use format::Warnings;
 use packer::IntRead;
 use packer::ReaderAnswer;
 
-// Where a reader stands, in the outputs that say so.
+// Sets the outputs for the position of a reader.
 fn put_standing(r: ReaderAnswer, next: &mut usize, left: &mut usize, empty: &mut u32)
     ensures { λ _. ⌜ (now (next .exit) ≡ r .at) × ((now (left .exit) ≡ r .left) × (now (empty .exit) ≡ flag (r .empty))) ⌝ }
 {
@@ -21,7 +21,7 @@ fn put_standing(r: ReaderAnswer, next: &mut usize, left: &mut usize, empty: &mut
     *empty = boundary::checked::flag(r.empty);
 }
 
-// What a reader over packed bytes answers that stands at a place of src. Only value is left where it is refused.
+// The answer of a reader over packed bytes at a place of src. If it is refused, only value is unchanged.
 #[no_mangle]
 pub extern "C" fn cef_unpacker_read_int(
     src: &[u8],
@@ -55,7 +55,7 @@ pub extern "C" fn cef_unpacker_read_int(
     0
 }
 
-// What a reader over ints answers that stands at a place of src. Only value is left where it is refused.
+// The answer of a reader over ints at a place of src. If it is refused, only value is unchanged.
 #[no_mangle]
 pub extern "C" fn cef_int_unpacker_read_int(
     src: &[i32],

@@ -12,7 +12,7 @@ use Rattle.boundary_states.specs.Rows.{receiverTicks, receiverCounts}
 
 -- ---- the receiver's rows
 
--- the rows of its ticks after a call: the receiver's, or what stood there where the call was refused
+-- the rows of its ticks after a call: the receiver's, or unchanged if the call was refused
 abbrev pub ticksAfter : List ℤ → Receiver.Receives → List ℤ
 ticksAfter before o = output (λ _. receiverTicks (o .receiver)) before (o .answer)
 
@@ -21,7 +21,7 @@ countsAfter before o = output (λ _. receiverCounts (o .receiver)) before (o .an
 
 -- ---- a delta that was received
 
--- 0 without one, 1 with bytes, 2 where the message was empty
+-- 0 without one, 1 with bytes, 2 if the message was empty
 abbrev pub kindOfBytes : Option Receiver.DataAndCrc → ℕ
 kindOfBytes (some b) = 1
 kindOfBytes none = 2
@@ -30,7 +30,7 @@ abbrev pub kindOf : Option Receiver.ReceivedDelta → ℕ
 kindOf none = 0
 kindOf (some d) = kindOfBytes (d .dataAndCrc)
 
--- its tick, its base and its sum, 0 where the message was empty; what stood there without one
+-- its tick, its base and its sum, 0 if the message was empty; unchanged without one
 abbrev pub sumOf : Option Receiver.DataAndCrc → ℤ
 sumOf (some b) = b .crc
 sumOf none = pos 0
@@ -39,7 +39,7 @@ abbrev pub ticksOr : List ℤ → Option Receiver.ReceivedDelta → List ℤ
 ticksOr before none = before
 ticksOr before (some d) = d .tick ∷ d .deltaTick ∷ sumOf (d .dataAndCrc) ∷ []
 
--- how many bytes were joined, 0 where the message was empty; what stood there without one
+-- how many bytes were joined, 0 if the message was empty; unchanged without one
 abbrev pub lengthOf : Option Receiver.DataAndCrc → ℕ
 lengthOf (some b) = b .length
 lengthOf none = 0
@@ -60,7 +60,7 @@ abbrev pub kindOfMessage : Option Message → ℕ
 kindOfMessage none = 0
 kindOfMessage (some m) = kindOfNumbers (m .numbers)
 
--- its tick, distance, part count, part number and sum, 0 where it has no such number; what stood there without one
+-- its tick, distance, part count, part number and sum, 0 for a number that it lacks; unchanged without one
 abbrev pub rowOf : Messages.SnapMsg → List ℤ
 rowOf (Messages.Snap tick distance n part crc) = tick ∷ distance ∷ n ∷ part ∷ crc ∷ []
 rowOf (Messages.SnapEmpty tick distance) = tick ∷ distance ∷ pos 0 ∷ pos 0 ∷ pos 0 ∷ []

@@ -1,4 +1,4 @@
--- Where the bytes of a message stand among those of its delta: from byte 900 i on. Assumes nothing.
+-- The place of a message's bytes among those of its delta: from byte 900 i on. Assumes nothing.
 use mathlib.Core.Path.{_≡_, refl, sym, ap, _∙_}
 use mathlib.Core.List.{List, [], _∷_}
 use mathlib.Core.Option.{Option, some, none}
@@ -15,7 +15,7 @@ use Rattle.laws.specs.Tests.{below}
 use Rattle.laws.specs.CutLaws.{chunks-none, chunks-single, length-chunks, nth-chunk, nth-past}
 use Rattle.delta_chunks.specs.Answers.{bytesIn, bytesOf}
 
--- bytes that stand at the place of message i
+-- bytes that are at the place of message i
 abbrev pub AtPlace : List ℕ → ℕ → List ℕ → Type 0
 AtPlace b i x = b ≡ take (length b) (drop (900 * i) x)
 
@@ -24,7 +24,7 @@ taken-length zero y = refl
 taken-length (suc n) [] = refl
 taken-length (suc n) (b ∷ y) = ap (λ (l : List ℕ). b ∷ l) (taken-length n y)
 
--- of a list of one message
+-- for a list of one message
 only : (m : SnapMsg) (b x : List ℕ) (i : ℕ) → AtPlace b 0 x → AtPlace (bytesIn (nthMessage (record { numbers = m; bytes = b } ∷ []) i)) i x
 only m b x zero p = p
 only m b x (suc i) p = refl
@@ -46,7 +46,7 @@ module _ (tick base : ℤ) (x : List ℕ) (crc : ℤ) (i : ℕ) where
           (λ (l : numParts x ≤ i). rw (nth-past (deltaChunks tick base x crc) i (omega (arith, length-chunks tick base x crc (omega arith)))) refl)
           (below i (numParts x))
 
-  -- the bytes that `cef_chunk` tells the length of
+  -- the bytes whose length `cef_chunk` returns
   pub bytes-place : AtPlace (bytesOf (chunkCall tick base x crc i)) i x
   bytes-place = ⊎-elim
       (λ (h : 1048576 < length x). rw (lt-leb (length x) 1048576 h) refl)

@@ -26,7 +26,7 @@ use receiver::checked::receive;
 use receiver::whole::receive_empty;
 use receiver::whole::receive_single;
 
-// What a message brought, where it was taken, and the number of the answer.
+// Sets what a message brought, if it was taken; returns the number of the answer.
 fn tell(a: Received, kind: &mut u32, numbers: &mut [i32; 3], len: &mut usize) -> u32
     ensures { λ r. ⌜ ((w : Counts) → r ≡ status (receivedWith a w)) ⌝ }
     ensures { λ _. ⌜ ((w : Counts) → now (kind .exit) ≡ output kindOf (now (kind .entry)) (receivedWith a w)) ⌝ }
@@ -75,7 +75,7 @@ pub extern "C" fn cef_num_chunks(data: &[u8], count: &mut usize) -> u32
     }
 }
 
-// The numbers of a message in a row, and its kind.
+// Writes the numbers of a message in a row; returns its kind.
 fn row_of(m: SnapMsg, numbers: &mut [i32; 5]) -> u32
     ensures { λ r. ⌜ r ≡ kindOfNumbers (gamenet.numbers m) ⌝ }
     ensures { λ _. ⌜ now (numbers .exit) ≡ rowOf (gamenet.numbers m) ⌝ }
@@ -106,7 +106,7 @@ fn row_of(m: SnapMsg, numbers: &mut [i32; 5]) -> u32
     }
 }
 
-// The i-th of these messages: its numbers, and how many bytes it has.
+// The i-th message: its numbers, and how many bytes it has.
 #[no_mangle]
 pub extern "C" fn cef_chunk(
     tick: i32,
@@ -169,7 +169,7 @@ pub extern "C" fn cef_receiver_reset(
     write_receiver(r.reset(), ticks, counts, lengths);
 }
 
-// Takes a part of a delta; the last one missing joins them all in joined.
+// Takes a part of a delta; the last missing part joins them all in joined.
 #[no_mangle]
 pub extern "C" fn cef_receiver_snap(
     ticks: &mut [i32; 4],

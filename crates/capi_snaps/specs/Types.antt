@@ -6,7 +6,7 @@ use lib.IntN.{ℤ, pos}
 use lib.ListN.{getD}
 use Rattle.definitions.specs.Types.{TypeId, Ordinal, Uuid}
 
--- the number where the flag is 0, else the kind of four ints
+-- the number if the flag is 0, else the kind of four ints
 abbrev pub typeIn : ℕ → ℕ → List ℤ → TypeId
 typeIn zero ordinal uuid = Ordinal ordinal
 typeIn (suc n) ordinal uuid =
@@ -14,12 +14,12 @@ typeIn (suc n) ordinal uuid =
 
 -- ---- a raw type
 
--- 1 where there is one, else 0
+-- 1 if there is one, else 0
 abbrev pub isKnown : Option ℕ → ℕ
 isKnown (some n) = 1
 isKnown none = 0
 
--- it, or what stood there
+-- the raw type, or the previous content
 abbrev pub rawOr : ℕ → Option ℕ → ℕ
 rawOr before (some n) = n
 rawOr before none = before
@@ -35,7 +35,7 @@ abbrev pub kindOf : Option TypeId → ℕ
 kindOf (some t) = kindOfType t
 kindOf none = 0
 
--- the number; what stood there without one
+-- the number; unchanged without one
 abbrev pub ordinalIn : ℕ → TypeId → ℕ
 ordinalIn before (Ordinal n) = n
 ordinalIn before (Uuid k) = before
@@ -44,7 +44,7 @@ abbrev pub ordinalOr : ℕ → Option TypeId → ℕ
 ordinalOr before (some t) = ordinalIn before t
 ordinalOr before none = before
 
--- the kind; what stood there without one
+-- the kind; unchanged without one
 abbrev pub uuidIn : List ℤ → TypeId → List ℤ
 uuidIn before (Ordinal n) = before
 uuidIn before (Uuid k) = k

@@ -1,4 +1,4 @@
-// Deltas applied, tables with types and the builder as C sees them.
+// Applying deltas, tables with types, and the builder as C sees them.
 ghost use mathlib.Core.Path.{_≡_};
 ghost use lib.ListN.{length};
 ghost use Rattle.definitions.specs.Areas.{cleared};
@@ -17,7 +17,7 @@ use snap::RawTypeId;
 use snap::TypeFound;
 use snap::TypeId;
 
-// The type that three parameters tell: the number where the first is 0, else the kind.
+// The type that three parameters give: the number if the first is 0, else the kind.
 fn type_in(is_uuid: u32, ordinal: u16, uuid: &[i32; 4]) -> TypeId
     ensures { λ r. ⌜ typeOf r ≡ typeIn «is_uuid» ordinal (now (uuid .entry)) ⌝ }
 {
@@ -27,7 +27,7 @@ fn type_in(is_uuid: u32, ordinal: u16, uuid: &[i32; 4]) -> TypeId
     TypeId::Uuid(uuid[0], uuid[1], uuid[2], uuid[3])
 }
 
-// The table that a delta makes of its base, into the front of out.
+// Applies a delta to its base and writes the table into the front of out.
 #[no_mangle]
 pub extern "C" fn cef_table_read_with_delta(
     base: &[i32],
@@ -49,7 +49,7 @@ pub extern "C" fn cef_table_read_with_delta(
     told(answer, count)
 }
 
-// The table that a delta makes of its base, with sound types, into the front of out.
+// Applies a delta to its base and writes the table, with sound types, into the front of out.
 #[no_mangle]
 pub extern "C" fn cef_snap_read_with_delta(
     base: &[i32],
@@ -71,7 +71,7 @@ pub extern "C" fn cef_snap_read_with_delta(
     told(answer, count)
 }
 
-// A packed table with sound types into the front of out.
+// Reads a packed table with sound types into the front of out.
 #[no_mangle]
 pub extern "C" fn cef_snap_read(
     src: &[u8],
@@ -92,7 +92,7 @@ pub extern "C" fn cef_snap_read(
     told(answer, count)
 }
 
-// A table of ints with sound types into the front of out.
+// Reads a table from ints, with sound types, into the front of out.
 #[no_mangle]
 pub extern "C" fn cef_snap_read_from_ints(
     src: &[i32],
@@ -113,7 +113,7 @@ pub extern "C" fn cef_snap_read_from_ints(
     told(answer, count)
 }
 
-// The raw type of a type, where the table has one.
+// The raw type of a type, if the table has one.
 #[no_mangle]
 pub extern "C" fn cef_snap_raw_type_id(
     area: &[i32],
@@ -142,7 +142,7 @@ pub extern "C" fn cef_snap_raw_type_id(
     }
 }
 
-// The type of a raw type, where the table has one.
+// The type of a raw type, if the table has one.
 #[no_mangle]
 pub extern "C" fn cef_snap_type_id(
     area: &[i32],
@@ -203,7 +203,7 @@ pub extern "C" fn cef_snap_has_item(
     }
 }
 
-// The data of an item of a type into the front of out; none where there is no such item.
+// Copies the data of an item of a type into the front of out; nothing if there is no such item.
 #[no_mangle]
 pub extern "C" fn cef_snap_item(
     area: &[i32],
@@ -222,7 +222,7 @@ pub extern "C" fn cef_snap_item(
     part_into(snap::item(area, type_id, id), out, count)
 }
 
-// The empty table of a builder into the front of out.
+// Writes the empty table of a builder into the front of out.
 #[no_mangle]
 pub extern "C" fn cef_builder_new(out: &mut [i32], count: &mut usize) -> u32
     ensures { λ r. ⌜ r ≡ status (newCall (now (out .entry)) .answer) ⌝ }

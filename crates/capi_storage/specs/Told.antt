@@ -20,16 +20,16 @@ pub record Told {A : Type 0} (step : StoreStep A) (ticks₀ : List ℤ) (counts�
   pub area-is : area ≡ step .area
   pub warnings-are : warnings ≡ row (warningsOf (step .answer))
 
--- ---- a table that is added
+-- ---- adding a table
 
--- what a refused call leaves beside the areas: the store's rows, the tick of the base and the count of ints
+-- what a refused call leaves unchanged beside the areas: the store's rows, the tick of the base and the count of ints
 pub record Beside : Type 0 where
   pub ticks : List ℤ
   pub counts : List ℕ
   pub base : ℤ
   pub count : ℕ
 
--- a step that adds a table: what stands beside the areas before and after, both areas and the number
+-- a step that adds a table: what is beside the areas before and after, both areas and the number
 pub record ToldAdded (step : AddStep) (before after : Beside) (area delta : List ℤ) (r : ℕ) : Type 0 where
   pub number-is : r ≡ status (step .answer)
   pub saved : SavedStore (step .store) (before .ticks) (before .counts) (after .ticks) (after .counts)
@@ -38,12 +38,12 @@ pub record ToldAdded (step : AddStep) (before after : Beside) (area delta : List
   pub base-is : after .base ≡ output (λ x. x .base) (before .base) (step .answer)
   pub count-is : after .count ≡ output (λ x. x .ints) (before .count) (step .answer)
 
--- a place for a clashing key, before and after a call, by its answer: 10 comes with such a key, else what stood there is left
+-- the output for a clashing key, before and after a call, by its answer: 10 comes with such a key, else the output is unchanged
 pub record Names (s : Store) (area : List ℤ) (tick : ℤ) (table : List ℤ) (before after : ℤ) (r : ℕ) : Type 0 where
   pub differs : r ≡ deltaDifferingSizes → Clash s area tick table (bits after)
   pub left : (r ≡ deltaDifferingSizes → ⊥) → after ≡ before
 
--- the key that an answer names, or what stood there
+-- the key of an answer, or the previous content
 abbrev pub clashOr : ℤ → Added → ℤ
 clashOr before (added.Delta base ints) = before
 clashOr before (added.DifferingSizes k) = k

@@ -73,7 +73,7 @@ pub extern "C" fn cef_storage_snap_tick(
     }
 }
 
-// The i-th table, the newest first, into the front of out; none where there is no such table.
+// Copies the i-th table, the newest first, into the front of out; nothing if there is no such table.
 #[no_mangle]
 pub extern "C" fn cef_storage_snap(
     ticks: &[i32; 2],
@@ -120,7 +120,7 @@ pub extern "C" fn cef_storage_set_delta_tick(
     set_number(answer)
 }
 
-// What stands behind the pointers of an added table, and the number of the answer.
+// Sets the outputs for an added table; returns the number of the answer.
 fn tell(a: Added, base: &mut i32, count: &mut usize, clash: &mut i32) -> u32
     ensures { λ r. ⌜ r ≡ status (addedIn a) ⌝ }
     ensures { λ _. ⌜ now (base .exit) ≡ output (λ x. x .base) (now (base .entry)) (addedIn a) ⌝ }
@@ -141,7 +141,7 @@ fn tell(a: Added, base: &mut i32, count: &mut usize, clash: &mut i32) -> u32
     }
 }
 
-// Adds a table, and makes its delta against the base that is set, else against the empty table; where two items of one key differ in length, such a key.
+// Adds a table, and makes its delta against the base that is set, else against the empty table; if two items of one key differ in length, sets such a key.
 #[no_mangle]
 pub extern "C" fn cef_storage_add_snap(
     ticks: &mut [i32; 2],
@@ -174,7 +174,7 @@ fn taken_number(a: Taken) -> u32
     }
 }
 
-// Takes a delta for a tick and applies it to its base; the table that it makes is held and acknowledged.
+// Takes a delta for a tick and applies it to its base; the resulting table is held and acknowledged.
 #[no_mangle]
 pub extern "C" fn cef_storage_add_delta(
     ticks: &mut [i32; 2],

@@ -15,7 +15,7 @@ use raw_snap::Count;
 use raw_snap::Has;
 use raw_snap::Walked;
 
-// The empty table into the front of out.
+// Writes the empty table into the front of out.
 #[no_mangle]
 pub extern "C" fn cef_table_empty(out: &mut [i32], count: &mut usize) -> u32
     ensures { λ r. ⌜ r ≡ status (emptyCall (now (out .entry)) .answer) ⌝ }
@@ -25,7 +25,7 @@ pub extern "C" fn cef_table_empty(out: &mut [i32], count: &mut usize) -> u32
     told(raw_snap::empty(out), count)
 }
 
-// A packed table into the front of out.
+// Reads a packed table into the front of out.
 #[no_mangle]
 pub extern "C" fn cef_table_read(
     src: &[u8],
@@ -46,7 +46,7 @@ pub extern "C" fn cef_table_read(
     told(answer, count)
 }
 
-// A table of ints into the front of out.
+// Reads a table from ints into the front of out.
 #[no_mangle]
 pub extern "C" fn cef_table_read_from_ints(
     src: &[i32],
@@ -65,7 +65,7 @@ pub extern "C" fn cef_table_read_from_ints(
     told(answer, count)
 }
 
-// A table packed into the front of out.
+// Packs a table into the front of out.
 #[no_mangle]
 pub extern "C" fn cef_table_write(area: &[i32], out: &mut [u8], count: &mut usize) -> u32
     ensures { λ r. ⌜ r ≡ status (writeCall (now (area .entry)) (now (out .entry)) .answer) ⌝ }
@@ -82,7 +82,7 @@ pub extern "C" fn cef_table_write(area: &[i32], out: &mut [u8], count: &mut usiz
     }
 }
 
-// A table's written form into the front of out.
+// Writes a table's written form into the front of out.
 #[no_mangle]
 pub extern "C" fn cef_table_write_to_ints(area: &[i32], out: &mut [i32], count: &mut usize) -> u32
     ensures { λ r. ⌜ r ≡ status (writeToIntsCall (now (area .entry)) (now (out .entry)) .answer) ⌝ }
@@ -128,7 +128,7 @@ pub extern "C" fn cef_table_has_item(area: &[i32], raw_type_id: u16, id: u16, ha
     }
 }
 
-// The data of an item into the front of out; none where there is no such item.
+// Copies the data of an item into the front of out; nothing if there is no such item.
 #[no_mangle]
 pub extern "C" fn cef_table_item(
     area: &[i32],
@@ -160,7 +160,7 @@ pub extern "C" fn cef_table_crc(area: &[i32], crc: &mut i32) -> u32
     }
 }
 
-// The key of the i-th item in the order of keys read as signed.
+// The key of the i-th item in signed key order.
 #[no_mangle]
 pub extern "C" fn cef_table_walk_key(area: &[i32], i: usize, key: &mut i32, end: &mut u32) -> u32
     ensures { λ r. ⌜ r ≡ status (walkKeyCall (now (area .entry)) i) ⌝ }
@@ -182,7 +182,7 @@ pub extern "C" fn cef_table_walk_key(area: &[i32], i: usize, key: &mut i32, end:
     }
 }
 
-// The data of the i-th item in that order into the front of out; none past the end.
+// Copies the data of the i-th item in that order into the front of out; nothing past the end.
 #[no_mangle]
 pub extern "C" fn cef_table_walk_item(
     area: &[i32],
@@ -197,7 +197,7 @@ pub extern "C" fn cef_table_walk_item(
     part_into(raw_snap::walk_item(area, i), out, count)
 }
 
-// Adds an item to a table in its place by key.
+// Adds an item to a table at its place by key.
 #[no_mangle]
 pub extern "C" fn cef_table_add_item(
     area: &mut [i32],

@@ -1,4 +1,4 @@
-// The steps of reading a delta: in one pass where its keys rise already, else in any order. What scratch then holds is of no account.
+// The steps of reading a delta: in one pass if its keys rise already, else in any order. They leave scratch in any state.
 ghost use mathlib.Core.Path.{_≡_};
 ghost use Prim.Native.Nat.{_≤_};
 ghost use lib.ListN.{length};
@@ -18,7 +18,7 @@ use format::Reading;
 use format::Stored;
 use format::Warnings;
 
-// A call that is refused before anything is read.
+// The refusal of a call before anything is read.
 pub fn refused(error: Error) -> Reading
     ensures { λ r. ⌜ refuse (number error) ≡ storedWith (r .answer) (counts (r .warnings)) ⌝ }
 {
@@ -28,7 +28,7 @@ pub fn refused(error: Error) -> Reading
     }
 }
 
-// A delta of ints, into the front of out.
+// Reads a delta from ints into the front of out.
 pub fn read_ints(src: &[i32], sizes: &[i32], out: &mut [i32], scratch: &mut [i32]) -> Reading
     requires { ⌜ length (now src) ≤ 1048576 ⌝ }
     ensures { λ r. ⌜ storedDelta (now (out .entry)) (readDelta (now (sizes .entry)) (intStream (now (src .entry)))) ≡ record { answer = storedWith (r .answer) (counts (r .warnings)); out = now (out .exit) } ⌝ }
@@ -46,7 +46,7 @@ pub fn read_ints(src: &[i32], sizes: &[i32], out: &mut [i32], scratch: &mut [i32
     }
 }
 
-// A packed delta, into the front of out.
+// Reads a packed delta into the front of out.
 pub fn read_packed(src: &[u8], sizes: &[i32], out: &mut [i32], scratch: &mut [i32]) -> Reading
     requires { ⌜ (length (now src) ≤ 1048576) × (length (now src) ≤ length (now scratch)) ⌝ }
     ensures { λ r. ⌜ storedDelta (now (out .entry)) (readDelta (now (sizes .entry)) (stream (now (src .entry)))) ≡ record { answer = storedWith (r .answer) (counts (r .warnings)); out = now (out .exit) } ⌝ }
@@ -76,7 +76,7 @@ pub fn read_packed(src: &[u8], sizes: &[i32], out: &mut [i32], scratch: &mut [i3
     }
 }
 
-// A delta of ints, unless scratch is too short or they are too many.
+// Reads a delta from ints, unless scratch is too short or there are too many ints.
 pub fn judge_ints(src: &[i32], sizes: &[i32], out: &mut [i32], scratch: &mut [i32]) -> Reading
     ensures { λ r. ⌜ readFromIntsCall (now (src .entry)) (now (sizes .entry)) (now (out .entry)) (length (now (scratch .entry))) ≡ record { answer = storedWith (r .answer) (counts (r .warnings)); out = now (out .exit) } ⌝ }
 {
@@ -89,7 +89,7 @@ pub fn judge_ints(src: &[i32], sizes: &[i32], out: &mut [i32], scratch: &mut [i3
     read_ints(src, sizes, out, scratch)
 }
 
-// A packed delta, unless scratch is too short or the bytes are too many.
+// Reads a packed delta, unless scratch is too short or there are too many bytes.
 pub fn judge_packed(src: &[u8], sizes: &[i32], out: &mut [i32], scratch: &mut [i32]) -> Reading
     ensures { λ r. ⌜ readCall (now (src .entry)) (now (sizes .entry)) (now (out .entry)) (length (now (scratch .entry))) ≡ record { answer = storedWith (r .answer) (counts (r .warnings)); out = now (out .exit) } ⌝ }
 {

@@ -35,8 +35,8 @@ pub fn clear(out: &mut [i32]) -> Stored
     Stored::Ints(3)
 }
 
-// The delta from a base to a target, which are tables, into the front of out; where two items of one key differ in length, such a key.
-// A refused call leaves out as it was.
+// Writes the delta from a base table to a target table into the front of out; if two items of one key differ in length, returns such a key.
+// A refused call leaves out unchanged.
 pub fn create(base: &[i32], target: &[i32], out: &mut [i32]) -> Made
     ensures { λ r. ⌜ createCall (now (base .entry)) (now (target .entry)) (now (out .entry)) ≡ record { answer = madeInts r; out = now (out .exit) } ⌝ }
     ensures { λ r. ⌜ Clash (items (now (base .entry))) (items (now (target .entry))) r ⌝ }
@@ -50,7 +50,7 @@ pub fn create(base: &[i32], target: &[i32], out: &mut [i32]) -> Made
     delta_making::checked::create(base, nb, target, nt, out)
 }
 
-// A delta's ints under known sizes, into the front of out: how many. A refused call leaves out as it was.
+// Writes a delta's ints under known sizes into the front of out; returns the number of ints. A refused call leaves out unchanged.
 pub fn write_to_ints(area: &[i32], sizes: &[i32], out: &mut [i32]) -> Stored
     ensures { λ r. ⌜ writeToIntsCall (now (area .entry)) (now (sizes .entry)) (now (out .entry)) ≡ record { answer = storedInts r; out = now (out .exit) } ⌝ }
 {
@@ -68,7 +68,7 @@ pub fn write_to_ints(area: &[i32], sizes: &[i32], out: &mut [i32]) -> Stored
     write_ints(area, deleted, updated, sizes, out)
 }
 
-// A delta packed under known sizes, into the front of out: how many bytes. A refused call leaves out as it was.
+// Packs a delta under known sizes into the front of out; returns the number of bytes. A refused call leaves out unchanged.
 pub fn write(area: &[i32], sizes: &[i32], out: &mut [u8]) -> IntWrite
     ensures { λ r. ⌜ writeCall (now (area .entry)) (now (sizes .entry)) (now (out .entry)) ≡ record { answer = intWrite r; out = now (out .exit) } ⌝ }
 {
@@ -86,8 +86,8 @@ pub fn write(area: &[i32], sizes: &[i32], out: &mut [u8]) -> IntWrite
     write_packed(area, deleted, updated, sizes, out)
 }
 
-// A delta of ints under known sizes, into the front of out: how many ints it takes there. A refused call leaves out as it was.
-// Scratch has 16,384 entries or more; it is zeros afterwards.
+// Reads a delta from ints under known sizes into the front of out; returns how many ints it takes there. A refused call leaves out unchanged.
+// Scratch needs at least 16,384 entries; it is all zeros afterwards.
 pub fn read_from_ints(src: &[i32], sizes: &[i32], out: &mut [i32], scratch: &mut [i32]) -> Reading
     ensures { λ r. ⌜ (readFromIntsCall (now (src .entry)) (now (sizes .entry)) (now (out .entry)) (length (now (scratch .entry))) ≡ record { answer = storedWith (r .answer) (counts (r .warnings)); out = now (out .exit) }) × (now (scratch .exit) ≡ cleared (now (scratch .entry))) ⌝ }
 {
@@ -96,7 +96,7 @@ pub fn read_from_ints(src: &[i32], sizes: &[i32], out: &mut [i32], scratch: &mut
     read
 }
 
-// A packed delta under known sizes, into the front of out. Scratch has 16,384 entries or more, and one for each byte; it is zeros afterwards.
+// Reads a packed delta under known sizes into the front of out. Scratch needs at least 16,384 entries and one for each byte; it is all zeros afterwards.
 pub fn read(src: &[u8], sizes: &[i32], out: &mut [i32], scratch: &mut [i32]) -> Reading
     ensures { λ r. ⌜ (readCall (now (src .entry)) (now (sizes .entry)) (now (out .entry)) (length (now (scratch .entry))) ≡ record { answer = storedWith (r .answer) (counts (r .warnings)); out = now (out .exit) }) × (now (scratch .exit) ≡ cleared (now (scratch .entry))) ⌝ }
 {

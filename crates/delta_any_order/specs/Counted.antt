@@ -9,7 +9,7 @@ use Rattle.definitions.specs.Warnings as Warnings
 use Rattle.laws.specs.WarningLaws.{packed, counted-same}
 use Rattle.delta_source.specs.Source.{oddPadding}
 
--- the packer's two kinds, padding that is not 0, keys deleted twice, repeated updates, updates of deleted keys, another count of updates
+-- the packer's two kinds, padding that is not 0, keys deleted twice, repeated updates, updates of deleted keys, a wrong count of updates
 abbrev pub countsOf : ℕ → ℕ → ℕ → ℕ → ℕ → ℕ → ℕ → Counts
 countsOf o p odd twice repeats crossing other =
     record {
@@ -28,11 +28,11 @@ countsOf o p odd twice repeats crossing other =
       weirdNegativeDeltaTick = 0;
     }
 
--- the same, of which three are counted once at most
+-- the same; three of them are counted at most once
 abbrev pub deltaCounts : ℕ → ℕ → Bool → Bool → ℕ → ℕ → Bool → Counts
 deltaCounts o p odd twice repeats crossing other = countsOf o p (cond odd 1 0) (cond twice 1 0) repeats crossing (cond other 1 0)
 
--- a warning of a kind, where there is cause
+-- a warning of a kind, if there is cause
 abbrev pub warnedIf : Bool → Warnings.Warning → Counts
 warnedIf b k = cond b (one k) Warnings.none
 
@@ -40,7 +40,7 @@ warnedIf b k = cond b (one k) Warnings.none
 abbrev pub updateCounts : ℕ → ℕ → Counts
 updateCounts repeats crossing = deltaCounts 0 0 false false repeats crossing false
 
--- ---- the same put together from those of each step
+-- ---- the same, put together from those of each step
 
 -- a repeated update
 repeat-counts : (b : Bool) → warnedIf b DuplicateUpdate ≡ updateCounts (cond b 1 0) 0
@@ -58,7 +58,7 @@ moved v a b w u =
     counted-same (λ k. count v k + (count a k + (count b k + (count w k + count u k)))) (λ k. count v k + count w k + (count a k + (count b k + count u k)))
     (λ k. omega arith)
 
--- an update's warnings before those of the updates behind it
+-- an update's warnings before those of the updates after it
 pub counts-turn : (x y : Bool) (v w : Counts) (r c : ℕ) → plus v (plus (warnedIf x DuplicateUpdate) (plus (warnedIf y DeleteUpdate) (plus w (updateCounts r c)))) ≡ plus (plus v w) (updateCounts (cond x 1 0 + r) (cond y 1 0 + c))
 counts-turn x y v w r c =
     moved v (warnedIf x DuplicateUpdate) (warnedIf y DeleteUpdate) w (updateCounts r c)
@@ -69,7 +69,7 @@ counts-turn x y v w r c =
 
 -- equal numbers of each kind
 module _ {o p d t r c u o2 p2 d2 t2 r2 c2 u2 : ℕ} where
-  -- counts are equal where each is
+  -- counts are equal if each number is
   same : o ≡ o2 → p ≡ p2 → d ≡ d2 → t ≡ t2 → r ≡ r2 → c ≡ c2 → u ≡ u2 → countsOf o p d t r c u ≡ countsOf o2 p2 d2 t2 r2 c2 u2
   same eo ep ed et er ec eu = λ i. countsOf (eo i) (ep i) (ed i) (et i) (er i) (ec i) (eu i)
 
@@ -83,7 +83,7 @@ twice-counts : (b : Bool) → warnedIf b DuplicateDelete ≡ deltaCounts 0 0 fal
 twice-counts true = refl
 twice-counts false = refl
 
--- another count of updates
+-- a wrong count of updates
 other-counts : (b : Bool) → warnedIf b NumUpdatedItems ≡ deltaCounts 0 0 false false 0 0 b
 other-counts true = refl
 other-counts false = refl
@@ -94,7 +94,7 @@ counts-whole o p o2 p2 o3 p3 r c odd twice other =
     rw (odd-counts odd, twice-counts twice, other-counts other)
     (same (omega arith) (omega arith) (omega arith) (omega arith) (omega arith) (omega arith) (omega arith))
 
--- header, keys and updates, behind which one is refused
+-- header, keys and updates, after which one is refused
 pub counts-broken : (o p o2 p2 o3 p3 r c : ℕ) (odd twice : Bool) → plus (plus (packed o p) (oddPadding odd)) (plus (packed o2 p2) (plus (warnedIf twice DuplicateDelete) (plus (packed o3 p3) (updateCounts r c)))) ≡ deltaCounts (o + o2 + o3) (p + p2 + p3) odd twice r c false
 counts-broken o p o2 p2 o3 p3 r c odd twice =
     rw (odd-counts odd, twice-counts twice)

@@ -1,4 +1,4 @@
--- What stands before the updates of a delta, what its updates come to, and updates that stand in an area. Assumes nothing.
+-- What is before the updates of a delta, what its updates amount to, and updates in an area. Assumes nothing.
 use mathlib.Core.Path.{_≡_}
 use mathlib.Core.List.{List, [], _++_}
 use Prim.Native.Nat.{ℕ, _+_, _*_, _≤_}
@@ -35,7 +35,7 @@ pub record Fronts (s : Source) (f : Front) : Type 0 where
   pub behind : 1 ≤ f .first
   pub first-inside : f .first ≤ size s
 
--- keys and updates were told, how much room the updates take, and what was counted of them
+-- keys and updates were found, with the room that the updates take and the counts of them
 pub record Weighs (s : Source) (sizes : List ℤ) (f : Front) (n room : ℕ) (t : Tally) : Type 0 where
   pub values : List ℤ
   pub items : List Item
@@ -48,7 +48,7 @@ pub record Weighs (s : Source) (sizes : List ℤ) (f : Front) (n room : ℕ) (t 
   pub more-room : n ≤ room
   pub few-room : 2 * room ≤ 3 * size s
 
--- n updates stand in an area from a place on, up to another
+-- n updates are in an area from a place on, up to another
 pub record Laid (area : List ℤ) (at n end : ℕ) : Type 0 where
   pub items : List Item
   pub rest : List ℤ

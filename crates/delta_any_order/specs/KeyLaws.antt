@@ -20,37 +20,37 @@ use Rattle.delta_index.specs.Placing.{keysFit}
 use Rattle.delta_index.specs.RepeatLaws.{repeated, repeated-count, repeated-all}
 use Rattle.delta_source.specs.Source.{Source, from, Walks, whole, broken, more}
 
--- a value, where there is one, has a property
+-- a value, if there is one, has a property
 data Always {A : Type 0} (P : A → Type 0) : Outcome A → Type 0 where
   value : {a : A} {w : Counts} → P a → Always P (ok a w)
   nothing : {n : ℕ} {w : Counts} → Always P (err n w)
 
 module _ {A : Type 0} {P : A → Type 0} where
-  -- behind earlier warnings
+  -- after earlier warnings
   later : {o : Outcome A} (w : Counts) → Always P o → Always P (after w o)
   later w (value h) = value h
   later w nothing = nothing
 
-  -- behind any step
+  -- after any step
   then : {B : Type 0} (o : Outcome B) (f : B → Outcome A) → ((b : B) → Always P (f b)) → Always P (o >>= f)
   then (ok b w) f h = later w (h b)
   then (err n w) f h = nothing
 
-  -- behind a condition
+  -- after a condition
   given : {o : Outcome A} (b : Bool) (n : ℕ) → (b ≡ true → Always P o) → Always P (require b n >> o)
   given true n h = later _ (h refl)
   given false n h = nothing
 
-  -- behind a step whose value has a property
+  -- after a step whose value has a property
   goes-on : {B : Type 0} {Q : B → Type 0} {o : Outcome B} (f : B → Outcome A) → Always Q o → ((b : B) → Q b → Always P (f b)) → Always P (o >>= f)
   goes-on f (value {w = w} h) k = later w (k _ h)
   goes-on f nothing k = nothing
 
-  -- the property of a value that is there
+  -- the property of a value that is present
   of-value : {a : A} {w : Counts} → Always P (ok a w) → P a
   of-value (value h) = h
 
--- of a head
+-- for a head
 head-fits : (sizes : List ℤ) (s : Stream) → Always (λ (g : Got Head). g .value .key < 2 ^ 32) (readHead sizes s)
 unfolding readHead
 head-fits sizes s =
@@ -61,12 +61,12 @@ head-fits sizes s =
     fits : (t i : ℕ) → ltb t 65536 ≡ true → ltb i 65536 ≡ true → keyOf t i < 2 ^ 32
     fits t i e f = omega (arith, ltb-true t 65536 e, ltb-true i 65536 f)
 
--- of an update
+-- for an update
 update-fits : (sizes : List ℤ) (s : Stream) → Always (λ (g : Got Item). g .value .key < 2 ^ 32) (readUpdate sizes s)
 unfolding readUpdate
 update-fits sizes s = goes-on _ (head-fits sizes s) (λ (h : Got Head) f. then (nextInts itemDiffsUnpacking (h .value .size) (h .rest)) _ (λ (l : Got (List ℤ)). value f))
 
--- all keys that a walk meets
+-- all keys that a walk visits
 pub walk-fits : {s : Source} {sizes : List ℤ} {at : ℕ} {us : List Item} {w : Counts} {e : Option ℕ} → Walks s sizes at us w e → keysFit (keys us) ≡ true
 unfolding keysFit
 walk-fits (whole h) = refl

@@ -1,4 +1,4 @@
--- What reading a delta by place comes to. Assumes nothing.
+-- What reading a delta by place returns. Assumes nothing.
 pub mod Counted
 pub mod KeyLaws
 pub mod ReadLaws

@@ -17,10 +17,10 @@ use Rattle.laws.specs.TableShape.{both}
 use Rattle.laws.specs.TableFind.{order}
 use Rattle.delta_index.specs.Placing.{keysFit}
 
--- ---- in order there are no more
+-- ---- ordering adds nothing
 
 module _ {A : Type 0} (key : A → ℕ) (weight : List A → ℕ) (one : A → ℕ) (nil-is : weight [] ≡ 0) (cons-is : (x : A) (l : List A) → weight (x ∷ l) ≡ one x + weight l) where
-  -- one more weighs no more than it does
+  -- one more entry adds at most its own weight
   put-weight : (x : A) (l : List A) → weight (put key x l) ≤ one x + weight l
   unfolding put
   put-weight x [] = omega (arith, cons-is x [])
@@ -31,7 +31,7 @@ module _ {A : Type 0} (key : A → ℕ) (weight : List A → ℕ) (one : A → �
       go false true h = omega arith
       go false false h = omega (arith, cons-is y (put key x l), cons-is y l)
 
-  -- all of them
+  -- the same for all of them
   ordered-weight : (l : List A) → weight (ordered key l) ≤ weight l
   unfolding ordered
   ordered-weight [] = omega arith
@@ -60,7 +60,7 @@ few-deleted values = omega (arith, length-orderedKeys (map bits values), length-
 -- ---- in order they rise
 
 module _ {A : Type 0} (key : A → ℕ) where
-  -- one put among others that rise
+  -- one entry put among others that rise
   put-rises : (low : ℕ) (x : A) (l : List A) → low ≤ rank (key x) → key x < 2 ^ 32 → signedRising low (map key l) ≡ true → signedRising low (map key (put key x l)) ≡ true
   unfolding signedRising put
   put-rises low x [] h k e = rw (le-leb low (rank (key x)) h, lt-ltb (key x) (2 ^ 32) k)
@@ -77,7 +77,7 @@ module _ {A : Type 0} (key : A → ℕ) where
       rw (le-ltb (rank (key x)) (rank (key y)) (omega arith), ne-eqb (rank (key x)) (rank (key y)) d, p .0, q .0) (put-rises (suc (rank (key y))) x l m k (q .1))))
       (order (rank (key x)) (rank (key y)))
 
-  -- all of them, where their keys are of 32 bits
+  -- all of them, if their keys are of 32 bits
   pub ordered-rises : (l : List A) → keysFit (map key l) ≡ true → signedRising 0 (map key (ordered key l)) ≡ true
   unfolding signedRising ordered keysFit
   ordered-rises [] e = refl
@@ -85,7 +85,7 @@ module _ {A : Type 0} (key : A → ℕ) where
       let p = both (ltb (key x) (2 ^ 32)) _ e in
       put-rises 0 x (ordered key l) (omega arith) (ltb-true (key x) (2 ^ 32) (p .0)) (ordered-rises l (p .1))
 
--- the same of keys alone
+-- the same for keys alone
 pub orderedKeys-rise : (l : List ℕ) → keysFit l ≡ true → signedRising 0 (orderedKeys l) ≡ true
 orderedKeys-rise l e =
     ap (signedRising 0) (sym (map-id (orderedKeys l))) ∙ ordered-rises (λ (k : ℕ). k) l (ap keysFit (map-id l) ∙ e)

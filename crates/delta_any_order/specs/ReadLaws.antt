@@ -1,4 +1,4 @@
--- What a delta is read as, from what its header, its keys and its updates are read as. Assumes nothing.
+-- What a delta reads as, from what its header, its keys and its updates read as. Assumes nothing.
 use mathlib.Core.Path.{_≡_, refl, sym, ap, _∙_}
 use mathlib.Core.Bool.{Bool, true, false, cond, not}
 use mathlib.Core.List.{List, [], _∷_, _++_, map, append-nil, append-assoc}
@@ -30,7 +30,7 @@ abbrev pub ending : Option ℕ → List Item → Counts → Outcome (List Item)
 ending none l w = ok l w
 ending (some n) l w = err n w
 
--- an update takes an int at least
+-- an update takes at least one int
 one-less : {s t : Stream} {u : Item} {v : Counts} (fuel : ℕ) → Reads 0 (λ (x : Item). 2 + length (x .values)) s (ok (record { value = u; rest = t }) v) → length (ints s) < suc fuel → length (ints t) < fuel
 one-less fuel (got x y z) h = omega arith
 
@@ -44,7 +44,7 @@ ending-after : (e : Option ℕ) (l : List Item) (v w : Counts) → after v (endi
 ending-after none l v w = refl
 ending-after (some n) l v w = refl
 
--- the warnings of an update, then those behind it
+-- the warnings of an update, then those after it
 turn : (x y : Bool) (e : Option ℕ) (l : List Item) (v w : Counts) (r c : ℕ) → after v (warnIf x DuplicateUpdate >> (warnIf y DeleteUpdate >> ending e l (plus w (updateCounts r c)))) ≡ ending e l (plus (plus v w) (updateCounts (cond x 1 0 + r) (cond y 1 0 + c)))
 turn x y e l v w r c =
     let m = plus w (updateCounts r c) in
@@ -56,7 +56,7 @@ turn x y e l v w r c =
     ∙ ap (ending e l) (counts-turn x y v w r c))
 
 module _ {s : Source} {sizes : List ℤ} (deleted : List ℕ) where
-  -- what a walk meets, behind those before, with their warnings
+  -- what a walk visits, after the updates before, with their warnings
   pub walk-reads : {at : ℕ} {us : List Item} {w : Counts} {e : Option ℕ} (fuel : ℕ) (before : List Item) → Walks s sizes at us w e → length (ints (from s at)) < fuel → readUpdates sizes deleted fuel before (from s at) ≡ ending e (before ++ us) (plus w (updateCounts (repeated before us) (countItems deleted us)))
   unfolding readUpdates repeated countItems
   walk-reads zero before k h = absurd (omega arith)
@@ -72,11 +72,11 @@ module _ {s : Source} {sizes : List ℤ} (deleted : List ℕ) where
 abbrev pub twice : List ℕ → Bool
 twice deleted = not (eqb (length (orderedKeys deleted)) (length deleted))
 
--- another count of updates than the header's
+-- the count of updates differs from the header's
 abbrev pub otherCount : List Item → ℕ → Bool
 otherCount items u = not (eqb (length items) u)
 
--- a delta read to its end, or up to a refusal; the packer's warnings before
+-- a delta read to its end, or up to a refusal; after the packer's warnings
 abbrev pub readEnding : Option ℕ → ℕ → ℕ → Bool → ℕ → List ℕ → List Item → Outcome DeltaRead
 readEnding none o p odd u deleted items = ok (deltaRead deleted items) (deltaCounts o p odd (twice deleted) (repeated [] items) (countItems deleted items) (otherCount items u))
 readEnding (some n) o p odd u deleted items = err n (deltaCounts o p odd (twice deleted) (repeated [] items) (countItems deleted items) false)
@@ -88,12 +88,12 @@ steps true false d a b c = refl
 steps false true d a b c = refl
 steps false false d a b c = refl
 
--- the same of a refusal
+-- the same for a refusal
 steps-refused : (t : Bool) (n : ℕ) (a b c : Counts) → _≡_ {A = Outcome DeltaRead} (after a (after b (warnIf t DuplicateDelete >> err n c))) (err n (plus a (plus b (plus (warnedIf t DuplicateDelete) c))))
 steps-refused true n a b c = refl
 steps-refused false n a b c = refl
 
--- how reading ends, behind header and keys
+-- how reading ends, after header and keys
 ends : (e : Option ℕ) (o p o2 p2 o3 p3 : ℕ) (odd : Bool) (u : ℕ) (deleted : List ℕ) (items : List Item) → after (plus (packed o p) (oddPadding odd)) (after (packed o2 p2) (warnIf (twice deleted) DuplicateDelete >> (ending e items (plus (packed o3 p3) (updateCounts (repeated [] items) (countItems deleted items))) >>= λ updated. warnIf (not (eqb (length updated) u)) NumUpdatedItems >> return (deltaRead deleted updated)))) ≡ readEnding e (o + o2 + o3) (p + p2 + p3) odd u deleted items
 ends none o p o2 p2 o3 p3 odd u deleted items =
     steps (twice deleted) (otherCount items u) (deltaRead deleted items) (plus (packed o p) (oddPadding odd)) (packed o2 p2) (plus (packed o3 p3) (updateCounts (repeated [] items) (countItems deleted items)))
@@ -114,7 +114,7 @@ module _ (s : Source) (sizes : List ℤ) where
     unfolding readDelta
     keys-short o2 p2 l = rw (h, l) (ap (err deletedItemsUnpacking) (counts-short o p o2 p2 odd))
 
-    -- the keys are there, and the updates walked
+    -- the keys are all there, and the updates were walked
     pub delta-walked : (first o2 p2 o3 p3 : ℕ) (values : List ℤ) (items : List Item) (e : Option ℕ) → nextInts deletedItemsUnpacking k (from s next) ≡ ok (record { value = values; rest = from s first }) (packed o2 p2) → Walks s sizes first items (packed o3 p3) e → readDelta sizes (from s 0) ≡ readEnding e (o + o2 + o3) (p + p2 + p3) odd u (map bits values) items
     unfolding readDelta
     delta-walked first o2 p2 o3 p3 values items e l w =

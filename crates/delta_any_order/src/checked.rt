@@ -1,4 +1,4 @@
-// A delta by place: its front, then its updates judged and counted, and then all of it written in signed order of keys.
+// Reads a delta by place: its front, then its updates, judged and counted, and then writes all of it in signed order of keys.
 ghost use mathlib.Core.Path.{_≡_};
 ghost use mathlib.Core.Bool.{false, not};
 ghost use mathlib.Core.List.{List, [], _∷_, map};
@@ -37,7 +37,7 @@ use format::Warnings;
 use table::checked::nat_at;
 use table::checked::put;
 
-// The warnings of reading a delta: the packer's two kinds, padding that is not 0, keys deleted twice, repeated updates, updates of deleted keys, another count of updates.
+// The warnings of reading: the packer's two kinds, non-zero padding, keys deleted twice, repeated updates, updates of deleted keys, a wrong count of updates.
 pub fn warnings(
     overlong: usize,
     padding: usize,
@@ -66,7 +66,7 @@ pub fn warnings(
     }
 }
 
-// A delta that is refused before its updates, with the warnings up to there.
+// The refusal of a delta before its updates, with the warnings up to there.
 pub fn refused(error: Error, overlong: usize, padding: usize, odd: bool) -> Reading
     ensures { λ r. ⌜ err (number error) (deltaCounts overlong padding odd false 0 0 false) ≡ storedWith (r .answer) (counts (r .warnings)) ⌝ }
 {
@@ -76,7 +76,7 @@ pub fn refused(error: Error, overlong: usize, padding: usize, odd: bool) -> Read
     }
 }
 
-// What stands before the updates: the header's numbers, whether its padding is not 0, where the keys begin and where the updates do, and the packer's warnings.
+// What is before the updates: the header's numbers, whether its padding is not 0, where the keys and the updates begin, and the packer's warnings.
 pub struct Front {
     pub deleted: usize,
     pub updated: usize,
@@ -87,7 +87,7 @@ pub struct Front {
     pub padding: usize,
 }
 
-// The header of a delta area.
+// Writes the header of a delta area.
 fn write_header(out: &mut [i32], deleted: usize, updated: usize)
     requires { ⌜ (3 ≤ length (now out)) × (deleted < 2 ^ 31) × (updated < 2 ^ 31) ⌝ }
     ensures { λ _. ⌜ now (out .exit) ≡ layAt 0 (pos deleted ∷ pos updated ∷ pos 0 ∷ []) (now (out .entry)) ⌝ }
@@ -97,7 +97,7 @@ fn write_header(out: &mut [i32], deleted: usize, updated: usize)
     put(out, 2, 0);
 }
 
-// The place behind n updates that stand in an area from a place on.
+// The place after the n updates of an area from a place on.
 fn updates_end(area: &[i32], start: usize, n: usize) -> usize
     requires { ⌜ start ≤ length (now area) ⌝ }
     ensures { λ r. ⌜ ((end : ℕ) → Laid (now (area .entry)) start n end → r ≡ end) ⌝ }
@@ -131,7 +131,7 @@ fn counted(front: Front, judged: Judged, t: Tally, other: bool) -> Warnings
     )
 }
 
-// A delta that was read whole, into the front of out: how many ints; what was repeated counts towards the room.
+// Stores a delta that was read to its end into the front of out and returns the number of ints; repeated entries count towards the room.
 fn store(
     bytes: &[u8],
     ints: &[i32],
@@ -166,7 +166,7 @@ fn store(
     Stored::Ints(updates_end(out, 3 + t.deleted, t.updated))
 }
 
-// The delta whose front was read: its updates are judged and tallied, and it is stored unless one of them is refused.
+// Reads on after the front of a delta: judges and tallies its updates, and stores it unless one of them is refused.
 fn read_behind(
     bytes: &[u8],
     ints: &[i32],
@@ -227,7 +227,7 @@ fn front_of(
     }
 }
 
-// A delta in any order of keys, into the front of out; a refused one leaves out as it was. The index may hold anything, before and after.
+// Reads a delta in any order of keys into the front of out; a refused one leaves out unchanged. The index may hold anything, before and after.
 pub fn read_any(
     bytes: &[u8],
     ints: &[i32],

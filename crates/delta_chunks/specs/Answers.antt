@@ -1,4 +1,4 @@
--- What the answers of `delta_chunks` mean: document 01's number and values of each case. Assumes nothing.
+-- What the answers of `delta_chunks` mean: the refusal's number and the values of each case. Assumes nothing.
 use mathlib.Core.List.{List, []}
 use mathlib.Core.Option.{Option, some, none}
 use Prim.Native.Nat.{ℕ}
@@ -16,7 +16,7 @@ abbrev pub chunkCount : NumChunks → Outcome ℕ
 chunkCount (count.Messages n) = return n
 chunkCount (count.Refused e) = refuse (number e)
 
--- a message, by the answer with its numbers and the part with its bytes
+-- a message, from the answer with its numbers and the part with its bytes
 abbrev pub chunkOf : Chunk → List ℕ → Outcome (Option Message)
 chunkOf (chunk.Message m) bytes = return (some (record { numbers = numbers m; bytes = bytes }))
 chunkOf chunk.End bytes = return none
@@ -27,7 +27,7 @@ abbrev pub bytesIn : Option Message → List ℕ
 bytesIn (some m) = m .bytes
 bytesIn none = []
 
--- a part that is handed out: empty where there is no message, or the call is refused
+-- the part that is returned: empty if there is no message or the call is refused
 abbrev pub bytesOf : Outcome (Option Message) → List ℕ
 bytesOf (ok o w) = bytesIn o
 bytesOf (err n w) = []

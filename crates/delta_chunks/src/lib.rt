@@ -1,4 +1,4 @@
-// The bytes of a delta cut into messages.
+// Cutting the bytes of a delta into messages.
 ghost use mathlib.Core.Path.{_≡_};
 ghost use Prim.Native.Nat.{_<_};
 ghost use lib.IntN.{ℤ};
@@ -8,13 +8,13 @@ use format::Error;
 use gamenet_snap::MAX_SNAPSHOT_PACKSIZE;
 use gamenet_snap::SnapMsg;
 
-// How many messages some bytes make.
+// How many messages some bytes make, or the refusal.
 pub enum NumChunks {
     Messages(usize),
     Refused(Error),
 }
 
-// The numbers of a message, or that there is none at that place.
+// The numbers of a message, or that there is none with that index, or the refusal.
 pub enum Chunk {
     Message(SnapMsg),
     End,
@@ -34,7 +34,7 @@ pub fn num_chunks(data: &[u8]) -> NumChunks
     NumChunks::Messages((data.len() + MAX_SNAPSHOT_PACKSIZE - 1) / MAX_SNAPSHOT_PACKSIZE)
 }
 
-// The numbers of the i-th of these messages; delta_tick is the base's tick, and the distance wraps.
+// The numbers of the i-th message; delta_tick is the base's tick, and the distance wraps.
 pub fn chunk_numbers(tick: i32, delta_tick: i32, data: &[u8], crc: i32, i: usize) -> Chunk
     ensures { λ r. ⌜ chunkCall tick «delta_tick» (now («data» .entry)) crc i ≡ chunkOf r (bytesOf (chunkCall tick «delta_tick» (now («data» .entry)) crc i)) ⌝ }
 {
@@ -74,7 +74,7 @@ pub fn chunk_numbers(tick: i32, delta_tick: i32, data: &[u8], crc: i32, i: usize
     })
 }
 
-// The bytes of the i-th of these messages, as a part of the delta's; the empty part where there is none.
+// The bytes of the i-th message, as a part of the delta's bytes; empty if there is no such message.
 pub fn chunk_data(data: &[u8], i: usize) -> &[u8]
     ensures { λ r. ⌜ ((tick base crc : ℤ) → now r ≡ bytesOf (chunkCall tick base (now («data» .entry)) crc i)) ⌝ }
 {

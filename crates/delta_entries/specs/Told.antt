@@ -1,4 +1,4 @@
--- The deleted keys and the updates of a source, and what is told of them. Assumes nothing.
+-- The deleted keys and the updates of a source, and the counts of them. Assumes nothing.
 use mathlib.Core.Path.{_≡_}
 use mathlib.Core.List.{List, [], _∷_, map}
 use Prim.Native.Nat.{ℕ, _*_, _≤_}
@@ -21,7 +21,7 @@ unfoldable pub placed : Source → List ℤ → ℕ → List Item → List Place
 placed s sizes at [] = []
 placed s sizes at (u ∷ us) = record { item = u; place = at } ∷ placed s sizes (behindUpdate s sizes at u) us
 
--- k deleted keys stand from one place on, n updates from another
+-- there are k deleted keys from one place on, n updates from another
 pub record Told (s : Source) (sizes : List ℤ) (keys k first n : ℕ) (values : List ℤ) (items : List Item) : Type 0 where
   pub rest : Stream
   pub warned : Counts
@@ -29,7 +29,7 @@ pub record Told (s : Source) (sizes : List ℤ) (keys k first n : ℕ) (values :
   pub itemsRead : Items s sizes first items
   pub count : length items ≡ n
 
--- some entries were counted, and stand in an area as pairs where they have room
+-- some entries were counted, and are in an area as pairs if they have room
 pub record Filled (l : List ℕ) (n : ℕ) (a : List ℤ) : Type 0 where
   pub counted : n ≡ length l
   pub stands : 2 * n ≤ length a → pairs a n ≡ l

@@ -12,7 +12,7 @@ use Rattle.format.specs.Answers.{storedWith}
 use Rattle.delta_reading.specs.declared.checked.Ordered.{Ordered}
 use Rattle.delta_reading.specs.declared.checked.Ordered.the-variants as ordered
 
--- so many updates of deleted keys
+-- the warning counts of n updates of deleted keys
 abbrev pub deletedCounts : ℕ → Counts
 deletedCounts n =
     record {
@@ -31,7 +31,7 @@ deletedCounts n =
       weirdNegativeDeltaTick = 0;
     }
 
--- what an answer says of an area before and after: any stream of these ints is read so, with its own warnings; or nothing changed
+-- what an answer says of an area before and after: any stream of these ints reads to this delta, with its own warnings; or nothing changed
 abbrev pub OrderedRead : List ℤ → List ℤ → List ℤ → List ℤ → Ordered → Type 0
 OrderedRead sizes src before after (ordered.Read a n) =
     (s : Stream) → ints s ≡ src → isCut s ≡ false → storedDelta before (readDelta sizes s) ≡ record { answer = storedWith a (plus (warnings s) (deletedCounts n)); out = after }

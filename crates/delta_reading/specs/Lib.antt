@@ -1,3 +1,3 @@
--- What the answers of `delta_reading` mean, and what is known of the deleted keys while they are walked. Assumes nothing.
+-- What the answers of `delta_reading` mean, and what is known of the deleted keys during a walk over them. Assumes nothing.
 pub mod Reached
 pub mod Answers

@@ -1,4 +1,4 @@
--- A place in the deleted keys, by the rank of a key that is looked for. Assumes nothing.
+-- A place in the deleted keys, by the rank of the key that is searched. Assumes nothing.
 use Prim.Native.Nat.{ℕ, _<_, _≤_, _^_}
 use mathlib.Core.Path.{_≡_, refl, sym, ap}
 use mathlib.Core.Bool.{Bool, true, false, _&&_}
@@ -19,14 +19,14 @@ use Rattle.laws.specs.DeltaKeys.{rank-same, is-listed, not-listed, deleted-belo
 pub record Under (a : List ℤ) (i low : ℕ) : Type 0 where
   pub below : (j : ℕ) → j < i → rank (deletedAt a j) < low
 
--- of k deleted keys the i-th is the first of a rank or above, where there is one
+-- of k deleted keys the i-th is the first with this rank or above, if there is one
 pub record Reached (a : List ℤ) (k i low : ℕ) : Type 0 where
   pub few : i ≤ k
   pub under : Under a i low
   pub here : i < k → low ≤ rank (deletedAt a i)
 
 module _ (a : List ℤ) (k : ℕ) (keys : (i : ℕ) → i < k → DeletedKey a i) where
-  -- a key is deleted where the first deleted key of its rank or above is the key
+  -- a key is deleted if the first deleted key of its rank or above is the key itself
   pub elem-reached : (i key : ℕ) → key < 2 ^ 32 → Reached a k i (rank key) → elem key (list (deletedAt a) k) ≡ (ltb i k && eqb (deletedAt a i) key)
   elem-reached i key w r =
       ⊎-elim

@@ -1,4 +1,4 @@
-// Ints that hold a delta under known sizes and rise already: written into an area with their sizes, and their updates of deleted keys counted.
+// Reads ints that hold a delta under known sizes and rise already: writes them into an area with sizes, and counts updates of deleted keys.
 ghost use mathlib.Core.Path.{_≡_};
 ghost use mathlib.Core.Bool.{_&&_};
 ghost use mathlib.Core.List.{[]};
@@ -29,7 +29,7 @@ use format::Error;
 use format::Stored;
 use table::checked::nat_at;
 
-// What reading ints that rise already comes to: the answer, and how many updates are of deleted keys; or that they are not such ints.
+// The result of reading ints that rise already: the answer, and how many updates are of deleted keys; or that they are not such ints.
 pub enum Ordered {
     Read {
         answer: Stored,
@@ -66,7 +66,7 @@ fn size_int(src: &[i32], sizes: &[i32], p: usize) -> i32
     src[p + 2]
 }
 
-// The update at a place with its size, into out at a place, where it has room; the place after it.
+// Writes the update at a place with its size into out, which has room for it, at a place; returns the place after it.
 fn write_update(src: &[i32], sizes: &[i32], p: usize, out: &mut [i32], at: usize) -> usize
     requires { ⌜ Update (now sizes) (now src) p × (at + length (updateInts [] (updateAt (now sizes) (now src) p)) ≤ length (now out)) ⌝ }
     ensures { λ r. ⌜ (r ≡ at + length (updateInts [] (updateAt (now (sizes .entry)) (now (src .entry)) p))) × (now (out .exit) ≡ layAt at (updateInts [] (updateAt (now (sizes .entry)) (now (src .entry)) p)) (now (out .entry))) ⌝ }
@@ -80,7 +80,7 @@ fn write_update(src: &[i32], sizes: &[i32], p: usize, out: &mut [i32], at: usize
     at + 3 + data.len()
 }
 
-// The n updates from a place on with their sizes, into out from a place on, where they have room; the place after them.
+// Writes the n updates from a place on with their sizes into out, which has room for them, from a place on; returns the place after them.
 fn write_updates(
     src: &[i32],
     sizes: &[i32],
@@ -103,7 +103,7 @@ fn write_updates(
     at
 }
 
-// A delta of ints in form under known sizes, with its sizes written, into the front of out; where it does not fit, out is left as it was.
+// Writes a delta of ints in form under known sizes, with all sizes, into the front of out; if it does not fit, out is unchanged.
 pub fn write_area(
     src: &[i32],
     sizes: &[i32],
@@ -123,7 +123,7 @@ pub fn write_area(
     Stored::Ints(write_updates(src, sizes, front, updated, out, front))
 }
 
-// Ints copied to the front of out; where they do not fit, out is left as it was.
+// Copies ints to the front of out; if they do not fit, out is unchanged.
 fn copy_whole(src: &[i32], out: &mut [i32]) -> Stored
     ensures { λ r. ⌜ stored (now (out .entry)) (return (now (src .entry))) ≡ record { answer = storedInts r; out = now (out .exit) } ⌝ }
 {
@@ -133,7 +133,7 @@ fn copy_whole(src: &[i32], out: &mut [i32]) -> Stored
     Stored::Refused(Error::CapacityError)
 }
 
-// A delta that is all of the ints, with its sizes written, into the front of out. Where no size is known, it stands there so already.
+// Writes a delta that takes up all of the ints, with all sizes, into the front of out. If no size is known, the ints are copied as they are.
 fn write_whole(
     src: &[i32],
     sizes: &[i32],
@@ -150,7 +150,7 @@ fn write_whole(
     write_area(src, sizes, deleted, updated, out)
 }
 
-// The place of the first deleted key that is not below a key as signed, from a place on before which all are below it.
+// The place of the first deleted key not below key in signed order, from start on; all keys before start are below it.
 pub fn deleted_from(src: &[i32], deleted: usize, start: usize, key: i32) -> usize
     requires { ⌜ (3 + deleted ≤ length (now src)) × (start ≤ deleted) × Under (now src) start (rank (bits key)) ⌝ }
     ensures { λ r. ⌜ Reached (now (src .entry)) deleted r (rank (bits key)) ⌝ }
@@ -165,7 +165,7 @@ pub fn deleted_from(src: &[i32], deleted: usize, start: usize, key: i32) -> usiz
     i
 }
 
-// Whether there is an i-th deleted key, and it is a given one.
+// Whether there is an i-th deleted key and it equals key.
 pub fn has_deleted(src: &[i32], deleted: usize, i: usize, key: i32) -> bool
     requires { ⌜ 3 + deleted ≤ length (now src) ⌝ }
     ensures { λ r. ⌜ r ≡ (ltb i deleted && eqb (deletedAt (now (src .entry)) i) (bits key)) ⌝ }
@@ -176,7 +176,7 @@ pub fn has_deleted(src: &[i32], deleted: usize, i: usize, key: i32) -> bool
     false
 }
 
-// How many updates are of deleted keys, by one walk along both lists, which rise as signed.
+// How many updates are of deleted keys, by one walk along both lists, which rise in signed order.
 pub fn count_delete_updates(src: &[i32], sizes: &[i32], deleted: usize, updated: usize) -> usize
     requires { ⌜ HeldDelta (now sizes) (now src) deleted updated ⌝ }
     ensures { λ r. ⌜ (deleteUpdates (deltaIn (now (sizes .entry)) (now (src .entry)) .deleted) (deltaIn (now (sizes .entry)) (now (src .entry)) .updated) ≡ deletedCounts r) × (r ≤ updated) ⌝ }
@@ -195,7 +195,7 @@ pub fn count_delete_updates(src: &[i32], sizes: &[i32], deleted: usize, updated:
     total
 }
 
-// How many updates are of deleted keys: none where no key is deleted.
+// How many updates are of deleted keys; none if no key is deleted.
 fn num_delete_updates(src: &[i32], sizes: &[i32], deleted: usize, updated: usize) -> usize
     requires { ⌜ HeldDelta (now sizes) (now src) deleted updated ⌝ }
     ensures { λ r. ⌜ (deleteUpdates (deltaIn (now (sizes .entry)) (now (src .entry)) .deleted) (deltaIn (now (sizes .entry)) (now (src .entry)) .updated) ≡ deletedCounts r) × (r ≤ updated) ⌝ }
@@ -206,7 +206,7 @@ fn num_delete_updates(src: &[i32], sizes: &[i32], deleted: usize, updated: usize
     count_delete_updates(src, sizes, deleted, updated)
 }
 
-// A delta of ints that rise already, read into the front of out; of other ints nothing is read, and out is left as it was.
+// Reads a delta of ints that rise already into the front of out; other ints are not read, and out is unchanged.
 pub fn read_ordered(src: &[i32], sizes: &[i32], out: &mut [i32]) -> Ordered
     ensures { λ r. ⌜ OrderedRead (now (sizes .entry)) (now (src .entry)) (now (out .entry)) (now (out .exit)) r ⌝ }
 {

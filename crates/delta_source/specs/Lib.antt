@@ -1,4 +1,4 @@
--- What is read by place from packed bytes or from ints. Assumes nothing.
+-- Reading by place from packed bytes or from ints. Assumes nothing.
 pub mod Source
 pub mod Steps
 pub mod SourcePlaces

@@ -1,4 +1,4 @@
--- What is read by place from packed bytes or from ints. Assumes nothing.
+-- Reading by place from packed bytes or from ints. Assumes nothing.
 use mathlib.Core.Path.{_≡_}
 use mathlib.Core.Bool.{Bool, true, false, cond}
 use mathlib.Core.List.{List, [], _∷_}
@@ -53,25 +53,25 @@ size s = cond (s .packed) (length (s .bytes)) (length (s .ints))
 unfoldable pub from : Source → ℕ → Stream
 from s at = cond (s .packed) (stream (drop at (s .bytes))) (intStream (drop at (s .ints)))
 
--- the place of what was read; 0 where there is nothing
+-- the place after what was read; 0 if nothing was read
 abbrev pub placeOf : Outcome IntAt → ℕ
 placeOf (ok r w) = r .next
 placeOf (err n w) = 0
 
--- the place behind the integer at a place
+-- the place after the integer at a place
 unfoldable pub behind : Source → ℕ → ℕ
 behind s at = cond (s .packed) (placeOf (readIntAt (s .bytes) at)) (at + 1)
 
--- the place behind n integers
+-- the place after n integers
 unfoldable pub behindInts : Source → ℕ → ℕ → ℕ
 behindInts s at zero = at
 behindInts s at (suc n) = behindInts s (behind s at) n
 
--- where the differences of an update with a key begin: behind type, id, size unless known
+-- where the differences of an update with a key begin: after type, id, and size unless it is known
 abbrev pub dataPlace : Source → List ℤ → ℕ → ℕ → ℕ
 dataPlace s sizes at key = behindInts s at (headLength (knownSize sizes (key / 65536)))
 
--- the place behind an update
+-- the place after an update
 abbrev pub behindUpdate : Source → List ℤ → ℕ → Item → ℕ
 behindUpdate s sizes at u = behindInts s (dataPlace s sizes at (u .key)) (length (u .values))
 
@@ -80,12 +80,12 @@ pub data Next (s : Source) (at : ℕ) : IntRead → Type 0 where
   found : {x : ℤ} {next : ℕ} {o p : Bool} → from s at ≡ int x (warned o p) (from s next) → next ≡ behind s at → at < next → next ≤ size s → Next s at (read.Int x next o p)
   nothing : ((refusal : ℕ) → Reading.next refusal (from s at) ≡ refuse refusal) → Next s at read.End
 
--- n integers were passed over, or are not all there
+-- n integers were skipped, or are not all there
 pub data Skips (s : Source) (at n : ℕ) : Skip → Type 0 where
   past : {next o p : ℕ} (xs : List ℤ) → length xs ≡ n → ((refusal : ℕ) → nextInts refusal n (from s at) ≡ ok (record { value = xs; rest = from s next }) (packed o p)) → next ≡ behindInts s at n → at ≤ next → next ≤ size s → Skips s at n (skip.Past next o p)
   short : {o p : ℕ} → ((refusal : ℕ) → nextInts refusal n (from s at) ≡ err refusal (packed o p)) → Skips s at n (skip.Short o p)
 
--- n integers that are there stand in an area from a place on
+-- n integers of the source are in an area from a place on
 abbrev pub Copies : Source → ℕ → ℕ → ℕ → List ℤ → List ℤ → Type 0
 Copies s at n to before after =
     (xs : List ℤ) (rest : Stream) (w : Counts) (refusal : ℕ) → nextInts refusal n (from s at) ≡ ok (record { value = xs; rest = rest }) w → after ≡ layAt to xs before
@@ -131,7 +131,7 @@ abbrev pub refusalOf : Ended → Option ℕ
 refusalOf ended.Whole = Option.none
 refusalOf (ended.Refused e) = some (number e)
 
--- what is told of the updates from a place on
+-- what judging the updates from a place on returns
 pub record Judges (s : Source) (sizes : List ℤ) (at : ℕ) (j : Judged) : Type 0 where
   pub items : List Item
   pub walks : Walks s sizes at items (packed (j .overlong) (j .padding)) (refusalOf (j .ended))

@@ -1,4 +1,4 @@
--- Bounds on what the functions of `delta_source` tell: no more warnings and ints than the source has. Assumes nothing.
+-- Bounds on what the functions of `delta_source` return: no more warnings and ints than the source has. Assumes nothing.
 use mathlib.Core.Path.{_≡_}
 use mathlib.Core.Bool.{Bool, true, false}
 use mathlib.Core.List.{List, [], _∷_, _++_}
@@ -25,7 +25,7 @@ use Rattle.delta_source.specs.declared.checked.Update.the-variants as up
 use Rattle.delta_source.specs.declared.checked.Header.the-variants as header
 use Rattle.delta_source.specs.declared.checked.Judged.{Judged}
 
--- from one place to the next: n ints or more, and all the warnings
+-- from one place to the next: at least n ints, and all the warnings
 pub record Counted (s : Source) (at next n o p : ℕ) : Type 0 where
   pub overlong-all : o + overlongs (from s next) ≡ overlongs (from s at)
   pub padding-all : p + paddings (from s next) ≡ paddings (from s at)
@@ -87,7 +87,7 @@ module _ {s : Source} where
 
 -- ---- the room of updates
 
--- where no size is known, an update takes three ints and its differences
+-- if no size is known, an update takes three ints and its differences
 pub length-update : (x : Item) → length (updateInts [] x) ≡ 3 + length (x .values)
 unfolding updateInts knownSize
 length-update x = rw (le-ltb (x .key / 65536) 0 (omega arith)) (omega arith)
@@ -98,7 +98,7 @@ length-updates [] m = omega arith
 length-updates (x ∷ l) m =
     omega (arith, length-updates l m, length-append (updateInts [] x) (updatesInts [] (l ++ m)), length-append (updateInts [] x) (updatesInts [] l))
 
--- no more warnings, and no more room than half as much again as there are ints
+-- no more warnings than the source has, and room for at most one and a half times its ints
 pub record Walked (s : Source) (at : ℕ) (us : List Item) (w : Counts) : Type 0 where
   pub overlong-most : w .overlongIntEncoding ≤ overlongs (from s at)
   pub padding-most : w .nonZeroIntPadding ≤ paddings (from s at)
@@ -126,7 +126,7 @@ module _ {s : Source} where
   walk-bounded {sizes} {at} (broken f e) = ends-walked (rw e at (update-reads sizes (from s at)))
   walk-bounded {sizes} {at} (more f e q a b i) = goes-on (rw e at (update-reads sizes (from s at))) (walk-bounded i)
 
--- the same of what is told of updates: there are no more of them than ints of room
+-- the same for what is returned about updates: there are no more of them than ints of room
 pub judged-most : {s : Source} {sizes : List ℤ} {at : ℕ} {j : Judged} → Judges s sizes at j → (j .overlong ≤ size s) × (j .padding ≤ size s) × (2 * j .room ≤ 3 * size s) × (j .updates ≤ j .room)
 judged-most {s} {sizes} {at} i =
     let w = walk-bounded (i .walks) in

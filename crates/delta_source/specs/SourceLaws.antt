@@ -1,4 +1,4 @@
--- How many ints and warnings a source has: what is read and what is left make the whole. Assumes nothing.
+-- How many ints and warnings a source has: what is read and what is left add up to the whole. Assumes nothing.
 use mathlib.Core.Path.{_≡_, refl, ap}
 use mathlib.Core.Bool.{Bool, true, false, cond, not}
 use mathlib.Core.List.{List, [], _∷_}
@@ -57,7 +57,7 @@ unfolding readInt
 read-mild [] = no-int
 read-mild (b ∷ bs) = either (extend b) (more-mild 3 64 (b % 64) (sign b) bs) (warned-mild false false)
 
--- as many warnings of a kind as ints, or fewer
+-- at most as many warnings of a kind as ints
 pub record Few (s : Stream) : Type 0 where
   pub overlong : overlongs s ≤ length (ints s)
   pub padding : paddings s ≤ length (ints s)
@@ -107,13 +107,13 @@ size-below false b l m h k = k
 
 -- ---- what is read and what is left
 
--- warnings so far and those left are all; the ints that the value stands for and those left are not more than base and all
+-- warnings so far and those left are all; the ints that the value accounts for and those left are at most base plus all
 pub data Reads {A : Type 0} (base : ℕ) (many : A → ℕ) (s : Stream) : Outcome (Got A) → Type 0 where
   got : {g : Got A} {w : Counts} → w .overlongIntEncoding + overlongs (g .rest) ≡ overlongs s → w .nonZeroIntPadding + paddings (g .rest) ≡ paddings s → many (g .value) + length (ints (g .rest)) ≤ base + length (ints s) → Reads base many s (ok g w)
   refused : {n : ℕ} {w : Counts} → w .overlongIntEncoding ≤ overlongs s → w .nonZeroIntPadding ≤ paddings s → Reads base many s (err n w)
 
 module _ {A : Type 0} where
-  -- a value without a warning, and nothing taken
+  -- a value without a warning, with nothing read
   here : {base : ℕ} {many : A → ℕ} (a : A) (s : Stream) → many a ≤ base → Reads base many s (return (record { value = a; rest = s }))
   here a s h = got {g = record { value = a; rest = s }} {w = Warnings.none} (omega arith) (omega arith) (omega arith)
 
@@ -189,7 +189,7 @@ head-reads sizes s =
     still (ltb (num (t .value)) 65536) _ (still (ltb (num (i .value)) 65536) _
     (then-reads _ (update-size-reads (knownSize sizes (num (t .value))) 2 (i .rest)) (λ n. here _ (n .rest) (omega arith))))))
 
--- an update takes those of its head and its differences
+-- an update takes the ints of its head and its differences
 pub update-reads : (sizes : List ℤ) (s : Stream) → Reads 0 (λ (u : Item). 2 + length (u .values)) s (readUpdate sizes s)
 unfolding readUpdate
 update-reads sizes s =

@@ -1,4 +1,4 @@
--- The steps of reading a head and a header, and what the functions of each step tell. Assumes nothing.
+-- The steps of reading a head and a header, and what the function for each step returns. Assumes nothing.
 use mathlib.Core.Path.{_≡_}
 use mathlib.Core.Bool.{Bool, not}
 use mathlib.Core.List.{List}
@@ -28,12 +28,12 @@ use Rattle.delta_source.specs.declared.checked.Number.the-variants as fo
 
 -- ---- a head
 
--- how many ints a size takes: none where it is known
+-- how many ints a size takes: none if it is known
 abbrev pub sizeLength : Option ℕ → ℕ
 sizeLength (some m) = 0
 sizeLength none = 1
 
--- the head with a key, of whose size so much is known
+-- the head with a key, given what is known of its size
 unfoldable pub sizeOf : Option ℕ → ℕ → Stream → Outcome (Got Reading.Head)
 sizeOf o key s = do
   size ← updateSize o s

@@ -19,7 +19,7 @@ use delta_form::checked::known_size;
 use format::Error;
 use packer::IntRead;
 
-// The integer at a place.
+// Reads the integer at a place.
 pub fn next_int(bytes: &[u8], ints: &[i32], packed: bool, at: usize) -> IntRead
     requires { ⌜ at ≤ size (source packed (now bytes) (now ints)) ⌝ }
     ensures { λ r. ⌜ Next (source packed (now (bytes .entry)) (now (ints .entry))) at r ⌝ }
@@ -41,7 +41,7 @@ pub fn at_end(bytes: &[u8], ints: &[i32], packed: bool, at: usize) -> bool
     ints.len() <= at
 }
 
-// What passing over some integers comes to: the place behind them, or that they are not all there; with the packer's warnings counted.
+// The result of skipping integers: the place after them, or that they are not all there; with the packer's warnings counted.
 pub enum Skip {
     Past {
         next: usize,
@@ -54,7 +54,7 @@ pub enum Skip {
     },
 }
 
-// Passes over n packed integers, as far as the bytes go.
+// Skips n packed integers, as far as the bytes go.
 pub fn skip_packed(bytes: &[u8], start: usize, n: usize) -> Skip
     requires { ⌜ start ≤ length (now bytes) ⌝ }
     ensures { λ r. ⌜ ((i : List ℤ) → Skips (source true (now (bytes .entry)) i) start n r) ⌝ }
@@ -85,7 +85,7 @@ pub fn skip_packed(bytes: &[u8], start: usize, n: usize) -> Skip
     }
 }
 
-// Passes over n integers. Ints are not looked at.
+// Skips n integers. Ints are not looked at.
 pub fn skip_ints(bytes: &[u8], ints: &[i32], packed: bool, at: usize, n: usize) -> Skip
     requires { ⌜ at ≤ size (source packed (now bytes) (now ints)) ⌝ }
     ensures { λ r. ⌜ Skips (source packed (now (bytes .entry)) (now (ints .entry))) at n r ⌝ }
@@ -106,7 +106,7 @@ pub fn skip_ints(bytes: &[u8], ints: &[i32], packed: bool, at: usize, n: usize) 
     }
 }
 
-// Copies n packed integers, which are there, into out from a place on.
+// Copies n packed integers, which are present, into out from a place on.
 pub fn copy_packed(bytes: &[u8], start: usize, n: usize, out: &mut [i32], to: usize)
     requires { ⌜ (start ≤ length (now bytes)) × (to + n ≤ length (now out)) ⌝ }
     ensures { λ _. ⌜ ((i : List ℤ) → Copies (source true (now (bytes .entry)) i) start n to (now (out .entry)) (now (out .exit))) ⌝ }
@@ -123,7 +123,7 @@ pub fn copy_packed(bytes: &[u8], start: usize, n: usize, out: &mut [i32], to: us
     }
 }
 
-// Copies n integers, which are there, into out from a place on.
+// Copies n integers, which are present, into out from a place on.
 pub fn copy_ints(
     bytes: &[u8],
     ints: &[i32],
@@ -173,7 +173,7 @@ pub fn head_refused(error: Error, overlong: usize, padding: usize) -> Head
     }
 }
 
-// The head with a key, whose size stands at a place; the warnings so far are added.
+// Reads the head with this key, whose size is at a place; adds the warnings so far.
 pub fn read_size(
     bytes: &[u8],
     ints: &[i32],
@@ -210,7 +210,7 @@ pub fn read_size(
     }
 }
 
-// The head with a type and an id, which end at a place; the warnings so far are added.
+// Reads the head with this type and id, which end at a place; adds the warnings so far.
 pub fn judge_head(
     bytes: &[u8],
     ints: &[i32],
@@ -247,7 +247,7 @@ pub fn judge_head(
     }
 }
 
-// The head of the update at a place.
+// Reads the head of the update at a place.
 pub fn read_head(bytes: &[u8], ints: &[i32], packed: bool, sizes: &[i32], at: usize) -> Head
     requires { ⌜ at ≤ size (source packed (now bytes) (now ints)) ⌝ }
     ensures { λ r. ⌜ Heads (source packed (now (bytes .entry)) (now (ints .entry))) (now (sizes .entry)) at r ⌝ }
@@ -287,7 +287,7 @@ pub fn read_head(bytes: &[u8], ints: &[i32], packed: bool, sizes: &[i32], at: us
     )
 }
 
-// The same with the place behind the update.
+// The same with the place after the update.
 pub enum Update {
     Update {
         key: i32,
@@ -315,7 +315,7 @@ pub fn update_refused(error: Error, overlong: usize, padding: usize) -> Update
     }
 }
 
-// The update at a place.
+// Reads the update at a place.
 pub fn read_update(bytes: &[u8], ints: &[i32], packed: bool, sizes: &[i32], at: usize) -> Update
     requires { ⌜ at ≤ size (source packed (now bytes) (now ints)) ⌝ }
     ensures { λ r. ⌜ Updates (source packed (now (bytes .entry)) (now (ints .entry))) (now (sizes .entry)) at r ⌝ }
@@ -381,7 +381,7 @@ pub fn header_refused(error: Error, overlong: usize, padding: usize) -> Header
     }
 }
 
-// A number of the header, and where the next one stands; or why there is none.
+// A number of the header, and the place of the next one; or why there is none.
 pub enum Number {
     Number {
         value: usize,
@@ -396,7 +396,7 @@ pub enum Number {
     },
 }
 
-// The number of the header at a place.
+// Reads the number of the header at a place.
 pub fn read_number(bytes: &[u8], ints: &[i32], packed: bool, at: usize) -> Number
     requires { ⌜ at ≤ size (source packed (now bytes) (now ints)) ⌝ }
     ensures { λ r. ⌜ Numbers (source packed (now (bytes .entry)) (now (ints .entry))) at r ⌝ }
@@ -432,7 +432,7 @@ pub fn read_number(bytes: &[u8], ints: &[i32], packed: bool, at: usize) -> Numbe
     }
 }
 
-// The header with its two numbers, whose padding stands at a place; the warnings so far are added.
+// Reads the header with these two numbers, whose padding is at a place; adds the warnings so far.
 pub fn read_padding(
     bytes: &[u8],
     ints: &[i32],
@@ -465,7 +465,7 @@ pub fn read_padding(
     }
 }
 
-// The header of a delta.
+// Reads the header of a delta.
 pub fn read_header(bytes: &[u8], ints: &[i32], packed: bool) -> Header
     ensures { λ r. ⌜ Headers (source packed (now (bytes .entry)) (now (ints .entry))) r ⌝ }
 {
@@ -520,7 +520,7 @@ pub struct Judged {
     pub ended: Ended,
 }
 
-// The updates from a place on, one after the other.
+// Reads the updates from a place on, one after the other.
 pub fn judge_updates(bytes: &[u8], ints: &[i32], packed: bool, sizes: &[i32], at: usize) -> Judged
     requires { ⌜ at ≤ size (source packed (now bytes) (now ints)) ⌝ }
     ensures { λ r. ⌜ Judges (source packed (now (bytes .entry)) (now (ints .entry))) (now (sizes .entry)) at r ⌝ }

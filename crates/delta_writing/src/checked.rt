@@ -1,4 +1,4 @@
-// Deltas of areas whose form was tested, written under known sizes: header and deleted keys as they stand, then the updates.
+// Writes deltas of areas whose form was checked, under known sizes: header and deleted keys unchanged, then the updates.
 ghost use mathlib.Core.Path.{_≡_};
 ghost use mathlib.Core.List.{[]};
 ghost use Prim.Native.Nat.{_+_, _≤_};
@@ -24,7 +24,7 @@ use packer::checked::pack_at;
 use packer::checked::packed_len;
 use table::checked::nat_at;
 
-// Whether the size of the update at a place is the known one, where one is known.
+// Whether the size of the update at a place equals the known size, if one is known.
 fn size_matches(area: &[i32], p: usize, sizes: &[i32]) -> bool
     requires { ⌜ Update [] (now area) p ⌝ }
     ensures { λ r. ⌜ r ≡ isSize (knownSize (now (sizes .entry)) (nat (now (area .entry)) p)) (sizeAt [] (now (area .entry)) p) ⌝ }
@@ -36,7 +36,7 @@ fn size_matches(area: &[i32], p: usize, sizes: &[i32]) -> bool
     true
 }
 
-// Whether the known sizes are those of the updates of an area in form.
+// Whether the known sizes equal those of the updates of an area in form.
 pub fn sizes_match(area: &[i32], deleted: usize, updated: usize, sizes: &[i32]) -> bool
     requires { ⌜ HeldDelta [] (now area) deleted updated ⌝ }
     ensures { λ r. ⌜ r ≡ sizesMatch (now (sizes .entry)) (deltaIn [] (now (area .entry)) .updated) ⌝ }
@@ -53,7 +53,7 @@ pub fn sizes_match(area: &[i32], deleted: usize, updated: usize, sizes: &[i32]) 
     true
 }
 
-// What is written of the update at a place behind its type and id: its size unless known, and its differences, as a part of the area.
+// What is written of the update at a place after its type and id: its size unless known, and its differences, as a part of the area.
 fn update_rest<'a>(area: &'a [i32], p: usize, sizes: &[i32]) -> &'a [i32]
     requires { ⌜ Update [] (now area) p ⌝ }
     ensures { λ r. ⌜ now r ≡ restInts (now (sizes .entry)) (now (area .entry)) p ⌝ }
@@ -67,7 +67,7 @@ fn update_rest<'a>(area: &'a [i32], p: usize, sizes: &[i32]) -> &'a [i32]
     &area[from..end]
 }
 
-// How many ints the n updates from a place on are written in.
+// How many ints the n updates from a place on take when written.
 fn updates_len(area: &[i32], start: usize, n: usize, sizes: &[i32]) -> usize
     requires { ⌜ (start ≤ length (now area)) × Updates [] (now area) start n ⌝ }
     ensures { λ r. ⌜ r ≡ length (updatesInts (now (sizes .entry)) (updates [] (now (area .entry)) start n)) ⌝ }
@@ -84,7 +84,7 @@ fn updates_len(area: &[i32], start: usize, n: usize, sizes: &[i32]) -> usize
     total
 }
 
-// The update at a place, into out at a place, where it has room; the place after it.
+// Writes the update at a place into out, which has room for it, at a place; returns the place after it.
 fn write_update(area: &[i32], p: usize, sizes: &[i32], out: &mut [i32], at: usize) -> usize
     requires { ⌜ Update [] (now area) p × (at + length (updateInts (now sizes) (updateAt [] (now area) p)) ≤ length (now out)) ⌝ }
     ensures { λ r. ⌜ (r ≡ at + length (updateInts (now (sizes .entry)) (updateAt [] (now (area .entry)) p))) × (now (out .exit) ≡ layAt at (updateInts (now (sizes .entry)) (updateAt [] (now (area .entry)) p)) (now (out .entry))) ⌝ }
@@ -96,7 +96,7 @@ fn write_update(area: &[i32], p: usize, sizes: &[i32], out: &mut [i32], at: usiz
     at + 2 + rest.len()
 }
 
-// The n updates from a place on, into out from a place on, where they have room; the place after them.
+// Writes the n updates from a place on into out, which has room for them, from a place on; returns the place after them.
 fn write_updates(
     area: &[i32],
     start: usize,
@@ -119,7 +119,7 @@ fn write_updates(
     at
 }
 
-// A delta's ints under known sizes, into the front of out; where they do not fit, out is left as it was.
+// Writes a delta's ints under known sizes into the front of out; if they do not fit, out is unchanged.
 pub fn write_ints(
     area: &[i32],
     deleted: usize,
@@ -139,7 +139,7 @@ pub fn write_ints(
     Stored::Ints(write_updates(area, front, updated, sizes, out, front))
 }
 
-// How many bytes the n updates from a place on are packed in.
+// How many bytes the n updates from a place on take when packed.
 fn updates_packed_len(area: &[i32], start: usize, n: usize, sizes: &[i32]) -> usize
     requires { ⌜ (start ≤ length (now area)) × Updates [] (now area) start n ⌝ }
     ensures { λ r. ⌜ r ≡ length (packInts (updatesInts (now (sizes .entry)) (updates [] (now (area .entry)) start n))) ⌝ }
@@ -157,7 +157,7 @@ fn updates_packed_len(area: &[i32], start: usize, n: usize, sizes: &[i32]) -> us
     total
 }
 
-// The update at a place packed, into out at a place, where it has room; the place after it.
+// Packs the update at a place into out, which has room for it, at a place; returns the place after it.
 fn pack_update(area: &[i32], p: usize, sizes: &[i32], out: &mut [u8], at: usize) -> usize
     requires { ⌜ Update [] (now area) p × (at + length (packInts (updateInts (now sizes) (updateAt [] (now area) p))) ≤ length (now out)) ⌝ }
     ensures { λ r. ⌜ (r ≡ at + length (packInts (updateInts (now (sizes .entry)) (updateAt [] (now (area .entry)) p)))) × (now (out .exit) ≡ layAt at (packInts (updateInts (now (sizes .entry)) (updateAt [] (now (area .entry)) p))) (now (out .entry))) ⌝ }
@@ -167,7 +167,7 @@ fn pack_update(area: &[i32], p: usize, sizes: &[i32], out: &mut [u8], at: usize)
     pack_at(update_rest(area, p, sizes), out, next)
 }
 
-// The n updates from a place on packed, into out from a place on, where they have room; the place after them.
+// Packs the n updates from a place on into out, which has room for them, from a place on; returns the place after them.
 fn pack_updates(
     area: &[i32],
     start: usize,
@@ -190,7 +190,7 @@ fn pack_updates(
     at
 }
 
-// The same packed: how many bytes.
+// Writes the same delta packed; returns the number of bytes.
 pub fn write_packed(
     area: &[i32],
     deleted: usize,

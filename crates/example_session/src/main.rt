@@ -29,39 +29,39 @@ use storage::Added;
 use storage::Set;
 use storage::Storage;
 
-// ---- numbers that look like chance, and are the same in every run
+// ---- pseudo-random numbers, the same in every run
 
-// The number after another.
+// The next number.
 fn next_seed(seed: u64) -> u64 {
     seed % 2147483648 * 1103515245 + 12345
 }
 
-// One of sixteen sides.
+// A number below 16.
 fn side_of(seed: u64) -> u32 {
     (seed / 65536 % 16) as u32
 }
 
 // ---- the lines of the session's text
 
-// A word and an int; the place after them.
+// Writes a word and an int; returns the place after them.
 fn put_named(out: &mut [u8], at: usize, name: &[u8], n: i32) -> usize {
     let end = put(out, at, name);
     put_int(out, end, n)
 }
 
-// A word and a number; the place after them.
+// Writes a word and a number; returns the place after them.
 fn put_count(out: &mut [u8], at: usize, name: &[u8], n: usize) -> usize {
     let end = put(out, at, name);
     put_number(out, end, n)
 }
 
-// Ends a line, and writes it.
+// Ends a line and writes it.
 fn write_line(out: &mut [u8], at: usize) {
     let end = put_byte(out, at, b'\n');
     io::write_all(STDOUT_FILENO, &out[..end]);
 }
 
-// The tick, the base and the part of a message.
+// Writes the tick, the base and the part of a message.
 fn put_part(out: &mut [u8], tick: i32, distance: i32, part: i32, count: i32) -> usize {
     let end = put_named(out, 0, b"tick ", tick);
     let end = put_named(out, end, b" base ", ints::wrapping_sub(tick, distance));
@@ -69,7 +69,7 @@ fn put_part(out: &mut [u8], tick: i32, distance: i32, part: i32, count: i32) -> 
     put_named(out, end, b" of ", count)
 }
 
-// The numbers of a message, at the front of a line.
+// Writes the numbers of a message at the front of a line.
 fn put_message(out: &mut [u8], m: SnapMsg) -> usize {
     match m {
         SnapMsg::Snap {
@@ -91,13 +91,13 @@ fn put_message(out: &mut [u8], m: SnapMsg) -> usize {
     }
 }
 
-// The number of a refusal.
+// Writes the number of a refusal.
 fn put_refusal(out: &mut [u8], at: usize, e: Error) -> usize {
     let end = put(out, at, b"refused");
     put_next(out, end, format::error_number(e) as usize)
 }
 
-// What the manager answered.
+// Writes the manager's answer.
 fn put_handled(out: &mut [u8], at: usize, a: Handled) -> usize {
     match a {
         Handled::Tick(t) => put_named(out, at, b"acknowledged ", t),
@@ -106,7 +106,7 @@ fn put_handled(out: &mut [u8], at: usize, a: Handled) -> usize {
     }
 }
 
-// What the logbook answered.
+// Writes the logbook's answer.
 fn put_answer(out: &mut [u8], at: usize, a: Answer) -> usize {
     match a {
         Answer::Acknowledges(t) => put_named(out, at, b"acknowledged ", t),
@@ -115,7 +115,7 @@ fn put_answer(out: &mut [u8], at: usize, a: Answer) -> usize {
     }
 }
 
-// A message that came, with the manager's answer and the logbook's.
+// Prints a message that arrived, with the manager's answer and the logbook's.
 fn print_delivered(m: SnapMsg, a: Handled, b: Answer, agree: bool) {
     let mut out = [0u8; 160];
     let end = put_message(&mut out, m);
@@ -131,7 +131,7 @@ fn print_delivered(m: SnapMsg, a: Handled, b: Answer, agree: bool) {
     write_line(&mut out, end);
 }
 
-// A message, and what became of it on the way.
+// Prints a message, and what happened to it on the way.
 fn print_on_the_way(m: SnapMsg, what: &[u8]) {
     let mut out = [0u8; 160];
     let end = put_message(&mut out, m);
@@ -139,7 +139,7 @@ fn print_on_the_way(m: SnapMsg, what: &[u8]) {
     write_line(&mut out, end);
 }
 
-// A table that was added: its tick, its base, and the length of its delta in ints and in packed bytes.
+// Prints a table that was added: its tick, its base, and the length of its delta in ints and in packed bytes.
 fn print_added(tick: i32, base: i32, ints: usize, bytes: usize) {
     let mut out = [0u8; 160];
     let end = put_named(&mut out, 0, b"table at tick ", tick);
@@ -150,7 +150,7 @@ fn print_added(tick: i32, base: i32, ints: usize, bytes: usize) {
     write_line(&mut out, end);
 }
 
-// A table that was not added.
+// Prints a table that was not added.
 fn print_not_added(tick: i32) {
     let mut out = [0u8; 160];
     let end = put_named(&mut out, 0, b"table at tick ", tick);
@@ -158,7 +158,7 @@ fn print_not_added(tick: i32) {
     write_line(&mut out, end);
 }
 
-// An acknowledgement, and what became of it on the way.
+// Prints an acknowledgement, and what happened to it on the way.
 fn print_acknowledgement(tick: i32, what: &[u8]) {
     let mut out = [0u8; 160];
     let end = put_named(&mut out, 0, b"acknowledgement ", tick);
@@ -166,7 +166,7 @@ fn print_acknowledgement(tick: i32, what: &[u8]) {
     write_line(&mut out, end);
 }
 
-// An acknowledgement that the controller set its base by.
+// Prints an acknowledgement that the controller took as its base.
 fn print_base_set(tick: i32) {
     if ints::signed_less(tick, 0) {
         print_acknowledgement(tick, b": no base");
@@ -175,7 +175,7 @@ fn print_base_set(tick: i32) {
     print_acknowledgement(tick, b": base set");
 }
 
-// An acknowledgement that the controller refused as a base.
+// Prints an acknowledgement that the controller refused as a base.
 fn print_base_refused(tick: i32, e: Error) {
     let mut out = [0u8; 160];
     let end = put_named(&mut out, 0, b"acknowledgement ", tick);
@@ -184,7 +184,7 @@ fn print_base_refused(tick: i32, e: Error) {
     write_line(&mut out, end);
 }
 
-// Whether both ends hold the same table, at the front of a line.
+// Writes whether both ends hold the same table at the front of a line.
 fn put_verdict(out: &mut [u8], equal: bool) -> usize {
     if equal {
         return put(out, 0, b"tables equal");
@@ -192,7 +192,7 @@ fn put_verdict(out: &mut [u8], equal: bool) -> usize {
     put(out, 0, b"tables DIFFER")
 }
 
-// The last line: whether both ends hold the same table, and how often what happened.
+// Prints the last line: whether both ends hold the same table, and how often each thing happened.
 fn print_last(equal: bool, tick: i32, messages: usize, acknowledged: usize, differing: usize) {
     let mut out = [0u8; 160];
     let end = put_verdict(&mut out, equal);
@@ -204,9 +204,9 @@ fn print_last(equal: bool, tick: i32, messages: usize, acknowledged: usize, diff
     write_line(&mut out, end);
 }
 
-// ---- the radio: messages are lost, doubled, or held back and come later
+// ---- the radio: messages are lost, doubled, or held back and delivered later
 
-// What becomes of a message.
+// What happens to a message.
 enum Fate {
     Lost,
     Late,
@@ -214,14 +214,14 @@ enum Fate {
     Through,
 }
 
-// A message that is held back, where there is one, and how many bytes it has.
+// A message that is held back, if there is one, and how many bytes it has.
 struct Letter {
     full: bool,
     message: SnapMsg,
     len: usize,
 }
 
-// The chance so far, and eight places for messages that are held back. The bytes of the k-th stand from 900 k on in an area.
+// The current seed, and eight places for messages that are held back. The bytes of the k-th begin at 900 k in an area.
 struct Radio {
     seed: u64,
     letters: [Letter; 8],
@@ -241,14 +241,14 @@ fn none() -> Letter {
 }
 
 impl Radio {
-    // Nothing is held back.
+    // A radio that holds nothing back.
     fn new(seed: u64) -> Radio {
         let letter = none();
         let letters = [letter; 8];
         Radio { seed, letters }
     }
 
-    // The next chance.
+    // Draws the next number.
     fn roll(self) -> Radio {
         let letters = self.letters;
         Radio {
@@ -257,7 +257,7 @@ impl Radio {
         }
     }
 
-    // What becomes of a message now.
+    // What happens to a message now.
     fn fate(self) -> Fate {
         let side = side_of(self.seed);
         if side < 3 {
@@ -272,7 +272,7 @@ impl Radio {
         Fate::Through
     }
 
-    // Whether what is held back comes now.
+    // Whether a message that is held back is delivered now.
     fn comes(self) -> bool {
         side_of(self.seed) < 10
     }
@@ -285,7 +285,7 @@ impl Radio {
         none()
     }
 
-    // A place without a message, or 8 where there is none.
+    // A place without a message, or 8 if there is none.
     fn free(self) -> usize {
         let mut k: usize = 0;
         while k < 8 {
@@ -298,7 +298,7 @@ impl Radio {
         8
     }
 
-    // A message at the k-th place.
+    // Puts a message at the k-th place.
     fn hold(self, k: usize, message: SnapMsg, len: usize) -> Radio {
         let letter = Letter {
             full: true,
@@ -308,12 +308,12 @@ impl Radio {
         self.with(k, letter)
     }
 
-    // None at the k-th place.
+    // Empties the k-th place.
     fn release(self, k: usize) -> Radio {
         self.with(k, none())
     }
 
-    // The k-th place filled anew.
+    // Replaces the k-th place.
     fn with(self, k: usize, letter: Letter) -> Radio {
         let mut letters = self.letters;
         if k < 8 {
@@ -328,7 +328,7 @@ impl Radio {
 
 // ---- the printer: a manager with the logbook beside it
 
-// The manager and the logbook; how many messages came, how many of them were acknowledged, and how often the two answered unlike.
+// The manager and the logbook; how many messages came, how many of them were acknowledged, and how often the two answers differed.
 struct Printer {
     manager: Manager,
     logbook: Logbook,
@@ -337,12 +337,12 @@ struct Printer {
     differing: usize,
 }
 
-// Whether two ticks are the same.
+// Whether two ticks are equal.
 fn same(a: i32, b: i32) -> bool {
     ints::to_bits(a) == ints::to_bits(b)
 }
 
-// Whether the manager's answer is the logbook's.
+// Whether the manager's answer equals the logbook's.
 fn agree(a: Handled, b: Answer) -> bool {
     match a {
         Handled::Tick(t) => match b {
@@ -372,12 +372,12 @@ fn is_tick(a: Handled) -> bool {
     }
 }
 
-// One more where something holds.
+// n, plus one if b holds.
 fn count(n: usize, b: bool) -> usize {
     std::num::wrapping_add_usize(n, ints::one_if(b))
 }
 
-// The manager is given no message.
+// Gives the manager no message.
 fn quiet(manager: Manager) -> Handling {
     let warnings = Warnings::none();
     Handling {
@@ -387,7 +387,7 @@ fn quiet(manager: Manager) -> Handling {
     }
 }
 
-// The manager is given an empty message.
+// Gives the manager an empty message.
 fn hand_empty(
     manager: Manager,
     m: SnapMsg,
@@ -403,7 +403,7 @@ fn hand_empty(
     manager.snap_empty(tick, delta_tick, parts, joined, delta, area, scratch)
 }
 
-// The manager is given a single or an empty message; no size is known.
+// Gives the manager a single or an empty message; no size is known.
 fn hand_whole(
     manager: Manager,
     m: SnapMsg,
@@ -437,7 +437,7 @@ fn hand_whole(
     )
 }
 
-// The manager is given a message; no size is known.
+// Gives the manager a message; no size is known.
 fn hand(
     manager: Manager,
     m: SnapMsg,
@@ -475,7 +475,7 @@ fn hand(
     )
 }
 
-// The logbook is given a message; where its areas are full it refuses.
+// Gives the logbook a message; refuses it if the areas are full.
 fn note(g: Logbook, m: SnapMsg, came: &mut [usize], held: &mut [i32]) -> Note {
     if g.parts < came.len() {
         if g.ticks < held.len() {
@@ -489,7 +489,7 @@ fn note(g: Logbook, m: SnapMsg, came: &mut [usize], held: &mut [i32]) -> Note {
 }
 
 impl Printer {
-    // A printer that nothing came to.
+    // A printer that received nothing.
     fn new() -> Printer {
         let manager = Manager::new();
         let logbook = Logbook::new();
@@ -502,7 +502,7 @@ impl Printer {
         }
     }
 
-    // A message comes: both answers are printed.
+    // Delivers a message and prints both answers.
     fn deliver(
         self,
         m: SnapMsg,
@@ -533,9 +533,9 @@ impl Printer {
     }
 }
 
-// ---- the radio with the printer behind it
+// ---- the radio and the printer together
 
-// How many bytes a message has at most.
+// The most bytes of a message.
 const PART: usize = 900;
 
 // The radio and the printer.
@@ -551,12 +551,12 @@ struct Sent {
     crc: i32,
 }
 
-// Where the bytes of the k-th place of the radio stand.
+// The place of the bytes for the radio's k-th place.
 fn place(k: usize) -> usize {
     k % 8 * PART
 }
 
-// A part of some bytes; none where they end before it does.
+// A part of some bytes; empty if they end before it does.
 fn cut(src: &[u8], from: usize, len: usize) -> &[u8] {
     if from <= src.len() {
         if len <= src.len() - from {
@@ -567,7 +567,7 @@ fn cut(src: &[u8], from: usize, len: usize) -> &[u8] {
 }
 
 impl Link {
-    // The next chance.
+    // Draws the next number.
     fn roll(self) -> Link {
         let radio = self.radio;
         let radio = radio.roll();
@@ -575,7 +575,7 @@ impl Link {
         Link { radio, printer }
     }
 
-    // A message is held back, or lost where there is no place for it.
+    // Holds a message back, or loses it if there is no place for it.
     fn hold(self, m: SnapMsg, data: &[u8], bytes: &mut [u8]) -> Link {
         let radio = self.radio;
         let printer = self.printer;
@@ -590,7 +590,7 @@ impl Link {
         Link { radio, printer }
     }
 
-    // A message comes to the printer.
+    // Delivers a message to the printer.
     fn deliver(
         self,
         m: SnapMsg,
@@ -609,7 +609,7 @@ impl Link {
         Link { radio, printer }
     }
 
-    // A message is sent; a sure one is not lost, nor held back, nor doubled.
+    // Sends a message; if sure, it is not lost, held back or doubled.
     fn send(
         self,
         m: SnapMsg,
@@ -644,7 +644,7 @@ impl Link {
         }
     }
 
-    // The i-th message of a delta is sent.
+    // Sends the i-th message of a delta.
     fn send_chunk(
         self,
         sent: Sent,
@@ -680,7 +680,7 @@ impl Link {
         )
     }
 
-    // The messages of a delta are sent.
+    // Sends the messages of a delta.
     fn send_all(
         self,
         sent: Sent,
@@ -721,7 +721,7 @@ impl Link {
         h
     }
 
-    // What is held back at the k-th place comes, or waits on.
+    // Delivers the message held back at the k-th place, or keeps it waiting.
     fn come(
         self,
         k: usize,
@@ -752,7 +752,7 @@ impl Link {
         Link { radio, printer }
     }
 
-    // Of what is held back some comes.
+    // Delivers some of the messages held back.
     fn come_late(
         self,
         bytes: &[u8],
@@ -776,33 +776,33 @@ impl Link {
 
 // ---- the controller: a table for each tick, added to its store, and its delta packed
 
-// The types of items: a number, a kind that the builder numbers, and one that has 8000 hex as its number.
+// The types of items: a number, a kind that the builder numbers, and one with the number 8000 hex.
 enum Sort {
     Number,
     Kind,
     High,
 }
 
-// The controller's store, and the chance so far.
+// The controller's store, and the current seed.
 struct Controller {
     storage: Storage,
     seed: u64,
 }
 
-// How a table was made: the chance afterwards, and whether it is its base's once more.
+// How a table was made: the seed afterwards, and whether it repeats the base's table.
 struct Prepared {
     seed: u64,
     repeated: bool,
 }
 
-// What is sent of a table, in how many bytes, and the controller afterwards.
+// What is sent for a table, in how many bytes, and the controller afterwards.
 struct Told {
     controller: Controller,
     sent: Sent,
     len: usize,
 }
 
-// An int: of all sizes, or a small one.
+// An int: of any size if wide, else a small one.
 fn value(seed: u64, wide: bool) -> i32 {
     if wide {
         return ints::from_bits((seed % 4294967296) as u32);
@@ -810,7 +810,7 @@ fn value(seed: u64, wide: bool) -> i32 {
     ints::from_bits(side_of(seed))
 }
 
-// Fills an item's ints; the chance afterwards.
+// Fills an item's ints; returns the seed afterwards.
 fn fill(data: &mut [i32; 24], seed: u64, wide: bool) -> u64 {
     let mut s = seed;
     let mut i: usize = 0;
@@ -822,7 +822,7 @@ fn fill(data: &mut [i32; 24], seed: u64, wide: bool) -> u64 {
     s
 }
 
-// The first n ints; all where there are fewer.
+// The first n ints; all if there are fewer.
 fn front(data: &[i32], n: usize) -> &[i32] {
     if n <= data.len() {
         return &data[0..n];
@@ -830,7 +830,7 @@ fn front(data: &[i32], n: usize) -> &[i32] {
     data
 }
 
-// Adds an item of a type; all items of one type have equally many ints.
+// Adds an item of a type; all items of one type have the same number of ints.
 fn add(table: &mut [i32], sort: Sort, id: u16, data: &[i32; 24]) -> Stored {
     match sort {
         Sort::Number => builder::add_item(table, TypeId::Ordinal(5), id, front(data, 24)),
@@ -839,7 +839,7 @@ fn add(table: &mut [i32], sort: Sort, id: u16, data: &[i32; 24]) -> Stored {
     }
 }
 
-// Adds an item with an id, or leaves it out; the chance afterwards.
+// Adds an item with an id, or leaves it out; returns the seed afterwards.
 fn add_or_not(table: &mut [i32], sort: Sort, id: u16, seed: u64, wide: bool) -> u64 {
     let seed = next_seed(seed);
     if side_of(seed) < 5 {
@@ -851,7 +851,7 @@ fn add_or_not(table: &mut [i32], sort: Sort, id: u16, seed: u64, wide: bool) -> 
     seed
 }
 
-// Adds items of a type, with ids below a number; the chance afterwards.
+// Adds items of a type, with ids below a number; returns the seed afterwards.
 fn add_some(table: &mut [i32; 16384], sort: Sort, ids: u16, seed: u64, wide: bool) -> u64 {
     let mut s = seed;
     let mut id: u16 = 0;
@@ -862,7 +862,7 @@ fn add_some(table: &mut [i32; 16384], sort: Sort, ids: u16, seed: u64, wide: boo
     s
 }
 
-// A table of items of all three types; the chance afterwards.
+// Makes a table of items of all three types; returns the seed afterwards.
 fn build(table: &mut [i32; 16384], seed: u64) -> u64 {
     let seed = next_seed(seed);
     let wide = side_of(seed) < 7;
@@ -874,7 +874,7 @@ fn build(table: &mut [i32; 16384], seed: u64) -> u64 {
     add_some(table, Sort::High, 8, seed, wide)
 }
 
-// The table of the base again, where one is set; whether that was so.
+// Repeats the base's table, if a base is set; returns whether one was.
 fn repeat(s: Storage, area: &[i32], table: &mut [i32]) -> bool {
     let base = s.delta_tick();
     let OptionTick::Some(_) = base else {
@@ -900,7 +900,7 @@ fn sum(table: &[i32]) -> i32 {
     }
 }
 
-// The delta packed, under no known sizes; how many bytes.
+// Packs the delta without known sizes; returns the number of bytes.
 fn pack(delta: &[i32], packed: &mut [u8]) -> usize {
     let sizes = [0i32; 1];
     let written = delta::write(delta, &sizes[..0], packed);
@@ -910,7 +910,7 @@ fn pack(delta: &[i32], packed: &mut [u8]) -> usize {
     }
 }
 
-// Prints what was added; the tick of its base.
+// Prints what was added; returns the tick of its base.
 fn report(tick: i32, answer: Added, len: usize) -> i32 {
     match answer {
         Added::Delta { base, ints } => {
@@ -928,7 +928,7 @@ fn report(tick: i32, answer: Added, len: usize) -> i32 {
     }
 }
 
-// The table of a tick: the base's once more where again is asked for and a base is set, else a new one.
+// Makes the table of a tick: the base's table again if again is set and there is a base, else a new one.
 fn prepare(c: Controller, again: bool, area: &[i32], table: &mut [i32; 16384]) -> Prepared {
     if again {
         if repeat(c.storage, area, table) {
@@ -944,7 +944,7 @@ fn prepare(c: Controller, again: bool, area: &[i32], table: &mut [i32; 16384]) -
     }
 }
 
-// A delta packed; nothing is sent of a table that is its base's once more.
+// Packs a delta; nothing is sent for a table that repeats its base.
 fn pack_new(repeated: bool, delta: &[i32], packed: &mut [u8]) -> usize {
     if repeated {
         return 0;
@@ -959,7 +959,7 @@ impl Controller {
         Controller { storage, seed }
     }
 
-    // A table is added, and its delta packed.
+    // Adds a table and packs its delta.
     fn add(
         self,
         made: Prepared,
@@ -986,7 +986,7 @@ impl Controller {
         }
     }
 
-    // A table is added at a tick. Where again is asked for, and a base is set, it is the base's table once more, and no bytes are sent.
+    // Adds a table at a tick. If again is set and there is a base, it is the base's table again, and no bytes are sent.
     fn tell(
         self,
         tick: i32,
@@ -1024,7 +1024,7 @@ fn acknowledged(h: Link) -> i32 {
     }
 }
 
-// An acknowledgement comes to the controller, which sets its base by it; -1 sets none.
+// Delivers an acknowledgement to the controller, which sets its base from it; -1 sets none.
 fn set_base(s: Storage, tick: i32, control: &mut [i32]) -> Storage {
     let setting = s.set_delta_tick(tick, control);
     let answer = setting.answer;
@@ -1035,7 +1035,7 @@ fn set_base(s: Storage, tick: i32, control: &mut [i32]) -> Storage {
     setting.storage
 }
 
-// The printer's acknowledgement goes back: it is lost, or held back while the one held back before comes, or it comes.
+// Sends the printer's acknowledgement back: it is lost, or held back while the one held back before is delivered, or delivered.
 fn acknowledge(controller: Controller, link: Link, late: i32, control: &mut [i32]) -> Session {
     let link = link.roll();
     let radio = link.radio;
@@ -1061,7 +1061,7 @@ fn acknowledge(controller: Controller, link: Link, late: i32, control: &mut [i32
     }
 }
 
-// One tick: some of what was held back comes, a table is added and sent, and the acknowledgement goes back.
+// Runs one tick: some messages held back are delivered, a table is added and sent, and the acknowledgement goes back.
 fn turn(
     s: Session,
     tick: u32,
@@ -1100,7 +1100,7 @@ fn turn(
     acknowledge(controller, link, s.ack_tick, control)
 }
 
-// Whether two lists of ints are the same.
+// Whether two lists of ints are equal.
 fn equal(a: &[i32], b: &[i32]) -> bool {
     if a.len() != b.len() {
         return false;
@@ -1133,7 +1133,7 @@ fn finish(s: Session, control: &[i32], area: &[i32]) {
     );
 }
 
-// A session in which nothing has happened; both seeds are fixed.
+// A session before anything happened; both seeds are fixed.
 fn begin() -> Session {
     let controller = Controller::new(1);
     let radio = Radio::new(2);
@@ -1146,7 +1146,7 @@ fn begin() -> Session {
     }
 }
 
-// All ticks, one after the other.
+// Runs all ticks, one after the other.
 fn run(
     control: &mut [i32; 65536],
     made: &mut [i32; 16384],
@@ -1183,7 +1183,7 @@ fn run(
     finish(s, control, area);
 }
 
-// The areas that both ends are lent.
+// Lends both ends their areas and runs the session.
 fn main() {
     let mut control = [0i32; 65536];
     let mut made = [0i32; 16384];

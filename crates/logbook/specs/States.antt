@@ -40,17 +40,17 @@ logbookOf g came held =
       acknowledged = ackOf g;
     }
 
--- what a message is answered
+-- the answer for a message
 abbrev pub answerOf : Answer → Book.Answer
 answerOf (answer.Refused e) = Book.refused (number e)
 answerOf answer.NotYet = Book.notYet
 answerOf (answer.Acknowledges t) = Book.acknowledges t
 
--- an answer, and what is noted then
+-- an answer, and what is noted afterwards
 abbrev pub noteOf : Note → List ℕ → List ℤ → Book.Note
 noteOf r came held = record { answer = answerOf (r .answer); logbook = logbookOf (r .logbook) came held }
 
--- there is room for one part and one tick more
+-- there is room for one more part and one more tick
 pub record Room (g : Logbook) (came : List ℕ) (held : List ℤ) : Type 0 where
   pub parts : g .parts < length came
   pub ticks : g .ticks < length held

@@ -1,4 +1,4 @@
-// The steps of a logbook that is fed a message, over areas with room for one part and one tick more.
+// The steps of noting a message in a logbook, over areas with room for one more part and one more tick.
 ghost use mathlib.Core.Path.{_≡_};
 ghost use mathlib.Core.Bool.{cond, _&&_, _||_};
 ghost use mathlib.Core.List.{List};
@@ -90,7 +90,7 @@ fn has_tick(tick: i32, held: &[i32], n: usize) -> bool
     found
 }
 
-// Of the first n ticks, those that are not below another; how many.
+// Keeps those of the first n ticks that are not below a tick; returns how many.
 fn not_below(tick: i32, held: &mut [i32], n: usize) -> usize
     requires { ⌜ n ≤ length (now held) ⌝ }
     ensures { λ r. ⌜ (ticksIn r (now (held .exit)) ≡ Book.notBelow tick (ticksIn n (now (held .entry)))) × (r ≤ n) ⌝ }
@@ -123,7 +123,7 @@ fn lowest(tick: i32, held: &[i32], n: usize) -> i32
     low
 }
 
-// The first n ticks but one; how many.
+// Drops a tick from the first n; returns how many are left.
 fn without(tick: i32, held: &mut [i32], n: usize) -> usize
     requires { ⌜ n ≤ length (now held) ⌝ }
     ensures { λ r. ⌜ (ticksIn r (now (held .exit)) ≡ Book.without tick (ticksIn n (now (held .entry)))) × (r ≤ n) ⌝ }
@@ -142,7 +142,7 @@ fn without(tick: i32, held: &mut [i32], n: usize) -> usize
     kept
 }
 
-// A tick more; of 101 the lowest goes. How many there are then.
+// Adds a tick; of 101 the lowest is dropped. Returns how many there are then.
 fn holding(tick: i32, held: &mut [i32], n: usize) -> usize
     requires { ⌜ n < length (now held) ⌝ }
     ensures { λ r. ⌜ ticksIn r (now (held .exit)) ≡ Book.holding tick (ticksIn n (now (held .entry))) ⌝ }
@@ -155,7 +155,7 @@ fn holding(tick: i32, held: &mut [i32], n: usize) -> usize
     n + 1
 }
 
-// How many ticks are held when a base is named.
+// How many ticks stay held when a base is named.
 fn held_for(base: i32, held: &mut [i32], n: usize) -> usize
     requires { ⌜ n ≤ length (now held) ⌝ }
     ensures { λ r. ⌜ (ticksIn r (now (held .exit)) ≡ Book.heldFor base (ticksIn n (now (held .entry)))) × (r ≤ n) ⌝ }
@@ -174,7 +174,7 @@ fn has_base(base: i32, held: &[i32], n: usize) -> bool
     either(ints::signed_less(base, 0), has_tick(base, held, n))
 }
 
-// All parts of a tick came: it is held and acknowledged if its base is held, or negative.
+// Completes a tick whose parts all came: it is held and acknowledged if its base is held or negative.
 fn complete(
     tick: i32,
     base: i32,
@@ -212,7 +212,7 @@ fn complete(
     }
 }
 
-// A part of a tick came, and so many of it then; count is how many it has.
+// Notes that a part of a tick came; parts is how many came so far, count how many the tick has.
 fn part_came(
     g: Logbook,
     tick: i32,
@@ -242,7 +242,7 @@ fn part_came(
     }
 }
 
-// Whether a tick is below the newest, or the newest with all parts in.
+// Whether a tick is below the newest, or is the newest with all parts in.
 fn late(g: Logbook, tick: i32, count: usize, came: &[usize]) -> bool
     requires { ⌜ g .parts ≤ length (now came) ⌝ }
     ensures { λ r. ⌜ r ≡ Book.late (newestOf g) (partsIn (g .parts) (now (came .entry))) tick count ⌝ }
@@ -256,7 +256,7 @@ fn late(g: Logbook, tick: i32, count: usize, came: &[usize]) -> bool
     false
 }
 
-// How many parts of a tick came: none of one above the newest.
+// How many parts of a tick came: none if it is above the newest.
 fn came_of(g: Logbook, tick: i32) -> usize
     ensures { λ r. ⌜ ((came : List ℕ) → partsIn r came ≡ Book.cameOf (newestOf g) (partsIn (g .parts) came) tick) × (r ≤ g .parts) ⌝ }
 {
@@ -269,7 +269,7 @@ fn came_of(g: Logbook, tick: i32) -> usize
     0
 }
 
-// A message that changes nothing.
+// The answer for a message that changes nothing.
 fn refused(g: Logbook, error: Error) -> Note
     ensures { λ r. ⌜ ((came : List ℕ) (held : List ℤ) → record { answer = Book.refused (number error); logbook = logbookOf g came held } ≡ noteOf r came held) ⌝ }
 {
@@ -279,7 +279,7 @@ fn refused(g: Logbook, error: Error) -> Note
     }
 }
 
-// A part of a tick, of so many, with its base.
+// Notes a part of a tick, of so many parts, with its base.
 pub fn note(
     g: Logbook,
     tick: i32,
@@ -303,7 +303,7 @@ pub fn note(
     part_came(g, tick, base, count, parts + 1, came, held)
 }
 
-// A message; a single or an empty one is part 0 of 1.
+// Notes a message; a single or empty one is part 0 of 1.
 pub fn note_message(g: Logbook, m: SnapMsg, came: &mut [usize], held: &mut [i32]) -> Note
     requires { ⌜ Room g (now came) (now held) ⌝ }
     ensures { λ r. ⌜ Book.noteMessage (logbookOf g (now (came .entry)) (now (held .entry))) (numbers m) ≡ noteOf r (now (came .exit)) (now (held .exit)) ⌝ }

@@ -1,4 +1,4 @@
-// The logbook of a printer: what its messages alone, without their bytes, lead to.
+// The logbook of a printer: the outcome of its messages without their bytes.
 ghost use mathlib.Core.Path.{_≡_};
 ghost use Rattle.definitions.specs.Logbook.{freshLogbook};
 ghost use Rattle.logbook.specs.States.{logbookOf};
@@ -9,7 +9,7 @@ use format::Error;
 
 pub mod checked;
 
-// The newest tick and the acknowledgement, where there are any; how many parts of the newest tick came, and how many ticks are held. Both lists stand in areas beside it, the latest last.
+// The newest tick and the acknowledgement, if any; how many parts of the newest tick came; how many ticks are held. The two lists are in areas, latest last.
 pub struct Logbook {
     pub has_newest: bool,
     pub newest: i32,
@@ -19,21 +19,21 @@ pub struct Logbook {
     pub ack_tick: i32,
 }
 
-// What a message is answered: a refusal, not yet, or a tick.
+// The answer for a message: a refusal, not yet, or a tick.
 pub enum Answer {
     Refused(Error),
     NotYet,
     Acknowledges(i32),
 }
 
-// An answer, and what is noted then.
+// An answer, and what is noted afterwards.
 pub struct Note {
     pub answer: Answer,
     pub logbook: Logbook,
 }
 
 impl Logbook {
-    // How many ticks are held at most.
+    // The most ticks that are held.
     pub const MAX_TICKS: usize = 100;
 
     // A logbook in which nothing is noted.

@@ -1,4 +1,4 @@
--- What the answers of `manager` mean: document 01's number and values of each case. Assumes nothing.
+-- What the answers of `manager` mean: the refusal's number and the values of each case. Assumes nothing.
 use mathlib.Core.List.{List}
 use mathlib.Core.Option.{Option, some, none}
 use Prim.Native.Nat.{ℕ}
@@ -14,13 +14,13 @@ use Rattle.manager.specs.declared.Handled.{Handled}
 use Rattle.manager.specs.declared.Handled.the-variants as handled
 use Rattle.manager.specs.declared.Handling.{Handling}
 
--- an answer with the counts beside it
+-- an answer together with its warning counts
 abbrev pub handledWith : Handled → Counts → Outcome (Option ℤ)
 handledWith (handled.Tick t) w = ok (some t) w
 handledWith handled.NotYet w = ok none w
 handledWith (handled.Refused e) w = err (number e) w
 
--- what a call comes to, with the four areas afterwards
+-- the result of a call, with the four areas afterwards
 abbrev pub handlings : Handling → List ℕ → List ℕ → List ℤ → List ℤ → ManagerStep
 handlings r parts joined delta area =
     record {

@@ -1,4 +1,4 @@
--- What the steps of a message come to. Assumes nothing.
+-- The results of the steps of a message. Assumes nothing.
 use mathlib.Core.Path.{_≡_}
 use mathlib.Core.List.{List, []}
 use mathlib.Core.Option.{Option, some, none}
@@ -36,7 +36,7 @@ use Rattle.manager.specs.declared.Handled.{Handled}
 use Rattle.manager.specs.declared.Handled.the-variants as handled
 use Rattle.manager.specs.declared.Handling.{Handling}
 
--- each kind of warning from the step that counts it: of a receiver, of a delta that is read, of a store
+-- each kind of warning from the step that counts it: receiver, reading of the delta, or store
 abbrev pub merge : Counts → Counts → Counts → Counts
 merge a b c =
     record {
@@ -60,7 +60,7 @@ abbrev pub readInto : Stored → Counts → List ℤ → Outcome Delta
 readInto (stored.Ints n) w delta = ok (deltaIn [] delta) w
 readInto (stored.Refused e) w delta = err (number e) w
 
--- a store's answer, behind the warnings of receiver and delta
+-- a store's answer, after the warnings of receiver and delta
 abbrev pub toldBy : Counts → Counts → Outcome ℤ → Outcome (Option ℤ)
 toldBy w v (ok t u) = ok (some t) (merge w v u)
 toldBy w v (err n u) = err n (merge w v u)
@@ -74,7 +74,7 @@ goes n w sum base tick s (ok d v) =
     }
 goes n w sum base tick s (err e v) = record { answer = err e (merge w v Warnings.none); storage = s }
 
--- what a call comes to, of the store and its area
+-- the result of a call for the store and its area
 abbrev pub keeps : Handling → List ℤ → Calls.StoreStep (Option ℤ)
 keeps r area =
     record {
@@ -83,7 +83,7 @@ keeps r area =
       area = area;
     }
 
--- the answer to a delta that a store took, or refused
+-- the answer for a delta that a store took or refused
 abbrev pub handledBy : Taken → Handled
 handledBy (taken.Tick t) = handled.Tick t
 handledBy (taken.Refused e) = handled.Refused e
@@ -95,7 +95,7 @@ fitting n o = do
   require (leb (r .room) n) capacityError
   return (r .delta)
 
--- what it leaves of that area
+-- that area afterwards
 abbrev pub deltaLeft : List ℤ → Outcome Delta → List ℤ
 deltaLeft delta (ok d w) = lay (writtenDelta d) delta
 deltaLeft delta (err n w) = delta
@@ -117,19 +117,19 @@ stopping x a s =
       manager = record { receiver = a .receiver; storage = s };
     }
 
--- bytes that were received, if any, are no more than a part area has
+-- the received bytes, if any, are no more than a part area holds
 abbrev pub Short : Received → Type 0
 Short received.NotYet = Unit {0}
 Short (received.Delta tick base n crc) = n ≤ 28800
 Short (received.Empty tick base) = Unit {0}
 Short (received.Refused e) = Unit {0}
 
--- what is known of a message that was received: how many bytes, and that it has no other warnings than a receiver's
+-- what is known of a received message: how many bytes it has, and that its warnings are all of the receiver's kinds
 pub record Brought (a : Receiving) : Type 0 where
   pub short : Short (a .answer)
   pub kinds : counts (a .warnings) ≡ merge (counts (a .warnings)) Warnings.none Warnings.none
 
--- what a message leaves, with the store laid out in its area
+-- the result of a message, with the store laid out in its area
 abbrev pub laidOut : List ℤ → Manager.Handled → Manager.ManagerStep
 laidOut area x =
     record {
@@ -142,7 +142,7 @@ laidOut area x =
       area = Store.storeArea (length area) (x .manager .storage .snaps);
     }
 
--- a call that is refused before anything is done
+-- the refusal of a call before anything is done
 abbrev pub refusing : ℕ → Receiver → Store.Store → List ℕ → List ℕ → List ℤ → List ℤ → Manager.ManagerStep
 refusing n r s parts joined delta area =
     record {

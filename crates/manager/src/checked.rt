@@ -1,4 +1,4 @@
-// The steps of a message: it is judged and received, its delta read, and the store takes that.
+// The steps of a message: it is judged and received, its delta is read, and the store takes the delta.
 ghost use mathlib.Core.Path.{_≡_};
 ghost use mathlib.Core.Bool.{true};
 ghost use mathlib.Core.List.{List, []};
@@ -67,7 +67,7 @@ pub fn merged(a: Warnings, b: Warnings, c: Warnings) -> Warnings
     }
 }
 
-// The receiver takes a message.
+// Passes a message to the receiver.
 pub fn receive(
     r: DeltaReceiver,
     m: SnapMsg,
@@ -94,7 +94,7 @@ pub fn receive(
     }
 }
 
-// The empty delta, as what was read.
+// Writes the empty delta, as the result of reading.
 pub fn read_empty(delta: &mut [i32]) -> Reading
     ensures { λ r. ⌜ storedDelta (now (delta .entry)) (return Definition.emptyRead) ≡ record { answer = storedWith (r .answer) (counts (r .warnings)); out = now (delta .exit) } ⌝ }
 {
@@ -117,7 +117,7 @@ pub fn with_crc(crc: i32, delta_tick: i32, tick: i32) -> Sent
     }
 }
 
-// The numbers of a delta without one.
+// The numbers of a delta without a sum.
 pub fn without_crc(delta_tick: i32, tick: i32) -> Sent
     ensures { λ r. ⌜ (sumOf r ≡ none) × (r .«delta_tick» ≡ «delta_tick») × (r .tick ≡ tick) ⌝ }
 {
@@ -129,7 +129,7 @@ pub fn without_crc(delta_tick: i32, tick: i32) -> Sent
     }
 }
 
-// The store takes the delta that an area holds.
+// Passes the delta that an area holds to the store.
 pub fn take(
     s: Storage,
     m: Sent,
@@ -146,7 +146,7 @@ pub fn take(
     take_judged(s, m, delta, deleted, updated, area, ints, scratch)
 }
 
-// The answer to a delta that the store took, or refused.
+// The answer for a delta that the store took or refused.
 pub fn handled(taken: Taken) -> Handled
     ensures { λ r. ⌜ r ≡ handledBy taken ⌝ }
 {
@@ -156,7 +156,7 @@ pub fn handled(taken: Taken) -> Handled
     }
 }
 
-// What a message comes to, with the manager of this receiver and store.
+// The result of a message, with the manager of this receiver and store.
 fn told(answer: Handled, warnings: Warnings, receiver: DeltaReceiver, storage: Storage) -> Handling
     ensures { λ r. ⌜ r ≡ record { answer = answer; warnings = warnings; manager = record { receiver = receiver; storage = storage } } ⌝ }
 {
@@ -168,7 +168,7 @@ fn told(answer: Handled, warnings: Warnings, receiver: DeltaReceiver, storage: S
     }
 }
 
-// A delta that was read goes into the store; where it was refused, the store stays.
+// Passes a delta that was read to the store; if reading was refused, the store is unchanged.
 pub fn add(
     a: Receiving,
     read: Reading,
@@ -202,7 +202,7 @@ pub fn add(
     }
 }
 
-// The delta of some bytes goes into the store.
+// Reads the delta of some bytes and passes it to the store.
 pub fn add_bytes(
     a: Receiving,
     m: Sent,
@@ -221,7 +221,7 @@ pub fn add_bytes(
     add(a, read, m, s, delta, area, ints, scratch)
 }
 
-// The empty delta goes into the store.
+// Passes the empty delta to the store.
 pub fn add_empty(
     a: Receiving,
     m: Sent,
@@ -238,7 +238,7 @@ pub fn add_empty(
     add(a, read, m, s, delta, area, ints, scratch)
 }
 
-// A message that brings no delta to the store.
+// The result of a message that brings no delta to the store.
 pub fn stop(answer: Handled, a: Receiving, g: Manager) -> Handling
     ensures { λ r. ⌜ r ≡ stopping answer a (g .storage) ⌝ }
 {
@@ -256,7 +256,7 @@ pub fn stop(answer: Handled, a: Receiving, g: Manager) -> Handling
     }
 }
 
-// What was received goes on to the store, where it is a whole delta.
+// Passes what was received on to the store, if it is a whole delta.
 pub fn settle(
     a: Receiving,
     g: Manager,
@@ -292,7 +292,7 @@ pub fn settle(
     }
 }
 
-// A message for a manager that was judged.
+// Handles a message for a manager that was judged.
 pub fn handle(
     g: Manager,
     m: SnapMsg,
@@ -313,7 +313,7 @@ pub fn handle(
     settle(a, g, joined, sizes, delta, area, ints, scratch)
 }
 
-// A call that is refused before anything is done.
+// The refusal of a call before anything is done.
 pub fn refused(g: Manager, error: Error) -> Handling
     ensures { λ r. ⌜ ((parts joined : List ℕ) (delta area : List ℤ) → refusing (number error) (receiverOf (g .receiver)) (storeOf (g .storage)) parts joined delta area ≡ handlings r parts joined delta area) ⌝ }
 {
@@ -324,7 +324,7 @@ pub fn refused(g: Manager, error: Error) -> Handling
     }
 }
 
-// A message. What scratch then holds is of no account.
+// Judges and handles a message. Leaves scratch in any state.
 pub fn judge(
     g: Manager,
     m: SnapMsg,
@@ -358,7 +358,7 @@ pub fn judge(
     handle(g, m, data, sizes, parts, joined, delta, area, ints, scratch)
 }
 
-// A message; scratch is zeros afterwards.
+// Handles a message; scratch is all zeros afterwards.
 pub fn message(
     g: Manager,
     m: SnapMsg,

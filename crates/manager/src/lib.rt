@@ -29,14 +29,14 @@ pub struct Manager {
     pub storage: Storage,
 }
 
-// What a message comes to: the tick of the table that it made, which is acknowledged; that parts are missing; or why it is refused.
+// The answer for a message: the tick of the table that it made, which is acknowledged; that parts are missing; or why it is refused.
 pub enum Handled {
     Tick(i32),
     NotYet,
     Refused(Error),
 }
 
-// What a call comes to, with the warnings counted and the manager afterwards.
+// The result of a call, with the warnings counted and the manager afterwards.
 pub struct Handling {
     pub answer: Handled,
     pub warnings: Warnings,
@@ -69,8 +69,8 @@ impl Manager {
         self.storage.ack_tick()
     }
 
-    // Takes a part of a delta. The last one missing has all of it joined, read, applied to its base, held and acknowledged.
-    // Both part areas have 28,800 bytes or more, scratch as many entries; scratch is zeros afterwards.
+    // Takes a part of a delta. With the last missing part, the delta is joined, read and applied to its base; the table is held and acknowledged.
+    // Both part areas need at least 28,800 bytes, and scratch as many entries; scratch is all zeros afterwards.
     pub fn snap(
         self,
         tick: i32,
@@ -98,7 +98,7 @@ impl Manager {
         checked::message(self, m, data, sizes, parts, joined, delta, area, scratch)
     }
 
-    // Takes a whole delta. The areas are as long as a part's.
+    // Takes a whole delta. The areas need the same lengths as for a part.
     pub fn snap_single(
         self,
         tick: i32,
@@ -122,7 +122,7 @@ impl Manager {
         checked::message(self, m, data, sizes, parts, joined, delta, area, scratch)
     }
 
-    // Takes an empty delta: the table is its base again. The areas are as long as a part's.
+    // Takes an empty delta: the table equals its base. The areas need the same lengths as for a part.
     pub fn snap_empty(
         self,
         tick: i32,

@@ -1,4 +1,4 @@
-// Packed integers at work, a line each: ints as they are written, bytes as they are read, and bytes unpacked.
+// Examples of packed integers, one on each line: ints as written, bytes as read, and bytes unpacked.
 ghost use Prim.Native.Nat.{_<_};
 use libc::STDOUT_FILENO;
 use packer::IntRead;
@@ -16,7 +16,7 @@ fn glyph(d: u8) -> u8
     if d < 10 { b'0' + d } else { b'A' - 10 + d }
 }
 
-// A space before every byte but the first.
+// Writes a space before every byte but the first.
 fn put_gap(out: &mut [u8], at: usize, i: usize) -> usize {
     if i == 0 {
         return at;
@@ -24,7 +24,7 @@ fn put_gap(out: &mut [u8], at: usize, i: usize) -> usize {
     put_byte(out, at, b' ')
 }
 
-// Bytes as hexadecimal digits, a space between two.
+// Writes bytes as hexadecimal digits, separated by spaces.
 fn put_bytes(out: &mut [u8], at: usize, bytes: &[u8]) -> usize {
     let mut end = at;
     let mut i: usize = 0;
@@ -38,12 +38,12 @@ fn put_bytes(out: &mut [u8], at: usize, bytes: &[u8]) -> usize {
     end
 }
 
-// A text, where it applies.
+// Writes a text, if it applies.
 fn put_if(out: &mut [u8], at: usize, applies: bool, text: &[u8]) -> usize {
     if applies { put(out, at, text) } else { at }
 }
 
-// The warnings of an int.
+// Writes the warnings of an int.
 fn put_warnings(out: &mut [u8], at: usize, overlong: bool, padding: bool) -> usize {
     let end = put_if(out, at, overlong, b", overlong");
     put_if(out, end, padding, b", padding")
@@ -63,7 +63,7 @@ fn first(area: &[u8], len: usize) -> &[u8] {
     &area[..len]
 }
 
-// What is read back of an int, and its bytes.
+// Writes the int read back from some bytes, and the bytes.
 fn put_read_back(line: &mut [u8], bytes: &[u8]) -> usize {
     let IntRead::Int {
         value,
@@ -80,7 +80,7 @@ fn put_read_back(line: &mut [u8], bytes: &[u8]) -> usize {
     put_warnings(line, end, overlong, padding)
 }
 
-// How an int is written.
+// Writes how an int is written.
 fn put_written(line: &mut [u8], int: i32) -> usize {
     let mut area = [0u8; 5];
     let answer = packer::write_int(&mut area, 0, int);
@@ -106,7 +106,7 @@ fn show_ints(ints: &[i32]) {
     }
 }
 
-// What is read at the front of some bytes.
+// Writes what is read at the front of some bytes.
 fn put_read(line: &mut [u8], bytes: &[u8]) -> usize {
     let end = put_bytes(line, 0, bytes);
     let IntRead::Int {
@@ -130,7 +130,7 @@ fn show_read(bytes: &[u8]) {
     print_line(&mut line, end);
 }
 
-// What is unpacked from some bytes.
+// Writes what is unpacked from some bytes.
 fn put_unpacked(line: &mut [u8], bytes: &[u8], area: &mut [i32]) -> usize {
     let end = put_bytes(line, 0, bytes);
     let unpacked = packer::unpack(bytes, area);
@@ -153,14 +153,14 @@ fn show_unpacked(bytes: &[u8]) {
     print_line(&mut line, end);
 }
 
-// Document 01's marked cases.
+// Shows the worked examples of docs/FORMAT.md.
 fn show_marked() {
     show_ints(&[0, -1, 63, 64, -64, -65, 2147483647, -2147483648]);
     show_read(b"\x80\x00");
     show_read(b"\x80\x80\x80\x80\x10");
 }
 
-// The ends of each length, overlong ints, padding, and bytes that end inside an int.
+// Shows the limits of each length, overlong ints, padding, and bytes that end inside an int.
 fn show_others() {
     show_ints(&[8191, 8192, -8193, 1048575, 1048576, 134217727, 134217728]);
     show_read(b"\xc0\x00");
@@ -170,7 +170,7 @@ fn show_others() {
     show_read(b"\x80\x80");
 }
 
-// Shows the cases, and bytes with several ints of which the last is cut.
+// Shows the cases, and bytes with several ints of which the last is cut off.
 fn main() {
     show_marked();
     show_others();

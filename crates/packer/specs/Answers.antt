@@ -1,4 +1,4 @@
--- What the answers of `packer` mean: document 01's number and values of each case. Assumes nothing.
+-- What the answers of `packer` mean: the refusal's number and the values of each case. Assumes nothing.
 use Prim.Native.Nat.{ℕ}
 use Rattle.definitions.specs.Refusals.{unexpectedEnd}
 use Rattle.definitions.specs.Warnings.{Counts}
@@ -22,7 +22,7 @@ abbrev pub intWrite : IntWrite → Outcome ℕ
 intWrite (write.Next n) = return n
 intWrite (write.Refused e) = refuse (number e)
 
--- an answer with the counts beside it
+-- an answer together with its warning counts
 abbrev pub unpacked : IntsRead → Counts → Outcome Unpacked
 unpacked (all.Ints n c) w = ok (record { count = n; cut = c }) w
 unpacked (all.Refused e) w = err (number e) w

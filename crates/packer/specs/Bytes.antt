@@ -7,6 +7,6 @@ use Rattle.definitions.specs.Outcome.{Outcome}
 use Rattle.definitions.specs.Packed.{more}
 use Rattle.definitions.specs.Packer.{IntAt, placed}
 
--- at most n + 1 bytes from a place on: d are the digits so far, and w is the weight of the next
+-- at most n + 1 bytes from a place on: d are the digits so far, and w is the weight of the next one
 unfoldable pub moreAt : List ℕ → ℕ → ℕ → ℕ → ℕ → Bool → Outcome IntAt
 moreAt src at n w d s = placed (length src) (more n w d s (drop at src))

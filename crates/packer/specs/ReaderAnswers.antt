@@ -1,4 +1,4 @@
--- What a reader answers, and the reader after it read. Assumes nothing.
+-- What a reader answers, and the reader after reading. Assumes nothing.
 use mathlib.Core.Path.{_≡_}
 use mathlib.Core.List.{List}
 use lib.Dec.{leb}
@@ -12,14 +12,14 @@ use Rattle.packer.specs.declared.readers.Unpacker.{Unpacker}
 use Rattle.packer.specs.declared.readers.IntUnpacker.{IntUnpacker}
 use Rattle.packer.specs.declared.readers.ReaderAnswer.{ReaderAnswer}
 
--- a reader after what it read
+-- a reader after reading
 abbrev pub moved : Unpacker → Outcome IntAt → Unpacker
 moved u o = record { src = u .src; at = placeAfter (length (now (u .src))) o }
 
 abbrev pub intsMoved : IntUnpacker → Outcome IntAt → IntUnpacker
 intsMoved u o = record { src = u .src; at = placeAfter (length (now (u .src))) o }
 
--- what a reader of some entries answers that read an outcome
+-- the answer of a reader of some entries for what it read
 pub record Answered {A : Type 0} (o : Outcome IntAt) (entries : List A) (r : ReaderAnswer) : Type 0 where
   pub read-is : o ≡ intRead (r .read)
   pub at-is : r .at ≡ placeAfter (length entries) o

@@ -8,7 +8,7 @@ use Rattle.definitions.specs.Stream.{Stream, ints, warnings, isCut}
 use Rattle.laws.specs.WarningLaws.{packed}
 use Rattle.packer.specs.declared.checked.Totals.{Totals}
 
--- what a pass over a stream tells, and the area with its ints over the front, as far as it goes
+-- what a pass over a stream returns, and the area with the stream's ints written over its front, as far as it reaches
 pub record Scanned (s : Stream) (before : List ℤ) (r : Totals) (out : List ℤ) : Type 0 where
   pub count-is : r .count ≡ length (ints s)
   pub cut-is : r .cut ≡ isCut s

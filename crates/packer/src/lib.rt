@@ -27,14 +27,14 @@ pub mod checked;
 pub mod places;
 mod readers;
 
-// The readers, and what they answer to callers that hold none.
+// The readers, and the answers for a caller that holds no reader.
 pub use readers::IntUnpacker;
 pub use readers::ReaderAnswer;
 pub use readers::Unpacker;
 pub use readers::read_bytes;
 pub use readers::read_ints;
 
-// What stands at a place: an int with the place after it and whether it has each warning; or the bytes end inside it.
+// The integer at a place: its value, the place after it and whether it has each warning; or the bytes end inside it.
 pub enum IntRead {
     Int {
         value: i32,
@@ -45,13 +45,13 @@ pub enum IntRead {
     End,
 }
 
-// The place after what was written, or why nothing was.
+// The place after what was written, or why nothing was written.
 pub enum IntWrite {
     Next(usize),
     Refused(Error),
 }
 
-// How many ints were unpacked and whether the last one of the bytes was cut, or why nothing was.
+// How many ints were unpacked and whether the last integer was cut off, or why nothing was unpacked.
 pub enum IntsRead {
     Ints { count: usize, cut: bool },
     Refused(Error),
@@ -62,7 +62,7 @@ pub struct Unpacked {
     pub warnings: Warnings,
 }
 
-// The int with the digits d; the sign turns all bits over.
+// The int with the digits d; the sign inverts all bits.
 fn signed_value(sign: bool, d: u32) -> i32
     ensures { λ r. ⌜ r ≡ signed sign d ⌝ }
 {
@@ -73,7 +73,7 @@ fn signed_value(sign: bool, d: u32) -> i32
     }
 }
 
-// The integer at a place of src.
+// Reads the integer at a place of src.
 pub fn read_int(src: &[u8], at: usize) -> IntRead
     ensures { λ r. ⌜ readIntAt (now (src .entry)) at ≡ intRead r ⌝ }
 {
@@ -93,7 +93,7 @@ pub fn read_int(src: &[u8], at: usize) -> IntRead
     read_more(src, at + 1, sign, b % 64)
 }
 
-// The second byte of the integer at a place, where it ends there; else 128.
+// The second byte of the integer at a place, if the integer ends there; else 128.
 fn second_byte(src: &[u8], at: usize) -> u32
     requires { ⌜ at < length (now src) ⌝ }
     ensures { λ r. ⌜ (r < 128 → at + 1 < length (now (src .entry))) × (r < 128 → r ≡ getD (now (src .entry)) (at + 1) 0) × (r < 256) ⌝ }
@@ -104,7 +104,7 @@ fn second_byte(src: &[u8], at: usize) -> u32
     src[at + 1] as u32
 }
 
-// The int of two bytes.
+// The int of a two-byte form.
 fn two_bytes(b: u32, c: u32) -> i32
     requires { ⌜ c < 128 ⌝ }
     ensures { λ r. ⌜ r ≡ signed (sign b) (b % 64 + c * 64) ⌝ }
@@ -112,7 +112,7 @@ fn two_bytes(b: u32, c: u32) -> i32
     signed_value(b / 64 % 2 == 1, b % 64 + c * 64)
 }
 
-// The bytes of an integer after its first, whose digits are first.
+// Reads the bytes of an integer after its first byte, whose digits are first.
 fn read_more(src: &[u8], start: usize, sign: bool, first: u32) -> IntRead
     requires { ⌜ first < 64 ⌝ }
     ensures { λ r. ⌜ moreAt (now (src .entry)) start 3 64 first sign ≡ intRead r ⌝ }
@@ -142,7 +142,7 @@ fn read_more(src: &[u8], start: usize, sign: bool, first: u32) -> IntRead
     read_fifth(src, at, sign, digits)
 }
 
-// The fifth byte of an integer: bit 4 lands in bit 31, and the bits above vanish.
+// Reads the fifth byte of an integer: bit 4 lands in bit 31, and the bits above are dropped.
 fn read_fifth(src: &[u8], at: usize, sign: bool, digits: u32) -> IntRead
     requires { ⌜ digits < 2 ^ 27 ⌝ }
     ensures { λ r. ⌜ moreAt (now (src .entry)) at 0 134217728 digits sign ≡ intRead r ⌝ }
@@ -159,21 +159,21 @@ fn read_fifth(src: &[u8], at: usize, sign: bool, digits: u32) -> IntRead
     }
 }
 
-// The digits of an int: x, or -1 - x of a negative x.
+// The digits of an int: x, or -1 - x if x is negative.
 fn magnitude(x: i32) -> u32
     ensures { λ r. ⌜ (r ≡ mag x) × (r < 2 ^ 31) ⌝ }
 {
     if x < 0 { !x as u32 } else { x as u32 }
 }
 
-// The sign's bit in the first byte.
+// The sign bit of the first byte.
 fn sign_bit(x: i32) -> u32
     ensures { λ r. ⌜ (r ≡ signBit x) × (r ≤ 64) ⌝ }
 {
     if x < 0 { 64 } else { 0 }
 }
 
-// How many bytes the shortest form of an int has.
+// How many bytes the shortest form of an int takes.
 pub fn written_len(int: i32) -> usize
     ensures { λ r. ⌜ r ≡ length (writeInt int) ⌝ }
 {
@@ -193,7 +193,7 @@ pub fn written_len(int: i32) -> usize
     5
 }
 
-// The shortest form of an int, into out at a place; where it does not fit, out is left as it was.
+// Writes the shortest form of an int into out at a place; if it does not fit, out is unchanged.
 pub fn write_int(out: &mut [u8], at: usize, int: i32) -> IntWrite
     ensures { λ r. ⌜ writeIntAt (now (out .entry)) at int ≡ record { answer = intWrite r; out = now (out .exit) } ⌝ }
 {
@@ -206,7 +206,7 @@ pub fn write_int(out: &mut [u8], at: usize, int: i32) -> IntWrite
     IntWrite::Next(put_int(out, at, int))
 }
 
-// The shortest form of an int, into out at a place, where it fits; the place after it.
+// Writes the shortest form of an int, which fits, into out at a place; returns the place after it.
 fn put_int(out: &mut [u8], at: usize, int: i32) -> usize
     requires { ⌜ at + length (writeInt int) ≤ length (now out) ⌝ }
     ensures { λ r. ⌜ (r ≡ at + length (writeInt int)) × (now (out .exit) ≡ layAt at (writeInt int) (now (out .entry))) ⌝ }
@@ -221,7 +221,7 @@ fn put_int(out: &mut [u8], at: usize, int: i32) -> usize
     write_more(out, at + 1, digits / 64)
 }
 
-// The digits above the first six, into out from a place on; the place after them.
+// Writes the digits above the first six into out from a place on; returns the place after them.
 fn write_more(out: &mut [u8], start: usize, digits: u32) -> usize
     requires { ⌜ (digits < 2 ^ 25) × (start + length (writeMore 3 digits) ≤ length (now out)) ⌝ }
     ensures { λ r. ⌜ (r ≡ start + length (writeMore 3 digits)) × (now (out .exit) ≡ layAt start (writeMore 3 digits) (now (out .entry))) ⌝ }
@@ -237,7 +237,7 @@ fn write_more(out: &mut [u8], start: usize, digits: u32) -> usize
     at + 1
 }
 
-// An int into out at a place, where out goes that far.
+// Writes an int into out at a place, if out reaches that far.
 fn put(out: &mut [i32], at: usize, x: i32)
     ensures { λ _. ⌜ now (out .exit) ≡ layAt at (x ∷ []) (now (out .entry)) ⌝ }
 {
@@ -267,7 +267,7 @@ pub fn packed_warnings(overlong: usize, padding: usize) -> Warnings
     }
 }
 
-// All the packed integers of src, into the front of out, which has room for them.
+// Unpacks all integers of src into the front of out, which has room for them.
 fn unpack_all(src: &[u8], out: &mut [i32]) -> Unpacked
     requires { ⌜ length (Stream.ints (stream (now src))) ≤ length (now out) ⌝ }
     ensures { λ r. ⌜ unpackInto (now (src .entry)) (now (out .entry)) ≡ record { answer = unpacked (r .answer) (counts (r .warnings)); out = now (out .exit) } ⌝ }
@@ -282,7 +282,7 @@ fn unpack_all(src: &[u8], out: &mut [i32]) -> Unpacked
     }
 }
 
-// All the packed integers of src, into the front of out; where they do not fit, out is left as it was.
+// Unpacks all integers of src into the front of out; if they do not fit, out is unchanged.
 pub fn unpack(src: &[u8], out: &mut [i32]) -> Unpacked
     ensures { λ r. ⌜ unpackInto (now (src .entry)) (now (out .entry)) ≡ record { answer = unpacked (r .answer) (counts (r .warnings)); out = now (out .exit) } ⌝ }
 {
@@ -299,7 +299,7 @@ pub fn unpack(src: &[u8], out: &mut [i32]) -> Unpacked
     unpack_all(src, out)
 }
 
-// Whether the packed form of src has at most room bytes. Where five bytes an int have room, no int is looked at.
+// Whether the packed form of src has at most room bytes. If five bytes for each int fit, no int is looked at.
 fn packs_into(src: &[i32], room: usize) -> bool
     ensures { λ r. ⌜ r ≡ leb (length (packInts (now (src .entry)))) room ⌝ }
 {
@@ -319,7 +319,7 @@ fn packs_into(src: &[i32], room: usize) -> bool
     true
 }
 
-// The packed form of all of src, into the front of out: how many bytes; where it does not fit, out is left as it was.
+// Packs all of src into the front of out and returns the number of bytes; if it does not fit, out is unchanged.
 pub fn pack(src: &[i32], out: &mut [u8]) -> IntWrite
     ensures { λ r. ⌜ stored (now (out .entry)) (return (packInts (now (src .entry)))) ≡ record { answer = intWrite r; out = now (out .exit) } ⌝ }
 {

@@ -1,4 +1,4 @@
--- What the answers of `raw_snap` mean: document 01's number and values of each case. Assumes nothing.
+-- What the answers of `raw_snap` mean: the refusal's number and the values of each case. Assumes nothing.
 use mathlib.Core.Bool.{Bool, true, false}
 use mathlib.Core.Option.{Option, some, none}
 use Prim.Native.Nat.{ℕ}

@@ -1,4 +1,4 @@
--- What a base and a delta of lent areas come to, refusal by refusal, and the count that the test of a form tells. Assumes nothing.
+-- Applying a delta to a base in lent areas, refusal by refusal, and the count that the check of a form returns. Assumes nothing.
 use mathlib.Core.Path.{_≡_, _∙_}
 use mathlib.Core.List.{List, []}
 use Prim.Native.Nat.{ℕ, _<_, _≤_}
@@ -29,7 +29,7 @@ pub record Holds (base delta : List ℤ) (scratch n k u : ℕ) : Type 0 where
   pub room : 16384 ≤ scratch
   pub is : applying base delta scratch ≡ applyDelta (items base) (deltaIn [] delta)
 
--- what the judgement of the areas tells
+-- what judging the areas returns
 abbrev pub Judged : List ℤ → List ℤ → ℕ → Areas → Type 0
 Judged base delta scratch (areas.Held n k u) = Holds base delta scratch n k u
 Judged base delta scratch (areas.Refused e) = applying base delta scratch ≡ refuse (number e)
@@ -41,7 +41,7 @@ module _ (base delta : List ℤ) (scratch : ℕ) where
   base-refused e = rw e
 
   module _ {b : Table} (e : held base ≡ return b) where
-    -- the delta is not
+    -- the delta is not in form
     pub delta-refused : heldDelta delta ≡ refuse notInForm → applying base delta scratch ≡ refuse notInForm
     unfolding applying
     delta-refused f = rw (e, f)
@@ -52,7 +52,7 @@ module _ (base delta : List ℤ) (scratch : ℕ) where
       unfolding applying
       scratch-refused h = rw (e, f, lt-leb 16384 scratch h)
 
-      -- nothing is wrong with them
+      -- neither they nor scratch are refused
       pub is-applied : 16384 ≤ scratch → applying base delta scratch ≡ applyDelta b d
       unfolding applying
       is-applied h =
@@ -61,11 +61,11 @@ module _ (base delta : List ℤ) (scratch : ℕ) where
           ∙ after-none (after none (applyDelta b d))
           ∙ after-none (applyDelta b d))
 
--- a table that is refused leaves the area
+-- a refused table leaves the area unchanged
 pub refused-leaves : (out : List ℤ) (o : Outcome Table) (n : ℕ) → o ≡ refuse n → storedTable out o ≡ record { answer = refuse n; out = out }
 unfolding stored
 refused-leaves out o n e = rw e
 
--- the test of a form tells the count that stands in the area
+-- the check of a form returns the count that is in the area
 pub form-counted : (a : List ℤ) (n k : ℕ) → tableForm.Table n k ≡ formOf (tableOf a) → tableForm.Table (count a) k ≡ formOf (tableOf a)
 form-counted a n k e = rw (← formed a n k e .0 .count-is) e

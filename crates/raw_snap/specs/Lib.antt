@@ -1,3 +1,3 @@
--- What the answers of `raw_snap` mean, and what applying a delta comes to. Assumes nothing.
+-- What the answers of `raw_snap` mean, and the result of applying a delta. Assumes nothing.
 pub mod Answers
 pub mod Applied

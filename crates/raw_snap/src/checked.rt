@@ -1,4 +1,4 @@
-// The steps of reading a packed table and of applying a delta, with their warnings; and a table copied.
+// The steps of reading a packed table and of applying a delta, with their warnings; and copying a table.
 ghost use mathlib.Core.Path.{_≡_};
 ghost use lib.ListN.{length};
 ghost use Rattle.definitions.specs.Warnings.{plus};
@@ -24,7 +24,7 @@ use format::Warnings;
 use table::checked::TableForm;
 use table_reading::checked::read_table;
 
-// The warnings of reading a table: the packer's two kinds, and of a cut integer and ints left over.
+// The warnings of reading a table: the packer's two kinds, and those for a cut integer and for ints left over.
 pub fn warnings(overlong: usize, padding: usize, cut: bool, more: bool) -> Warnings
     ensures { λ r. ⌜ counts r ≡ plus (packed overlong padding) (plus (excess cut) (excess more)) ⌝ }
 {
@@ -45,7 +45,7 @@ pub fn warnings(overlong: usize, padding: usize, cut: bool, more: bool) -> Warni
     }
 }
 
-// A call that is refused before anything is read.
+// The refusal of a call before anything is read.
 pub fn refused(error: Error) -> Reading
     ensures { λ r. ⌜ refuse (number error) ≡ storedWith (r .answer) (counts (r .warnings)) ⌝ }
 {
@@ -55,7 +55,7 @@ pub fn refused(error: Error) -> Reading
     }
 }
 
-// A packed table, into the front of out. What scratch then holds is of no account.
+// Reads a packed table into the front of out. Leaves scratch in any state.
 pub fn read_packed(src: &[u8], out: &mut [i32], scratch: &mut [i32]) -> Reading
     ensures { λ r. ⌜ readCall (now (src .entry)) (now (out .entry)) (length (now (scratch .entry))) ≡ record { answer = storedWith (r .answer) (counts (r .warnings)); out = now (out .exit) } ⌝ }
 {
@@ -108,7 +108,7 @@ pub enum Areas {
     Refused(Error),
 }
 
-// The forms of a base and a delta, where scratch has so many entries.
+// Judges the forms of a base and a delta; scratch has so many entries.
 pub fn judge_areas(base: &[i32], delta: &[i32], scratch: usize) -> Areas
     ensures { λ r. ⌜ Judged (now (base .entry)) (now (delta .entry)) scratch r ⌝ }
 {
@@ -133,7 +133,7 @@ pub fn judge_areas(base: &[i32], delta: &[i32], scratch: usize) -> Areas
     }
 }
 
-// The table that a delta makes of its base, into the front of out, where scratch has so many entries.
+// Applies a delta to its base, into the front of out; scratch has so many entries.
 pub fn apply_delta(base: &[i32], delta: &[i32], out: &mut [i32], scratch: usize) -> Reading
     ensures { λ r. ⌜ rawReadWithDeltaCall (now (base .entry)) (now (delta .entry)) (now (out .entry)) scratch ≡ record { answer = storedWith (r .answer) (counts (r .warnings)); out = now (out .exit) } ⌝ }
 {
@@ -155,7 +155,7 @@ pub fn apply_delta(base: &[i32], delta: &[i32], out: &mut [i32], scratch: usize)
     }
 }
 
-// The table of n ints that an area begins with, into the front of out; where it does not fit, out is left as it was.
+// Copies the table of n ints that an area begins with to the front of out; if it does not fit, out is unchanged.
 pub fn copy_table(area: &[i32], n: usize, out: &mut [i32]) -> Stored
     requires { ⌜ tableForm.Table (count (now area)) n ≡ formOf (tableOf (now area)) ⌝ }
     ensures { λ r. ⌜ writeToIntsCall (now (area .entry)) (now (out .entry)) ≡ record { answer = storedInts r; out = now (out .exit) } ⌝ }

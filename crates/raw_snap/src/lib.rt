@@ -38,7 +38,7 @@ pub enum Checksum {
     Refused(Error),
 }
 
-// The key of an item of a walk, or its end.
+// The key of an item of a walk, or the end of the walk.
 pub enum Walked {
     Key(i32),
     End,
@@ -80,7 +80,7 @@ pub fn has_item(area: &[i32], raw_type_id: u16, id: u16) -> Has
     Has::No
 }
 
-// The data of an item, as a part of the area; the empty part where there is none.
+// The data of an item, as a part of the area; empty if there is no such item.
 pub fn item(area: &[i32], raw_type_id: u16, id: u16) -> &[i32]
     ensures { λ r. ⌜ now r ≡ itemCall (now (area .entry)) (keyOf «raw_type_id» id) ⌝ }
 {
@@ -104,7 +104,7 @@ pub fn crc(area: &[i32]) -> Checksum
     Checksum::Sum(table::checked::crc(area, items))
 }
 
-// The key of the i-th item in the order of keys read as signed.
+// The key of the i-th item in signed key order.
 pub fn walk_key(area: &[i32], i: usize) -> Walked
     ensures { λ r. ⌜ walkKeyCall (now (area .entry)) i ≡ walked r ⌝ }
 {
@@ -118,7 +118,7 @@ pub fn walk_key(area: &[i32], i: usize) -> Walked
     Walked::Key(table::checked::key_at(area, items, at))
 }
 
-// The data of the i-th item in that order, as a part of the area; the empty part past the end.
+// The data of the i-th item in that order, as a part of the area; empty past the end.
 pub fn walk_item(area: &[i32], i: usize) -> &[i32]
     ensures { λ r. ⌜ now r ≡ walkItemCall (now (area .entry)) i ⌝ }
 {
@@ -132,7 +132,7 @@ pub fn walk_item(area: &[i32], i: usize) -> &[i32]
     table::checked::data_at(area, items, at)
 }
 
-// A table of ints, into the front of out: how many ints it takes there. A refused call leaves out as it was.
+// Reads a table from ints into the front of out; returns how many ints it takes there. A refused call leaves out unchanged.
 pub fn read_from_ints(src: &[i32], out: &mut [i32]) -> Reading
     ensures { λ r. ⌜ readFromIntsCall (now (src .entry)) (now (out .entry)) ≡ record { answer = storedWith (r .answer) (counts (r .warnings)); out = now (out .exit) } ⌝ }
 {
@@ -147,7 +147,7 @@ pub fn read_from_ints(src: &[i32], out: &mut [i32]) -> Reading
     }
 }
 
-// A packed table, into the front of out. Scratch has 16,384 entries or more, and one for each byte; it is zeros afterwards.
+// Reads a packed table into the front of out. Scratch needs at least 16,384 entries and one for each byte; it is all zeros afterwards.
 pub fn read(src: &[u8], out: &mut [i32], scratch: &mut [i32]) -> Reading
     ensures { λ r. ⌜ (readCall (now (src .entry)) (now (out .entry)) (length (now (scratch .entry))) ≡ record { answer = storedWith (r .answer) (counts (r .warnings)); out = now (out .exit) }) × (now (scratch .exit) ≡ cleared (now (scratch .entry))) ⌝ }
 {
@@ -156,8 +156,8 @@ pub fn read(src: &[u8], out: &mut [i32], scratch: &mut [i32]) -> Reading
     read
 }
 
-// The table that a delta makes of its base, into the front of out: how many ints it takes there. Scratch has 16,384 entries or more; it is
-// zeros afterwards. A refused call leaves out as it was.
+// Applies a delta to its base and writes the table into the front of out; returns how many ints it takes there. Scratch needs at least 16,384
+// entries; it is all zeros afterwards. A refused call leaves out unchanged.
 pub fn read_with_delta(base: &[i32], delta: &[i32], out: &mut [i32], scratch: &mut [i32]) -> Reading
     ensures { λ r. ⌜ (rawReadWithDeltaCall (now (base .entry)) (now (delta .entry)) (now (out .entry)) (length (now (scratch .entry))) ≡ record { answer = storedWith (r .answer) (counts (r .warnings)); out = now (out .exit) }) × (now (scratch .exit) ≡ cleared (now (scratch .entry))) ⌝ }
 {
@@ -166,7 +166,7 @@ pub fn read_with_delta(base: &[i32], delta: &[i32], out: &mut [i32], scratch: &m
     read
 }
 
-// A table's written form, into the front of out: how many ints; where it does not fit, out is left as it was.
+// Writes a table's written form into the front of out; returns the number of ints. If it does not fit, out is unchanged.
 pub fn write_to_ints(area: &[i32], out: &mut [i32]) -> Stored
     ensures { λ r. ⌜ writeToIntsCall (now (area .entry)) (now (out .entry)) ≡ record { answer = storedInts r; out = now (out .exit) } ⌝ }
 {
@@ -176,7 +176,7 @@ pub fn write_to_ints(area: &[i32], out: &mut [i32]) -> Stored
     checked::copy_table(area, n, out)
 }
 
-// A table packed, into the front of out: how many bytes; where it does not fit, out is left as it was.
+// Packs a table into the front of out; returns the number of bytes. If it does not fit, out is unchanged.
 pub fn write(area: &[i32], out: &mut [u8]) -> IntWrite
     ensures { λ r. ⌜ writeCall (now (area .entry)) (now (out .entry)) ≡ record { answer = intWrite r; out = now (out .exit) } ⌝ }
 {

@@ -1,11 +1,11 @@
-// Replays recorded cases on deltas: each line of the standard input is a case, and gets one line of answer. ROOM is the length of the area that is lent.
+// Replays recorded cases on deltas: each line of standard input is a case and gets one line of answer. ROOM is the length of the lent area.
 //     e ROOM                      the empty delta: COUNT INT.., or refused NUMBER
 //     c ROOM LEN INT.. INT..      the delta from a base of LEN ints to a target: COUNT INT.., or refused 10 KEY, or refused NUMBER
 //     i ROOM LEN INT.. INT..      a delta is written to ints under LEN known sizes: COUNT INT.., or refused NUMBER
 //     b ROOM LEN INT.. INT..      the same, packed: LEN HEX, or refused NUMBER
 //     r ROOM LEN INT.. INT..      a delta of ints is read under LEN known sizes: COUNT, seven counts of warnings, INT.., or refused NUMBER and the counts
-//     p ROOM LEN INT.. HEX        the same of a packed delta
-//     m ROOM HAS LEN INT.. INT..  the differences of an item's data from the LEN ints of its base, where it has one: COUNT INT.., or refused NUMBER
+//     p ROOM LEN INT.. HEX        the same for a packed delta
+//     m ROOM HAS LEN INT.. INT..  the differences of an item's data from the LEN ints of its base, if it has one: COUNT INT.., or refused NUMBER
 //     a ROOM HAS LEN INT.. INT..  the same with the differences given, which are applied: COUNT INT.., or refused NUMBER
 use delta_making::Made;
 use format::Error;
@@ -31,7 +31,7 @@ struct Case {
     has_base: bool,
 }
 
-// How many ints were stored, and these; or the refusal.
+// Writes how many ints were stored, and the ints; or the refusal.
 fn put_stored(out: &mut [u8], area: &[i32], answer: Stored) -> usize {
     match answer {
         Stored::Ints(count) => put_counted(out, area, count),
@@ -39,13 +39,13 @@ fn put_stored(out: &mut [u8], area: &[i32], answer: Stored) -> usize {
     }
 }
 
-// A count, and as many ints.
+// Writes a count and as many ints.
 fn put_counted(out: &mut [u8], area: &[i32], count: usize) -> usize {
     let end = put_number(out, 0, count);
     put_ints(out, end, area, count)
 }
 
-// How many ints a delta takes, and these; or the refusal, with the key where two lengths differ.
+// Writes how many ints a delta takes, and the ints; or the refusal, with the key if two lengths differ.
 fn put_made(out: &mut [u8], area: &[i32], answer: Made) -> usize {
     match answer {
         Made::Ints(count) => put_counted(out, area, count),
@@ -54,14 +54,14 @@ fn put_made(out: &mut [u8], area: &[i32], answer: Made) -> usize {
     }
 }
 
-// The refusal of two items of one key that differ in length, and the key.
+// Writes the refusal for two items of one key that differ in length, and the key.
 fn put_differing(out: &mut [u8], key: i32) -> usize {
     let end = put_refused(out, Error::DeltaDifferingSizes);
     let end = put_byte(out, end, b' ');
     put_int(out, end, key)
 }
 
-// How many bytes were written, and these; or the refusal.
+// Writes how many bytes were written, and the bytes; or the refusal.
 fn put_written(out: &mut [u8], bytes: &[u8], answer: IntWrite) -> usize {
     match answer {
         IntWrite::Next(len) => {
@@ -72,31 +72,31 @@ fn put_written(out: &mut [u8], bytes: &[u8], answer: IntWrite) -> usize {
     }
 }
 
-// The empty delta, in an area.
+// Writes the empty delta in an area.
 fn clear(area: &mut [i32], out: &mut [u8]) -> usize {
     let answer = delta::clear(area);
     put_stored(out, area, answer)
 }
 
-// The delta from a base to a target, in an area.
+// Makes the delta from a base to a target in an area.
 fn create(base: &[i32], target: &[i32], area: &mut [i32], out: &mut [u8]) -> usize {
     let answer = delta::create(base, target, area);
     put_made(out, area, answer)
 }
 
-// A delta written to ints under known sizes, in an area.
+// Writes a delta to ints under known sizes in an area.
 fn write_to_ints(sizes: &[i32], delta: &[i32], area: &mut [i32], out: &mut [u8]) -> usize {
     let answer = delta::write_to_ints(delta, sizes, area);
     put_stored(out, area, answer)
 }
 
-// A delta packed under known sizes, in an area of bytes.
+// Packs a delta under known sizes in an area of bytes.
 fn write(sizes: &[i32], delta: &[i32], area: &mut [u8], out: &mut [u8]) -> usize {
     let answer = delta::write(delta, sizes, area);
     put_written(out, area, answer)
 }
 
-// How many ints a delta takes, or the refusal.
+// Writes how many ints a delta takes, or the refusal.
 fn put_count(out: &mut [u8], answer: Stored) -> usize {
     match answer {
         Stored::Ints(count) => put_number(out, 0, count),
@@ -104,7 +104,7 @@ fn put_count(out: &mut [u8], answer: Stored) -> usize {
     }
 }
 
-// How many ints a delta takes; none where it is refused.
+// How many ints a delta takes; none if it is refused.
 fn count_or_none(answer: Stored) -> usize {
     match answer {
         Stored::Ints(count) => count,
@@ -112,7 +112,7 @@ fn count_or_none(answer: Stored) -> usize {
     }
 }
 
-// The counts of the warnings that come with reading a delta.
+// Writes the counts of the warnings that come with reading a delta.
 fn put_warnings(out: &mut [u8], at: usize, w: Warnings) -> usize {
     let end = put_next(out, at, w.overlong_int_encoding);
     let end = put_next(out, end, w.non_zero_int_padding);
@@ -123,7 +123,7 @@ fn put_warnings(out: &mut [u8], at: usize, w: Warnings) -> usize {
     put_next(out, end, w.num_updated_items)
 }
 
-// A delta of ints read under known sizes, in an area.
+// Reads a delta of ints under known sizes in an area.
 fn read_ints(sizes: &[i32], src: &[i32], area: &mut [i32], out: &mut [u8]) -> usize {
     let mut scratch = [77i32; 16384];
     let read = delta::read_from_ints(src, sizes, area, &mut scratch);
@@ -133,7 +133,7 @@ fn read_ints(sizes: &[i32], src: &[i32], area: &mut [i32], out: &mut [u8]) -> us
     put_ints(out, end, area, count_or_none(answer))
 }
 
-// A packed delta read under known sizes, in an area.
+// Reads a packed delta under known sizes in an area.
 fn read_packed(sizes: &[i32], src: &[u8], area: &mut [i32], out: &mut [u8]) -> usize {
     let mut scratch = [77i32; 16384];
     let read = delta::read(src, sizes, area, &mut scratch);
@@ -143,13 +143,13 @@ fn read_packed(sizes: &[i32], src: &[u8], area: &mut [i32], out: &mut [u8]) -> u
     put_ints(out, end, area, count_or_none(answer))
 }
 
-// The differences of an item's data from the base's, where it has any, in an area.
+// Makes the differences of an item's data from the base's, if it has any, in an area.
 fn create_item(has: bool, base: &[i32], data: &[i32], area: &mut [i32], out: &mut [u8]) -> usize {
     let answer = format::create_item_delta(has, base, data, area);
     put_stored(out, area, answer)
 }
 
-// An item's data from its differences and the base's data, where it has any, in an area.
+// Makes an item's data from its differences and the base's data, if it has any, in an area.
 fn apply_item(
     has: bool,
     base: &[i32],
@@ -161,7 +161,7 @@ fn apply_item(
     put_stored(out, area, answer)
 }
 
-// The answer of a case that fills an area of ints, which is lent.
+// Answers a case that fills the given area of ints.
 fn fill(case: Case, first: &[i32], second: &[i32], area: &mut [i32], out: &mut [u8]) -> usize {
     let kind = case.kind;
     match kind {
@@ -175,7 +175,7 @@ fn fill(case: Case, first: &[i32], second: &[i32], area: &mut [i32], out: &mut [
     }
 }
 
-// The answer of a case that fills an area of ints.
+// Answers a case that fills an area of ints.
 fn ints_case(case: Case, first: &[i32], second: &[i32], out: &mut [u8]) -> usize {
     let room = case.room;
     let mut area = [77i32; 128];
@@ -185,7 +185,7 @@ fn ints_case(case: Case, first: &[i32], second: &[i32], out: &mut [u8]) -> usize
     fill(case, first, second, &mut area[..room], out)
 }
 
-// The answer of b, with the known sizes and the delta.
+// Answers b, with the known sizes and the delta.
 fn bytes_case(room: usize, sizes: &[i32], delta: &[i32], out: &mut [u8]) -> usize {
     let mut area = [77u8; 128];
     if 128 < room {
@@ -194,7 +194,7 @@ fn bytes_case(room: usize, sizes: &[i32], delta: &[i32], out: &mut [u8]) -> usiz
     write(sizes, delta, &mut area[..room], out)
 }
 
-// The answer of p, whose packed delta is the word behind the known sizes.
+// Answers p, whose packed delta is the word after the known sizes.
 fn packed_case(line: &[u8], room: usize, sizes: &[i32], out: &mut [u8]) -> usize {
     let mut src = [0u8; 128];
     let mut area = [77i32; 128];
@@ -205,7 +205,7 @@ fn packed_case(line: &[u8], room: usize, sizes: &[i32], out: &mut [u8]) -> usize
     read_packed(sizes, &src[..len], &mut area[..room], out)
 }
 
-// The answer of a case, with its line and its two lists of ints.
+// Answers a case, with its line and its two lists of ints.
 fn answer_lists(line: &[u8], case: Case, first: &[i32], second: &[i32], out: &mut [u8]) -> usize {
     if case.kind == b'b' {
         return bytes_case(case.room, first, second, out);
@@ -216,7 +216,7 @@ fn answer_lists(line: &[u8], case: Case, first: &[i32], second: &[i32], out: &mu
     ints_case(case, first, second, out)
 }
 
-// The answer of a case whose two lists stand after head ints; the last of these is the length of the first list.
+// Answers a case whose two lists are after head ints; the last of these is the length of the first list.
 fn lists_case(line: &[u8], case: Case, head: usize, out: &mut [u8]) -> usize {
     let mut given = [0i32; 128];
     let count = replay_text::ints(line, &mut given);
@@ -235,14 +235,14 @@ fn lists_case(line: &[u8], case: Case, head: usize, out: &mut [u8]) -> usize {
     answer_lists(line, case, &given[head..from], &rest[from..count], out)
 }
 
-// The answer of e ROOM, which has no lists.
+// Answers e ROOM, which has no lists.
 fn clear_case(case: Case, out: &mut [u8]) -> usize {
     let none = [0i32; 1];
     let empty = &none[..0];
     ints_case(case, empty, empty, out)
 }
 
-// The answer of a line, at the front of out; where it ends.
+// Answers a line at the front of out; returns where the answer ends.
 fn answer(line: &[u8], out: &mut [u8]) -> usize {
     if line.len() == 0 {
         return put_odd(out);
@@ -281,7 +281,7 @@ fn replay(cases: &[u8]) {
     }
 }
 
-// Reads all cases, and answers them.
+// Reads all cases and answers them.
 fn main() {
     let mut cases = io::large_buffer();
     let len = io::read_full(STDIN_FILENO, &mut cases);

@@ -1,11 +1,11 @@
-// Replays recorded messages to a manager: each line of the standard input is a message to the manager that the lines before it left, and gets one line of answer.
+// Replays recorded messages to a manager: each line of standard input is a message to the manager as the lines before left it, and gets one line of answer.
 //     n ROOM DELTA                            a new manager, with a store area of ROOM ints and a delta area of DELTA ints
-//     r                                       both ticks, all tables and the acknowledgement are forgotten
+//     r                                       forgets both ticks, all tables and the acknowledgement
 //     s TICK DIST NUM PART CRC LEN INT.. HEX  a part, under LEN known sizes
 //     i TICK DIST CRC LEN INT.. HEX           a single message, under LEN known sizes
 //     e TICK DIST                             an empty message
-//     l PLACE                                 the table at a place is looked at
-// An answer is the 13 counts of warnings, COUNT ACK, how many tables are held and the tick acknowledged or -, and then more, tick TICK, or refused NUMBER. Of a look it is TICK INT.., or end.
+//     l PLACE                                 looks up the table at a place
+// Answer: 13 warning counts, COUNT ACK (tables held, tick acknowledged or -), then more, tick TICK, or refused NUMBER. For l: TICK INT.., or end.
 use format::Error;
 use format::OptionTick;
 use format::Warnings;
@@ -37,13 +37,13 @@ struct Answered {
     end: usize,
 }
 
-// A space and an int; the place after them.
+// Writes a space and an int; returns the place after them.
 fn put_next_int(out: &mut [u8], at: usize, n: i32) -> usize {
     let end = put_byte(out, at, b' ');
     put_int(out, end, n)
 }
 
-// A space and a tick, or a minus where there is none; the place after them.
+// Writes a space and a tick, or a minus if there is none; returns the place after them.
 fn put_tick(out: &mut [u8], at: usize, tick: OptionTick) -> usize {
     match tick {
         OptionTick::Some(n) => put_next_int(out, at, n),
@@ -51,7 +51,7 @@ fn put_tick(out: &mut [u8], at: usize, tick: OptionTick) -> usize {
     }
 }
 
-// The warnings of reading and applying a delta, at the front of out; the place after them.
+// Writes the warnings of reading and applying a delta at the front of out; returns the place after them.
 fn put_delta_warnings(out: &mut [u8], w: Warnings) -> usize {
     let end = put_number(out, 0, w.overlong_int_encoding);
     let end = put_next(out, end, w.non_zero_int_padding);
@@ -63,7 +63,7 @@ fn put_delta_warnings(out: &mut [u8], w: Warnings) -> usize {
     put_next(out, end, w.num_updated_items)
 }
 
-// All 13 counts of warnings, at the front of out; the place after them.
+// Writes all 13 warning counts at the front of out; returns the place after them.
 fn put_warnings(out: &mut [u8], w: Warnings) -> usize {
     let end = put_delta_warnings(out, w);
     let end = put_next(out, end, w.excess_snap_data);
@@ -73,13 +73,13 @@ fn put_warnings(out: &mut [u8], w: Warnings) -> usize {
     put_next(out, end, w.weird_negative_delta_tick)
 }
 
-// The number of a refusal.
+// Writes the number of a refusal.
 fn put_refusal(out: &mut [u8], at: usize, e: Error) -> usize {
     let end = put(out, at, b" refused");
     put_next(out, end, format::error_number(e) as usize)
 }
 
-// What a message comes to.
+// Writes the result of a message.
 fn put_handled(out: &mut [u8], at: usize, answer: Handled) -> usize {
     match answer {
         Handled::Tick(tick) => {
@@ -91,7 +91,7 @@ fn put_handled(out: &mut [u8], at: usize, answer: Handled) -> usize {
     }
 }
 
-// The answer of a message.
+// Writes the answer for a message.
 fn reply(h: Handling, out: &mut [u8]) -> Answered {
     let manager = h.manager;
     let store = manager.storage;
@@ -201,7 +201,7 @@ fn empty(
     m.snap_empty(tick, delta_tick, parts, joined, delta, area, &mut scratch)
 }
 
-// What the message of a line comes to.
+// Handles the message of a line.
 fn message(
     m: Manager,
     line: &[u8],
@@ -223,13 +223,13 @@ fn message(
     }
 }
 
-// A tick and a table.
+// Writes a tick and a table.
 fn put_table(out: &mut [u8], tick: i32, table: &[i32]) -> usize {
     let end = put_int(out, 0, tick);
     put_ints(out, end, table, table.len())
 }
 
-// The answer of l.
+// Answers l.
 fn look(m: Manager, line: &[u8], area: &[i32], out: &mut [u8]) -> Answered {
     let i = replay_text::number(word(line, 1));
     let store = m.storage;
@@ -250,13 +250,13 @@ fn is_kind(line: &[u8], kind: u8) -> bool {
     line[0] == kind
 }
 
-// The answer of a line that is no case.
+// Answers a line that is no case.
 fn odd(manager: Manager, out: &mut [u8]) -> Answered {
     let end = put_odd(out);
     Answered { manager, end }
 }
 
-// The answer of a line, with the areas of the manager.
+// Answers a line, with the areas of the manager.
 fn call(
     m: Manager,
     line: &[u8],
@@ -272,7 +272,7 @@ fn call(
     reply(message(m, line, parts, joined, delta, area), out)
 }
 
-// The answer of a line, with the first ints of the store's area.
+// Answers a line, with the first ints of the store's area.
 fn on_area(
     state: State,
     line: &[u8],
@@ -290,7 +290,7 @@ fn on_area(
     call(m, line, parts, joined, delta, &mut area[..room], out)
 }
 
-// The answer of a line, with the first ints of the delta area too.
+// Answers a line, with the first ints of the delta area too.
 fn on_areas(
     state: State,
     line: &[u8],
@@ -307,13 +307,13 @@ fn on_areas(
     on_area(state, line, parts, joined, &mut delta[..room], area, out)
 }
 
-// A new manager, and its store's area emptied.
+// A new manager, with its store's area emptied.
 fn fresh(area: &mut [i32], out: &mut [u8]) -> Answered {
     let m = Manager::new();
     reply(quiet(m.reset(area)), out)
 }
 
-// The number that a line of n gives at a place, or the one that was.
+// The number at a place of a line with n, or the previous number.
 fn room_after(room: usize, line: &[u8], i: usize) -> usize {
     if is_kind(line, b'n') {
         return replay_text::number(word(line, i));
@@ -321,7 +321,7 @@ fn room_after(room: usize, line: &[u8], i: usize) -> usize {
     room
 }
 
-// The answer of a line.
+// Answers a line.
 fn answer(
     state: State,
     line: &[u8],
@@ -337,7 +337,7 @@ fn answer(
     on_areas(state, line, parts, joined, delta, area, out)
 }
 
-// Writes the answer of a line; the manager afterwards.
+// Writes the answer for a line; returns the manager afterwards.
 fn step(
     state: State,
     line: &[u8],
@@ -376,7 +376,7 @@ fn replay(cases: &[u8], parts: &mut [u8], joined: &mut [u8], delta: &mut [i32], 
     }
 }
 
-// Reads all cases, and answers them.
+// Reads all cases and answers them.
 fn main() {
     let mut cases = io::large_buffer();
     let len = io::read_full(STDIN_FILENO, &mut cases);

@@ -1,4 +1,4 @@
-// Replays recorded cases on packed integers: each line of the standard input is a case, and gets one line of answer.
+// Replays recorded cases on packed integers: each line of standard input is a case and gets one line of answer.
 //     r AT HEX        an int is read: VALUE NEXT OVERLONG PADDING, or refused 1
 //     b AT HEX        the same by a reader over the bytes: VALUE AT LEFT EMPTY OVERLONG PADDING, or refused 1 AT LEFT EMPTY
 //     i AT INT..      the same by a reader over the ints
@@ -22,13 +22,13 @@ use replay_text::put_odd;
 use replay_text::put_refused;
 use replay_text::word;
 
-// The counts of the packer's two warnings.
+// Writes the counts of the packer's two warnings.
 fn put_warnings(out: &mut [u8], at: usize, w: Warnings) -> usize {
     let end = put_next(out, at, w.overlong_int_encoding);
     put_next(out, end, w.non_zero_int_padding)
 }
 
-// The answer of r AT HEX.
+// Answers r AT HEX.
 fn read_case(line: &[u8], out: &mut [u8]) -> usize {
     let mut src = [0u8; 64];
     let len = replay_text::bytes(word(line, 2), &mut src);
@@ -48,14 +48,14 @@ fn read_case(line: &[u8], out: &mut [u8]) -> usize {
     put_next(out, end, ints::one_if(padding))
 }
 
-// Where a reader stands after a read: its place, how many entries are left, and whether none are.
+// Writes the position of a reader after a read: its place, how many entries are left, and whether none are.
 fn put_standing(out: &mut [u8], at: usize, r: ReaderAnswer) -> usize {
     let end = put_next(out, at, r.at);
     let end = put_next(out, end, r.left);
     put_next(out, end, ints::one_if(r.empty))
 }
 
-// What a reader answered.
+// Writes the answer of a reader.
 fn put_reading(out: &mut [u8], r: ReaderAnswer) -> usize {
     let read = r.read;
     let IntRead::Int {
@@ -74,7 +74,7 @@ fn put_reading(out: &mut [u8], r: ReaderAnswer) -> usize {
     put_next(out, end, ints::one_if(padding))
 }
 
-// The answer of b AT HEX.
+// Answers b AT HEX.
 fn bytes_case(line: &[u8], out: &mut [u8]) -> usize {
     let mut src = [0u8; 64];
     let len = replay_text::bytes(word(line, 2), &mut src);
@@ -82,7 +82,7 @@ fn bytes_case(line: &[u8], out: &mut [u8]) -> usize {
     put_reading(out, packer::read_bytes(&src[..len], at))
 }
 
-// The answer of i AT INT..; the place is the first of the line's ints.
+// Answers i AT INT..; the place is the first of the line's ints.
 fn ints_case(line: &[u8], out: &mut [u8]) -> usize {
     let mut src = [0i32; 65];
     let len = replay_text::ints(line, &mut src);
@@ -93,7 +93,7 @@ fn ints_case(line: &[u8], out: &mut [u8]) -> usize {
     put_reading(out, packer::read_ints(&src[1..len], at))
 }
 
-// The answer of w ROOM AT INT.
+// Answers w ROOM AT INT.
 fn write_case(line: &[u8], out: &mut [u8]) -> usize {
     let mut area = [0xaau8; 16];
     let room = replay_text::number(word(line, 1));
@@ -103,7 +103,7 @@ fn write_case(line: &[u8], out: &mut [u8]) -> usize {
     write_into(line, &mut area[..room], out)
 }
 
-// The answer of w ROOM AT INT, with an area of ROOM bytes.
+// Answers w ROOM AT INT, with an area of ROOM bytes.
 fn write_into(line: &[u8], area: &mut [u8], out: &mut [u8]) -> usize {
     let at = replay_text::number(word(line, 2));
     let int = replay_text::int(word(line, 3));
@@ -113,7 +113,7 @@ fn write_into(line: &[u8], area: &mut [u8], out: &mut [u8]) -> usize {
     put_hex(out, end, area)
 }
 
-// Where the write ended, or the refusal.
+// Writes where the write ended, or the refusal.
 fn put_written(out: &mut [u8], answer: IntWrite) -> usize {
     match answer {
         IntWrite::Next(next) => put_number(out, 0, next),
@@ -121,7 +121,7 @@ fn put_written(out: &mut [u8], answer: IntWrite) -> usize {
     }
 }
 
-// The answer of u ROOM HEX.
+// Answers u ROOM HEX.
 fn unpack_case(line: &[u8], out: &mut [u8]) -> usize {
     let mut src = [0u8; 64];
     let mut area = [0i32; 64];
@@ -133,7 +133,7 @@ fn unpack_case(line: &[u8], out: &mut [u8]) -> usize {
     unpack_into(&src[..len], &mut area[..room], out)
 }
 
-// The answer of u ROOM HEX, with the bytes and an area of ROOM ints.
+// Answers u ROOM HEX, with the bytes and an area of ROOM ints.
 fn unpack_into(src: &[u8], area: &mut [i32], out: &mut [u8]) -> usize {
     let unpacked = packer::unpack(src, area);
     let answer = unpacked.answer;
@@ -151,7 +151,7 @@ fn unpack_into(src: &[u8], area: &mut [i32], out: &mut [u8]) -> usize {
     }
 }
 
-// The answer of a line, at the front of out; where it ends.
+// Answers a line at the front of out; returns where the answer ends.
 fn answer(line: &[u8], out: &mut [u8]) -> usize {
     if line.len() == 0 {
         return put_odd(out);
@@ -184,7 +184,7 @@ fn replay(cases: &[u8]) {
     }
 }
 
-// Reads all cases, and answers them.
+// Reads all cases and answers them.
 fn main() {
     let mut cases = io::large_buffer();
     let len = io::read_full(STDIN_FILENO, &mut cases);

@@ -1,10 +1,10 @@
-// Replays recorded calls on a receiver: each line of the standard input is a call on the receiver that the lines before it left, and gets one line of answer.
+// Replays recorded calls on a receiver: each line of standard input is a call on the receiver as the lines before left it, and gets one line of answer.
 //     n                              a fresh receiver
-//     r                              both ticks are forgotten
+//     r                              forgets both ticks
 //     s TICK DIST NUM PART CRC HEX   a part
 //     i TICK DIST CRC HEX            a single message
-//     e TICK DIST                    an empty one
-// An answer is DUPLICATE DIFFERING, the two counts of warnings, and then more, delta TICK BASE CRC LEN HEX, empty TICK BASE, or refused NUMBER.
+//     e TICK DIST                    an empty message
+// An answer is DUPLICATE DIFFERING, the two warning counts, and then more, delta TICK BASE CRC LEN HEX, empty TICK BASE, or refused NUMBER.
 use format::Error;
 use format::Warnings;
 use libc::STDIN_FILENO;
@@ -20,13 +20,13 @@ use replay_text::put_next;
 use replay_text::put_number;
 use replay_text::word;
 
-// A space and an int; the place after them.
+// Writes a space and an int; returns the place after them.
 fn put_next_int(out: &mut [u8], at: usize, n: i32) -> usize {
     let end = put_byte(out, at, b' ');
     put_int(out, end, n)
 }
 
-// The tick and the base of a delta, its sum, and its bytes.
+// Writes the tick and the base of a delta, its sum, and its bytes.
 fn put_delta(out: &mut [u8], at: usize, tick: i32, base: i32, crc: i32, joined: &[u8]) -> usize {
     let end = put(out, at, b" delta");
     let end = put_next_int(out, end, tick);
@@ -36,20 +36,20 @@ fn put_delta(out: &mut [u8], at: usize, tick: i32, base: i32, crc: i32, joined: 
     put_bytes(out, end, joined, joined.len())
 }
 
-// The tick and the base of an empty delta.
+// Writes the tick and the base of an empty delta.
 fn put_empty(out: &mut [u8], at: usize, tick: i32, base: i32) -> usize {
     let end = put(out, at, b" empty");
     let end = put_next_int(out, end, tick);
     put_next_int(out, end, base)
 }
 
-// The number of a refusal.
+// Writes the number of a refusal.
 fn put_refusal(out: &mut [u8], at: usize, e: Error) -> usize {
     let end = put(out, at, b" refused");
     put_next(out, end, format::error_number(e) as usize)
 }
 
-// The first bytes of an area; all where there are fewer.
+// The first bytes of an area; all if there are fewer.
 fn first(area: &[u8], n: usize) -> &[u8] {
     if n <= area.len() {
         return &area[..n];
@@ -57,7 +57,7 @@ fn first(area: &[u8], n: usize) -> &[u8] {
     area
 }
 
-// What a message brought.
+// Writes what a message brought.
 fn put_received(out: &mut [u8], at: usize, a: Received, joined: &[u8]) -> usize {
     match a {
         Received::NotYet => put(out, at, b" more"),
@@ -72,7 +72,7 @@ fn put_received(out: &mut [u8], at: usize, a: Received, joined: &[u8]) -> usize 
     }
 }
 
-// Writes the answer of a call.
+// Writes the answer for a call.
 fn reply(s: Receiving, joined: &[u8]) {
     let mut out = [0u8; 2048];
     let w = s.warnings;
@@ -129,7 +129,7 @@ fn empty(r: DeltaReceiver, line: &[u8]) -> Receiving {
     r.snap_empty(tick, delta_tick)
 }
 
-// What the call of a line comes to.
+// Handles the call of a line.
 fn call(r: DeltaReceiver, line: &[u8], parts: &mut [u8], joined: &mut [u8]) -> Receiving {
     if line.len() == 0 {
         return quiet(r);
@@ -145,7 +145,7 @@ fn call(r: DeltaReceiver, line: &[u8], parts: &mut [u8], joined: &mut [u8]) -> R
     }
 }
 
-// Answers a line; the receiver afterwards.
+// Answers a line; returns the receiver afterwards.
 fn step(r: DeltaReceiver, line: &[u8], parts: &mut [u8], joined: &mut [u8]) -> DeltaReceiver {
     let s = call(r, line, parts, joined);
     reply(s, joined);
@@ -163,7 +163,7 @@ fn replay(cases: &[u8], parts: &mut [u8], joined: &mut [u8]) {
     }
 }
 
-// Reads all cases, and answers them.
+// Reads all cases and answers them.
 fn main() {
     let mut cases = io::large_buffer();
     let len = io::read_full(STDIN_FILENO, &mut cases);

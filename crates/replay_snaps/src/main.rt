@@ -1,8 +1,8 @@
-// Replays recorded cases on types, builders and deltas that are applied: each line of the standard input is a case, and gets one line of answer. ROOM is the length of the area that is lent. TYPE is six ints: whether the type is a kind, its number, and the four ints of the kind. COUNTS are those of the warnings: overlong integers, padding of integers, unknown deletes, ints left over, kinds that are too long.
+// Replays recorded cases on types, builders and applied deltas: each line of standard input is a case and gets one line of answer. ROOM is the length of the lent area. TYPE is six ints: whether the type is a kind, its number, and the four ints of the kind. COUNTS are the warnings: overlong integers, padding of integers, unknown deletes, ints left over, kinds that are too long.
 //     r ROOM LEN INT.. INT..     a delta is applied to a base of LEN ints: COUNT COUNTS INT.., or refused NUMBER COUNTS
 //     d ROOM LEN INT.. INT..     the same with the types of the result judged
 //     i ROOM INT..               a table of ints is read with its types judged: the same answers
-//     p ROOM HEX                 the same of a packed table
+//     p ROOM HEX                 the same for a packed table
 //     n TYPE INT..               the raw type of a type in an area: raw NUMBER, or none, or refused NUMBER
 //     t RAW INT..                the type of a raw type: number NUMBER, or kind INT INT INT INT, or none, or refused NUMBER
 //     l TYPE ID INT..            an item of an area is looked up: item INT.., or none, or refused NUMBER
@@ -28,7 +28,7 @@ use snap::RawTypeId;
 use snap::TypeFound;
 use snap::TypeId;
 
-// How many ints a table takes, or the refusal.
+// Writes how many ints a table takes, or the refusal.
 fn put_count(out: &mut [u8], answer: Stored) -> usize {
     match answer {
         Stored::Ints(count) => put_number(out, 0, count),
@@ -36,7 +36,7 @@ fn put_count(out: &mut [u8], answer: Stored) -> usize {
     }
 }
 
-// How many ints a table takes; none where it is refused.
+// How many ints a table takes; none if it is refused.
 fn count_or_none(answer: Stored) -> usize {
     match answer {
         Stored::Ints(count) => count,
@@ -44,7 +44,7 @@ fn count_or_none(answer: Stored) -> usize {
     }
 }
 
-// The counts of the warnings that come with reading and applying.
+// Writes the counts of the warnings that come with reading and applying.
 fn put_warnings(out: &mut [u8], at: usize, w: Warnings) -> usize {
     let end = put_next(out, at, w.overlong_int_encoding);
     let end = put_next(out, end, w.non_zero_int_padding);
@@ -53,7 +53,7 @@ fn put_warnings(out: &mut [u8], at: usize, w: Warnings) -> usize {
     put_next(out, end, w.excess_uuid_item_data)
 }
 
-// What a table that was made comes to, and its ints.
+// Writes the result of making a table, and its ints.
 fn put_made(out: &mut [u8], area: &[i32], read: Reading) -> usize {
     let answer = read.answer;
     let end = put_count(out, answer);
@@ -66,7 +66,7 @@ fn id(text: &[u8]) -> u16 {
     (replay_text::number(text) % 65536) as u16
 }
 
-// The type that a line begins with, behind its letter.
+// The type that a line begins with, after its letter.
 fn type_in(line: &[u8]) -> TypeId {
     if replay_text::number(word(line, 1)) == 0 {
         return TypeId::Ordinal(id(word(line, 2)));
@@ -79,35 +79,35 @@ fn type_in(line: &[u8]) -> TypeId {
     )
 }
 
-// A delta applied to a base, in an area.
+// Applies a delta to a base in an area.
 fn apply(base: &[i32], delta: &[i32], area: &mut [i32], out: &mut [u8]) -> usize {
     let mut scratch = [77i32; 16384];
     let read = raw_snap::read_with_delta(base, delta, area, &mut scratch);
     put_made(out, area, read)
 }
 
-// A delta applied to a base with the types of the result judged, in an area.
+// Applies a delta to a base in an area, with the types of the result judged.
 fn apply_typed(base: &[i32], delta: &[i32], area: &mut [i32], out: &mut [u8]) -> usize {
     let mut scratch = [77i32; 16384];
     let read = snap::read_with_delta(base, delta, area, &mut scratch);
     put_made(out, area, read)
 }
 
-// A table of ints read with its types judged, in an area.
+// Reads a table of ints in an area, with its types judged.
 fn read_ints(src: &[i32], area: &mut [i32], out: &mut [u8]) -> usize {
     let mut scratch = [77i32; 16384];
     let read = snap::read_from_ints(src, area, &mut scratch);
     put_made(out, area, read)
 }
 
-// A packed table read with its types judged, in an area.
+// Reads a packed table in an area, with its types judged.
 fn read_packed(src: &[u8], area: &mut [i32], out: &mut [u8]) -> usize {
     let mut scratch = [77i32; 16384];
     let read = snap::read(src, area, &mut scratch);
     put_made(out, area, read)
 }
 
-// A delta applied to a base, with or without types, in an area.
+// Applies a delta to a base in an area, with or without types.
 fn apply_as(typed: bool, base: &[i32], delta: &[i32], area: &mut [i32], out: &mut [u8]) -> usize {
     if typed {
         return apply_typed(base, delta, area, out);
@@ -115,7 +115,7 @@ fn apply_as(typed: bool, base: &[i32], delta: &[i32], area: &mut [i32], out: &mu
     apply(base, delta, area, out)
 }
 
-// The answer of r or d, with the base and the delta.
+// Answers r or d, with the base and the delta.
 fn apply_case(typed: bool, room: usize, base: &[i32], delta: &[i32], out: &mut [u8]) -> usize {
     let mut area = [77i32; 128];
     if 128 < room {
@@ -124,7 +124,7 @@ fn apply_case(typed: bool, room: usize, base: &[i32], delta: &[i32], out: &mut [
     apply_as(typed, base, delta, &mut area[..room], out)
 }
 
-// The answer of r ROOM LEN INT.. INT.. or d ROOM LEN INT.. INT..
+// Answers r ROOM LEN INT.. INT.. or d ROOM LEN INT.. INT..
 fn delta_case(line: &[u8], typed: bool, out: &mut [u8]) -> usize {
     let mut given = [0i32; 128];
     let count = replay_text::ints(line, &mut given);
@@ -141,7 +141,7 @@ fn delta_case(line: &[u8], typed: bool, out: &mut [u8]) -> usize {
     apply_case(typed, room, &given[2..from], &rest[from..count], out)
 }
 
-// The answer of i ROOM INT..
+// Answers i ROOM INT..
 fn ints_case(line: &[u8], out: &mut [u8]) -> usize {
     let mut given = [0i32; 128];
     let mut area = [77i32; 128];
@@ -156,7 +156,7 @@ fn ints_case(line: &[u8], out: &mut [u8]) -> usize {
     read_ints(&given[1..count], &mut area[..room], out)
 }
 
-// The answer of p ROOM HEX.
+// Answers p ROOM HEX.
 fn packed_case(line: &[u8], out: &mut [u8]) -> usize {
     let mut src = [0u8; 128];
     let mut area = [77i32; 128];
@@ -168,7 +168,7 @@ fn packed_case(line: &[u8], out: &mut [u8]) -> usize {
     read_packed(&src[..len], &mut area[..room], out)
 }
 
-// The raw type of a type in an area, or that there is none, or the refusal.
+// Writes the raw type of a type in an area, or that there is none, or the refusal.
 fn put_raw_type(out: &mut [u8], area: &[i32], type_id: TypeId) -> usize {
     let answer = snap::raw_type_id(area, type_id);
     match answer {
@@ -181,7 +181,7 @@ fn put_raw_type(out: &mut [u8], area: &[i32], type_id: TypeId) -> usize {
     }
 }
 
-// The answer of n TYPE INT..
+// Answers n TYPE INT..
 fn raw_type_case(line: &[u8], out: &mut [u8]) -> usize {
     let mut given = [0i32; 128];
     let count = replay_text::ints(line, &mut given);
@@ -191,13 +191,13 @@ fn raw_type_case(line: &[u8], out: &mut [u8]) -> usize {
     put_raw_type(out, &given[6..count], type_in(line))
 }
 
-// A space and an int.
+// Writes a space and an int.
 fn put_next_int(out: &mut [u8], at: usize, int: i32) -> usize {
     let end = put_byte(out, at, b' ');
     put_int(out, end, int)
 }
 
-// A kind.
+// Writes a kind.
 fn put_kind(out: &mut [u8], a: i32, b: i32, c: i32, d: i32) -> usize {
     let end = put(out, 0, b"kind");
     let end = put_next_int(out, end, a);
@@ -206,7 +206,7 @@ fn put_kind(out: &mut [u8], a: i32, b: i32, c: i32, d: i32) -> usize {
     put_next_int(out, end, d)
 }
 
-// The type of a raw type in an area, or that there is none, or the refusal.
+// Writes the type of a raw type in an area, or that there is none, or the refusal.
 fn put_type(out: &mut [u8], area: &[i32], raw_type_id: u16) -> usize {
     let answer = snap::type_id(area, raw_type_id);
     match answer {
@@ -220,7 +220,7 @@ fn put_type(out: &mut [u8], area: &[i32], raw_type_id: u16) -> usize {
     }
 }
 
-// The answer of t RAW INT..
+// Answers t RAW INT..
 fn type_case(line: &[u8], out: &mut [u8]) -> usize {
     let mut given = [0i32; 128];
     let count = replay_text::ints(line, &mut given);
@@ -230,7 +230,7 @@ fn type_case(line: &[u8], out: &mut [u8]) -> usize {
     put_type(out, &given[1..count], id(word(line, 1)))
 }
 
-// The data of an item of an area, or that there is none, or the refusal.
+// Writes the data of an item of an area, or that there is none, or the refusal.
 fn put_found(out: &mut [u8], area: &[i32], line: &[u8], id: u16) -> usize {
     let answer = snap::has_item(area, type_in(line), id);
     match answer {
@@ -244,7 +244,7 @@ fn put_found(out: &mut [u8], area: &[i32], line: &[u8], id: u16) -> usize {
     }
 }
 
-// The answer of l TYPE ID INT..
+// Answers l TYPE ID INT..
 fn find_case(line: &[u8], out: &mut [u8]) -> usize {
     let mut given = [0i32; 128];
     let count = replay_text::ints(line, &mut given);
@@ -254,14 +254,14 @@ fn find_case(line: &[u8], out: &mut [u8]) -> usize {
     put_found(out, &given[7..count], line, id(word(line, 7)))
 }
 
-// A new builder, in an area.
+// Makes a new builder in an area.
 fn new_builder(area: &mut [i32], out: &mut [u8]) -> usize {
     let answer = builder::new(area);
     let end = put_count(out, answer);
     put_ints(out, end, area, count_or_none(answer))
 }
 
-// The answer of e ROOM.
+// Answers e ROOM.
 fn new_case(line: &[u8], out: &mut [u8]) -> usize {
     let mut area = [77i32; 128];
     let room = replay_text::number(word(line, 1));
@@ -271,7 +271,7 @@ fn new_case(line: &[u8], out: &mut [u8]) -> usize {
     new_builder(&mut area[..room], out)
 }
 
-// The answer of a TYPE ID LEN INT.. INT..
+// Answers a TYPE ID LEN INT.. INT..
 fn add_case(line: &[u8], out: &mut [u8]) -> usize {
     let mut given = [0i32; 128];
     let count = replay_text::ints(line, &mut given);
@@ -287,14 +287,14 @@ fn add_case(line: &[u8], out: &mut [u8]) -> usize {
     add_into(line, &given[8..from], &mut area[from..count], out)
 }
 
-// The answer of a TYPE ID LEN INT.. INT.., with the item's data and the area.
+// Answers a TYPE ID LEN INT.. INT.., with the item's data and the area.
 fn add_into(line: &[u8], data: &[i32], area: &mut [i32], out: &mut [u8]) -> usize {
     let answer = builder::add_item(area, type_in(line), id(word(line, 7)), data);
     let end = put_count(out, answer);
     put_ints(out, end, area, area.len())
 }
 
-// The answer of f INT..
+// Answers f INT..
 fn finish_case(line: &[u8], out: &mut [u8]) -> usize {
     let mut area = [0i32; 128];
     let count = replay_text::ints(line, &mut area);
@@ -302,7 +302,7 @@ fn finish_case(line: &[u8], out: &mut [u8]) -> usize {
     put_count(out, answer)
 }
 
-// The answer of a line, at the front of out; where it ends.
+// Answers a line at the front of out; returns where the answer ends.
 fn answer(line: &[u8], out: &mut [u8]) -> usize {
     if line.len() == 0 {
         return put_odd(out);
@@ -340,7 +340,7 @@ fn replay(cases: &[u8]) {
     }
 }
 
-// Reads all cases, and answers them.
+// Reads all cases and answers them.
 fn main() {
     let mut cases = io::large_buffer();
     let len = io::read_full(STDIN_FILENO, &mut cases);

@@ -1,11 +1,11 @@
-// Replays recorded calls on a store: each line of the standard input is a call on the store that the lines before it left, and gets one line of answer.
+// Replays recorded calls on a store: each line of standard input is a call on the store as the lines before left it, and gets one line of answer.
 //     n ROOM                       a new store, with an area of ROOM ints
-//     r                            all tables and the acknowledgement are forgotten
-//     b TICK                       a base tick is set
-//     s TICK ROOM INT..            a table is added, with a delta area of ROOM ints
-//     d HAS CRC BASE TICK INT..    a delta is taken, with its sum where it has one
-//     l PLACE                      the table at a place is looked at
-// An answer is UNKNOWN EXCESS WEIRD, three counts of warnings, COUNT ACK BASE, how many tables are held and the two ticks or -, and then done, tick TICK, delta BASE LEN INT.., refused NUMBER, or refused 10 KEY. Of a look it is TICK INT.., or end.
+//     r                            forgets all tables and the acknowledgement
+//     b TICK                       sets a base tick
+//     s TICK ROOM INT..            adds a table, with a delta area of ROOM ints
+//     d HAS CRC BASE TICK INT..    takes a delta, with its sum if it has one
+//     l PLACE                      looks up the table at a place
+// An answer is UNKNOWN EXCESS WEIRD, three warning counts, COUNT ACK BASE, how many tables are held and the two ticks or -, and then done, tick TICK, delta BASE LEN INT.., refused NUMBER, or refused 10 KEY. For l it is TICK INT.., or end.
 use format::Error;
 use format::OptionTick;
 use format::Warnings;
@@ -31,7 +31,7 @@ struct State {
     room: usize,
 }
 
-// The numbers of a delta: whether it has a sum, that sum, the tick of its base, and its own.
+// The numbers of a delta: whether it has a sum, the sum, the tick of its base, and its own tick.
 struct Numbers {
     has_crc: bool,
     crc: i32,
@@ -45,13 +45,13 @@ struct Answered {
     end: usize,
 }
 
-// A space and an int; the place after them.
+// Writes a space and an int; returns the place after them.
 fn put_next_int(out: &mut [u8], at: usize, n: i32) -> usize {
     let end = put_byte(out, at, b' ');
     put_int(out, end, n)
 }
 
-// A space and a tick, or a minus where there is none; the place after them.
+// Writes a space and a tick, or a minus if there is none; returns the place after them.
 fn put_tick(out: &mut [u8], at: usize, tick: OptionTick) -> usize {
     match tick {
         OptionTick::Some(n) => put_next_int(out, at, n),
@@ -59,7 +59,7 @@ fn put_tick(out: &mut [u8], at: usize, tick: OptionTick) -> usize {
     }
 }
 
-// The warnings of a call and what the store says of itself, at the front of out; the place after them.
+// Writes the warnings of a call and the store's numbers at the front of out; returns the place after them.
 fn put_head(out: &mut [u8], w: Warnings, s: Storage) -> usize {
     let end = put_number(out, 0, w.unknown_delete);
     let end = put_next(out, end, w.excess_uuid_item_data);
@@ -69,13 +69,13 @@ fn put_head(out: &mut [u8], w: Warnings, s: Storage) -> usize {
     put_tick(out, end, s.delta_tick())
 }
 
-// The number of a refusal.
+// Writes the number of a refusal.
 fn put_refusal(out: &mut [u8], at: usize, e: Error) -> usize {
     let end = put(out, at, b" refused");
     put_next(out, end, format::error_number(e) as usize)
 }
 
-// The base of a table that was added, and its delta.
+// Writes the base of a table that was added, and its delta.
 fn put_delta(out: &mut [u8], at: usize, base: i32, delta: &[i32], ints: usize) -> usize {
     let end = put(out, at, b" delta");
     let end = put_next_int(out, end, base);
@@ -83,13 +83,13 @@ fn put_delta(out: &mut [u8], at: usize, base: i32, delta: &[i32], ints: usize) -
     put_ints(out, end, delta, ints)
 }
 
-// The refusal of a table that clashes with its base, and the key.
+// Writes the refusal of a table that clashes with its base, and the key.
 fn put_differing(out: &mut [u8], at: usize, key: i32) -> usize {
     let end = put_refusal(out, at, Error::DeltaDifferingSizes);
     put_next_int(out, end, key)
 }
 
-// What a table that is added comes to.
+// Writes the result of adding a table.
 fn put_added(out: &mut [u8], at: usize, answer: Added, delta: &[i32]) -> usize {
     match answer {
         Added::Delta { base, ints } => put_delta(out, at, base, delta, ints),
@@ -98,7 +98,7 @@ fn put_added(out: &mut [u8], at: usize, answer: Added, delta: &[i32]) -> usize {
     }
 }
 
-// The tick of a table that was taken.
+// Writes the tick of a table that was taken, or the refusal.
 fn put_taken(out: &mut [u8], at: usize, answer: Taken) -> usize {
     match answer {
         Taken::Tick(tick) => {
@@ -109,7 +109,7 @@ fn put_taken(out: &mut [u8], at: usize, answer: Taken) -> usize {
     }
 }
 
-// Whether a base tick was set.
+// Writes whether a base tick was set.
 fn put_set(out: &mut [u8], at: usize, answer: Set) -> usize {
     match answer {
         Set::Done => put(out, at, b" done"),
@@ -117,20 +117,20 @@ fn put_set(out: &mut [u8], at: usize, answer: Set) -> usize {
     }
 }
 
-// The answer of a line that is no case.
+// Answers a line that is no case.
 fn odd(s: Storage, out: &mut [u8]) -> Answered {
     let end = put_odd(out);
     Answered { storage: s, end }
 }
 
-// A store that was left by a call which only changes it.
+// Answers a call that only changes the store.
 fn done(s: Storage, out: &mut [u8]) -> Answered {
     let end = put_head(out, Warnings::none(), s);
     let end = put(out, end, b" done");
     Answered { storage: s, end }
 }
 
-// The answer of b.
+// Answers b.
 fn set_delta_tick(s: Storage, line: &[u8], area: &mut [i32], out: &mut [u8]) -> Answered {
     let tick = replay_text::int(word(line, 1));
     let set = s.set_delta_tick(tick, area);
@@ -141,7 +141,7 @@ fn set_delta_tick(s: Storage, line: &[u8], area: &mut [i32], out: &mut [u8]) -> 
     Answered { storage: left, end }
 }
 
-// A table added, with a delta area.
+// Adds a table, with a delta area.
 fn add(
     s: Storage,
     tick: i32,
@@ -158,7 +158,7 @@ fn add(
     Answered { storage: left, end }
 }
 
-// A table added, with a delta area of so many ints.
+// Adds a table, with a delta area of so many ints.
 fn add_room(
     s: Storage,
     tick: i32,
@@ -174,7 +174,7 @@ fn add_room(
     add(s, tick, table, &mut delta[..room], area, out)
 }
 
-// The answer of s.
+// Answers s.
 fn add_snap(s: Storage, line: &[u8], area: &mut [i32], out: &mut [u8]) -> Answered {
     let mut given = [0i32; 128];
     let count = replay_text::ints(line, &mut given);
@@ -186,7 +186,7 @@ fn add_snap(s: Storage, line: &[u8], area: &mut [i32], out: &mut [u8]) -> Answer
     add_room(s, tick, &given[2..count], room, area, out)
 }
 
-// A delta taken.
+// Takes a delta.
 fn take(s: Storage, m: Numbers, delta: &[i32], area: &mut [i32], out: &mut [u8]) -> Answered {
     let mut scratch = [77i32; 16384];
     let taking = s.add_delta(m.has_crc, m.crc, m.base, m.tick, delta, area, &mut scratch);
@@ -197,7 +197,7 @@ fn take(s: Storage, m: Numbers, delta: &[i32], area: &mut [i32], out: &mut [u8])
     Answered { storage: left, end }
 }
 
-// The answer of d.
+// Answers d.
 fn add_delta(s: Storage, line: &[u8], area: &mut [i32], out: &mut [u8]) -> Answered {
     let mut given = [0i32; 128];
     let count = replay_text::ints(line, &mut given);
@@ -213,13 +213,13 @@ fn add_delta(s: Storage, line: &[u8], area: &mut [i32], out: &mut [u8]) -> Answe
     take(s, m, &given[4..count], area, out)
 }
 
-// A tick and a table.
+// Writes a tick and a table.
 fn put_table(out: &mut [u8], tick: i32, table: &[i32]) -> usize {
     let end = put_int(out, 0, tick);
     put_ints(out, end, table, table.len())
 }
 
-// The answer of l.
+// Answers l.
 fn look(s: Storage, line: &[u8], area: &[i32], out: &mut [u8]) -> Answered {
     let i = replay_text::number(word(line, 1));
     let tick = s.snap_tick(area, i);
@@ -231,7 +231,7 @@ fn look(s: Storage, line: &[u8], area: &[i32], out: &mut [u8]) -> Answered {
     Answered { storage: s, end }
 }
 
-// What the call of a line comes to.
+// Handles the call of a line.
 fn call(s: Storage, line: &[u8], area: &mut [i32], out: &mut [u8]) -> Answered {
     if line.len() == 0 {
         return odd(s, out);
@@ -255,13 +255,13 @@ fn is_new(line: &[u8]) -> bool {
     line[0] == b'n'
 }
 
-// A new store in an area that is emptied.
+// A new store in an area, which is emptied.
 fn fresh(area: &mut [i32], out: &mut [u8]) -> Answered {
     let s = Storage::new();
     done(s.reset(area), out)
 }
 
-// The call of a line on the first ints of an area.
+// Handles the call of a line on the first ints of an area.
 fn on_area(state: State, line: &[u8], area: &mut [i32], out: &mut [u8]) -> Answered {
     let room = state.room;
     if area.len() < room {
@@ -278,7 +278,7 @@ fn room_after(room: usize, line: &[u8]) -> usize {
     room
 }
 
-// The answer of a line.
+// Answers a line.
 fn answer(state: State, line: &[u8], area: &mut [i32], out: &mut [u8]) -> Answered {
     if is_new(line) {
         return fresh(area, out);
@@ -286,7 +286,7 @@ fn answer(state: State, line: &[u8], area: &mut [i32], out: &mut [u8]) -> Answer
     on_area(state, line, area, out)
 }
 
-// Writes the answer of a line; the store afterwards.
+// Writes the answer for a line; returns the store afterwards.
 fn step(state: State, line: &[u8], area: &mut [i32]) -> State {
     let mut out = [0u8; 2048];
     let room = room_after(state.room, line);
@@ -311,7 +311,7 @@ fn replay(cases: &[u8], area: &mut [i32]) {
     }
 }
 
-// Reads all cases, and answers them.
+// Reads all cases and answers them.
 fn main() {
     let mut cases = io::large_buffer();
     let len = io::read_full(STDIN_FILENO, &mut cases);

@@ -1,4 +1,4 @@
-// Replays recorded cases on tables: each line of the standard input is a case, and gets one line of answer.
+// Replays recorded cases on tables: each line of standard input is a case and gets one line of answer.
 //     i ROOM INT..               a table of ints is read into ROOM ints: COUNT EXCESS INT.., or refused NUMBER EXCESS
 //     b ROOM HEX                 a packed table is read: COUNT OVERLONG PADDING EXCESS INT.., or refused NUMBER and the three counts
 //     w INT..                    an area is packed: LEN HEX, or refused NUMBER
@@ -25,7 +25,7 @@ use replay_text::put_odd;
 use replay_text::put_refused;
 use replay_text::word;
 
-// How many ints a table takes, or the refusal.
+// Writes how many ints a table takes, or the refusal.
 fn put_count(out: &mut [u8], answer: Stored) -> usize {
     match answer {
         Stored::Ints(count) => put_number(out, 0, count),
@@ -33,7 +33,7 @@ fn put_count(out: &mut [u8], answer: Stored) -> usize {
     }
 }
 
-// How many ints a table takes; none where it is refused.
+// How many ints a table takes; none if it is refused.
 fn count_or_none(answer: Stored) -> usize {
     match answer {
         Stored::Ints(count) => count,
@@ -46,7 +46,7 @@ fn id(text: &[u8]) -> u16 {
     (replay_text::number(text) % 65536) as u16
 }
 
-// The answer of i ROOM INT..
+// Answers i ROOM INT..
 fn ints_case(line: &[u8], out: &mut [u8]) -> usize {
     let mut given = [0i32; 128];
     let mut area = [77i32; 64];
@@ -61,7 +61,7 @@ fn ints_case(line: &[u8], out: &mut [u8]) -> usize {
     read_ints(&given[1..count], &mut area[..room], out)
 }
 
-// The answer of i ROOM INT.., with the ints and an area of ROOM ints.
+// Answers i ROOM INT.., with the ints and an area of ROOM ints.
 fn read_ints(src: &[i32], area: &mut [i32], out: &mut [u8]) -> usize {
     let read = raw_snap::read_from_ints(src, area);
     let answer = read.answer;
@@ -71,7 +71,7 @@ fn read_ints(src: &[i32], area: &mut [i32], out: &mut [u8]) -> usize {
     put_ints(out, end, area, count_or_none(answer))
 }
 
-// The answer of b ROOM HEX.
+// Answers b ROOM HEX.
 fn bytes_case(line: &[u8], out: &mut [u8]) -> usize {
     let mut src = [0u8; 128];
     let mut area = [77i32; 64];
@@ -83,7 +83,7 @@ fn bytes_case(line: &[u8], out: &mut [u8]) -> usize {
     read_bytes(&src[..len], &mut area[..room], out)
 }
 
-// The answer of b ROOM HEX, with the bytes and an area of ROOM ints.
+// Answers b ROOM HEX, with the bytes and an area of ROOM ints.
 fn read_bytes(src: &[u8], area: &mut [i32], out: &mut [u8]) -> usize {
     let mut scratch = [77i32; 16384];
     let read = raw_snap::read(src, area, &mut scratch);
@@ -93,14 +93,14 @@ fn read_bytes(src: &[u8], area: &mut [i32], out: &mut [u8]) -> usize {
     put_ints(out, end, area, count_or_none(answer))
 }
 
-// The counts of the warnings that come with reading a packed table.
+// Writes the counts of the warnings that come with reading a packed table.
 fn put_warnings(out: &mut [u8], at: usize, w: Warnings) -> usize {
     let end = put_next(out, at, w.overlong_int_encoding);
     let end = put_next(out, end, w.non_zero_int_padding);
     put_next(out, end, w.excess_snap_data)
 }
 
-// The answer of w INT..
+// Answers w INT..
 fn write_case(line: &[u8], out: &mut [u8]) -> usize {
     let mut area = [0i32; 128];
     let count = replay_text::ints(line, &mut area);
@@ -109,7 +109,7 @@ fn write_case(line: &[u8], out: &mut [u8]) -> usize {
     put_written(out, &bytes, answer)
 }
 
-// How many bytes were written, and these; or the refusal.
+// Writes how many bytes were written, and the bytes; or the refusal.
 fn put_written(out: &mut [u8], bytes: &[u8], answer: IntWrite) -> usize {
     match answer {
         IntWrite::Next(len) => {
@@ -120,14 +120,14 @@ fn put_written(out: &mut [u8], bytes: &[u8], answer: IntWrite) -> usize {
     }
 }
 
-// The answer of q INT..
+// Answers q INT..
 fn walk_case(line: &[u8], out: &mut [u8]) -> usize {
     let mut area = [0i32; 128];
     let count = replay_text::ints(line, &mut area);
     put_table(out, &area[..count])
 }
 
-// The count of a table's items, their sum and keys; or the refusal.
+// Writes the count of a table's items, their sum and keys; or the refusal.
 fn put_table(out: &mut [u8], area: &[i32]) -> usize {
     let answer = raw_snap::num_items(area);
     match answer {
@@ -140,7 +140,7 @@ fn put_table(out: &mut [u8], area: &[i32]) -> usize {
     }
 }
 
-// A space and the sum of a table's data.
+// Writes a space and the sum of a table's data.
 fn put_sum(out: &mut [u8], at: usize, area: &[i32]) -> usize {
     let Checksum::Sum(sum) = raw_snap::crc(area) else {
         return at;
@@ -149,7 +149,7 @@ fn put_sum(out: &mut [u8], at: usize, area: &[i32]) -> usize {
     put_int(out, end, sum)
 }
 
-// A space and the key of the i-th item of the walk; nothing past its end.
+// Writes a space and the key of the i-th item of the walk; nothing past its end.
 fn put_key(out: &mut [u8], at: usize, area: &[i32], i: usize) -> usize {
     let Walked::Key(key) = raw_snap::walk_key(area, i) else {
         return at;
@@ -158,7 +158,7 @@ fn put_key(out: &mut [u8], at: usize, area: &[i32], i: usize) -> usize {
     put_int(out, end, key)
 }
 
-// The keys of a walk. It goes on past the end, where none may come.
+// Writes the keys of a walk. It goes on past the end, where there must be none.
 fn put_keys(out: &mut [u8], at: usize, area: &[i32]) -> usize {
     let mut end = at;
     let mut i: usize = 0;
@@ -169,7 +169,7 @@ fn put_keys(out: &mut [u8], at: usize, area: &[i32]) -> usize {
     end
 }
 
-// The answer of l TYPE ID INT..
+// Answers l TYPE ID INT..
 fn find_case(line: &[u8], out: &mut [u8]) -> usize {
     let mut given = [0i32; 128];
     let count = replay_text::ints(line, &mut given);
@@ -179,7 +179,7 @@ fn find_case(line: &[u8], out: &mut [u8]) -> usize {
     put_found(out, &given[2..count], id(word(line, 1)), id(word(line, 2)))
 }
 
-// The data of an item of an area, or that there is none, or the refusal.
+// Writes the data of an item of an area, or that there is none, or the refusal.
 fn put_found(out: &mut [u8], area: &[i32], raw_type_id: u16, id: u16) -> usize {
     let answer = raw_snap::has_item(area, raw_type_id, id);
     match answer {
@@ -193,7 +193,7 @@ fn put_found(out: &mut [u8], area: &[i32], raw_type_id: u16, id: u16) -> usize {
     }
 }
 
-// The answer of a TYPE ID LEN INT.. INT..
+// Answers a TYPE ID LEN INT.. INT..
 fn add_case(line: &[u8], out: &mut [u8]) -> usize {
     let mut given = [0i32; 128];
     let count = replay_text::ints(line, &mut given);
@@ -209,7 +209,7 @@ fn add_case(line: &[u8], out: &mut [u8]) -> usize {
     add_into(line, &given[3..from], &mut area[from..count], out)
 }
 
-// The answer of a TYPE ID LEN INT.. INT.., with the item's data and the area.
+// Answers a TYPE ID LEN INT.. INT.., with the item's data and the area.
 fn add_into(line: &[u8], data: &[i32], area: &mut [i32], out: &mut [u8]) -> usize {
     let raw_type_id = id(word(line, 1));
     let answer = raw_snap::raw_builder::add_item(area, raw_type_id, id(word(line, 2)), data);
@@ -217,7 +217,7 @@ fn add_into(line: &[u8], data: &[i32], area: &mut [i32], out: &mut [u8]) -> usiz
     put_ints(out, end, area, area.len())
 }
 
-// The answer of a line, at the front of out; where it ends.
+// Answers a line at the front of out; returns where the answer ends.
 fn answer(line: &[u8], out: &mut [u8]) -> usize {
     if line.len() == 0 {
         return put_odd(out);
@@ -251,7 +251,7 @@ fn replay(cases: &[u8]) {
     }
 }
 
-// Reads all cases, and answers them.
+// Reads all cases and answers them.
 fn main() {
     let mut cases = io::large_buffer();
     let len = io::read_full(STDIN_FILENO, &mut cases);

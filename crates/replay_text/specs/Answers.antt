@@ -1,4 +1,4 @@
--- What stands in many answers. Assumes nothing.
+-- Text that many answers share. Assumes nothing.
 use mathlib.Core.List.{List, [], _∷_}
 use Prim.Native.Nat.{ℕ}
 use Rattle.replay_text.specs.Numbers.{decimal, hex}
@@ -11,10 +11,10 @@ next n = 32 ∷ decimal n
 abbrev pub bytes : List ℕ → List ℕ
 bytes l = 32 ∷ hex l
 
--- of a call that is refused: the word "refused", a space and the number
+-- for a call that is refused: the word "refused", a space and the number
 abbrev pub refused : ℕ → List ℕ
 refused n = 114 ∷ 101 ∷ 102 ∷ 117 ∷ 115 ∷ 101 ∷ 100 ∷ next n
 
--- of a line that is no case: the word "odd"
+-- for a line that is no case: the word "odd"
 abbrev pub odd : List ℕ
 odd = 111 ∷ 100 ∷ 100 ∷ []

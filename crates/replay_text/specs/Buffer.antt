@@ -1,4 +1,4 @@
--- A buffer that a text is put into, and an area that ints are put into. Assumes nothing.
+-- A buffer that receives text, and an area that receives ints. Assumes nothing.
 use mathlib.Core.Path.{_≡_}
 use mathlib.Core.Bool.{cond}
 use mathlib.Core.List.{List, [], _∷_}
@@ -7,12 +7,12 @@ use lib.Dec.{ltb}
 use lib.IntN.{ℤ}
 use lib.ListN.{length, set, take}
 
--- a buffer, and the place after what was put into it
+-- a buffer, and the place after what was written
 pub record Put : Type 0 where
   pub next : ℕ
   pub out : List ℕ
 
--- one more byte; a full buffer stays as it is
+-- one more byte; a full buffer is unchanged
 unfoldable pub putByte : ℕ → Put → Put
 putByte b p =
     cond (ltb (p .next) (length (p .out)))
@@ -24,12 +24,12 @@ abbrev pub puts : List ℕ → Put → Put
 puts [] p = p
 puts (b ∷ text) p = puts text (putByte b p)
 
--- an area of ints, and the place after what was put into it
+-- an area of ints, and the place after what was written
 pub record PutInts : Type 0 where
   pub next : ℕ
   pub out : List ℤ
 
--- one more int; a full area stays as it is
+-- one more int; a full area is unchanged
 unfoldable pub putValue : ℤ → PutInts → PutInts
 putValue x p =
     cond (ltb (p .next) (length (p .out)))

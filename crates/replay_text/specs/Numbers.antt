@@ -12,7 +12,7 @@ use Rattle.replay_text.specs.Words.{until}
 abbrev pub digit : ℕ → ℕ
 digit b = cond (ltb b 97) (b % 16) ((b % 16 + 9) % 16)
 
--- the digits of v, and then these; of very many the first ones are lost
+-- the digits of v followed by these; if there are too many, the first ones are lost
 abbrev pub numberAfter : ℕ → List ℕ → ℕ
 numberAfter v [] = v
 numberAfter v (b ∷ text) = numberAfter (v % 10 ^ 18 * 10 + digit b) text
@@ -21,7 +21,7 @@ numberAfter v (b ∷ text) = numberAfter (v % 10 ^ 18 * 10 + digit b) text
 abbrev pub number : List ℕ → ℕ
 number text = numberAfter 0 text
 
--- the int with these decimal digits; a minus may stand before them
+-- the int with these decimal digits, after an optional minus
 unfoldable pub int : List ℕ → ℤ
 int [] = pos 0
 int (b ∷ text) =
@@ -29,12 +29,12 @@ int (b ∷ text) =
     (wrappingSub (pos 0) (fromBits (number text % 2 ^ 32)))
     (fromBits (number (b ∷ text) % 2 ^ 32))
 
--- the ints of the words of a line, without the first: a space stands before each
+-- the ints of the words of a line, without the first word: a space is before each
 abbrev pub ints : List ℕ → List ℤ
 ints [] = []
 ints (b ∷ line) = cond (eqb b 32) (int (until 32 line) ∷ ints line) (ints line)
 
--- the bytes of these hexadecimal digits; a lone one gives none
+-- the bytes of these hexadecimal digits; a single one gives none
 abbrev pub bytes : List ℕ → List ℕ
 bytes [] = []
 bytes (a ∷ []) = []
@@ -64,7 +64,7 @@ abbrev pub hexDigits : List ℕ → List ℕ
 hexDigits [] = []
 hexDigits (b ∷ text) = glyph (b / 16) ∷ glyph (b % 16) ∷ hexDigits text
 
--- bytes; a minus where there are none
+-- bytes; a minus if there are none
 abbrev pub hex : List ℕ → List ℕ
 hex [] = 45 ∷ []
 hex (b ∷ text) = hexDigits (b ∷ text)

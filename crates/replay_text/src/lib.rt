@@ -1,4 +1,4 @@
-// The text of replayed cases: words of a line are read, and answers are put into a buffer.
+// The text of replayed cases: reading words of a line, and writing answers into a buffer.
 ghost use mathlib.Core.Path.{_≡_};
 ghost use Prim.Native.Nat.{_≤_, _<_};
 ghost use lib.ListN.{length, take};
@@ -11,7 +11,7 @@ ghost use Rattle.replay_text.specs.Answers as Answers;
 ghost use Rattle.format.specs.Numbers.{number};
 use format::Error;
 
-// How many bytes stand before the first b, or in all.
+// How many bytes are before the first b, or in all if there is none.
 fn count_until(src: &[u8], b: u8) -> usize
     ensures { λ r. ⌜ (r ≡ length (Words.until b (now (src .entry)))) × (r ≤ length (now (src .entry))) ⌝ }
 {
@@ -44,7 +44,7 @@ fn after(src: &[u8], b: u8) -> &[u8]
     &src[n..]
 }
 
-// The word of a line with this number, from 0 on; one space parts two words.
+// The word of a line with this number, from 0 on; one space separates two words.
 pub fn word(line: &[u8], number: usize) -> &[u8]
     ensures { λ r. ⌜ now r ≡ Words.word number (now (line .entry)) ⌝ }
 {
@@ -74,7 +74,7 @@ pub fn number(text: &[u8]) -> usize
     value
 }
 
-// The int with these decimal digits; a minus may stand before them.
+// The int with these decimal digits, after an optional minus.
 pub fn int(text: &[u8]) -> i32
     ensures { λ r. ⌜ r ≡ Numbers.int (now (text .entry)) ⌝ }
 {
@@ -89,7 +89,7 @@ pub fn int(text: &[u8]) -> i32
     ints::from_bits(size as u32)
 }
 
-// An int in an area, at a place; the place after it. A full area stays as it is.
+// Writes an int into an area at a place; returns the place after it. A full area is unchanged.
 fn put_value(out: &mut [i32], at: usize, value: i32) -> usize
     ensures { λ r. ⌜ putValue value (record { next = at; out = now (out .entry) }) ≡ record { next = r; out = now (out .exit) } ⌝ }
     ensures { λ r. ⌜ CountsInts r (now (out .exit)) ⌝ }
@@ -101,7 +101,7 @@ fn put_value(out: &mut [i32], at: usize, value: i32) -> usize
     out.len()
 }
 
-// The ints of a line's words, without the first, in the front of out; how many there are.
+// Writes the ints of a line's words, without the first, to the front of out; returns how many there are.
 pub fn ints(line: &[u8], out: &mut [i32]) -> usize
     ensures { λ r. ⌜ putValues (Numbers.ints (now (line .entry))) (record { next = 0; out = now (out .entry) }) ≡ record { next = r; out = now (out .exit) } ⌝ }
     ensures { λ r. ⌜ CountsInts r (now (out .exit)) ⌝ }
@@ -119,7 +119,7 @@ pub fn ints(line: &[u8], out: &mut [i32]) -> usize
     next
 }
 
-// The bytes of these hexadecimal digits, in the front of out; how many there are.
+// Writes the bytes of these hexadecimal digits to the front of out; returns how many there are.
 pub fn bytes(text: &[u8], out: &mut [u8]) -> usize
     ensures { λ r. ⌜ puts (Numbers.bytes (now (text .entry))) (record { next = 0; out = now (out .entry) }) ≡ record { next = r; out = now (out .exit) } ⌝ }
     ensures { λ r. ⌜ Counts r (now (out .exit)) ⌝ }
@@ -133,7 +133,7 @@ pub fn bytes(text: &[u8], out: &mut [u8]) -> usize
     next
 }
 
-// A byte in a buffer, at a place; the place after it. A full buffer stays as it is.
+// Writes a byte into a buffer at a place; returns the place after it. A full buffer is unchanged.
 pub fn put_byte(out: &mut [u8], at: usize, b: u8) -> usize
     ensures { λ r. ⌜ putByte b (record { next = at; out = now (out .entry) }) ≡ record { next = r; out = now (out .exit) } ⌝ }
     ensures { λ r. ⌜ Counts r (now (out .exit)) ⌝ }
@@ -145,7 +145,7 @@ pub fn put_byte(out: &mut [u8], at: usize, b: u8) -> usize
     out.len()
 }
 
-// A text in a buffer, at a place; the place after it.
+// Writes a text into a buffer at a place; returns the place after it.
 pub fn put(out: &mut [u8], at: usize, text: &[u8]) -> usize
     ensures { λ r. ⌜ puts (now (text .entry)) (record { next = at; out = now (out .entry) }) ≡ record { next = r; out = now (out .exit) } ⌝ }
 {
@@ -158,7 +158,7 @@ pub fn put(out: &mut [u8], at: usize, text: &[u8]) -> usize
     next
 }
 
-// A number in a buffer, at a place; the place after it.
+// Writes a number into a buffer at a place; returns the place after it.
 pub fn put_number(out: &mut [u8], at: usize, n: usize) -> usize
     ensures { λ r. ⌜ puts (Numbers.decimal n) (record { next = at; out = now (out .entry) }) ≡ record { next = r; out = now (out .exit) } ⌝ }
 {
@@ -167,7 +167,7 @@ pub fn put_number(out: &mut [u8], at: usize, n: usize) -> usize
     put(out, at, &text[..k])
 }
 
-// An int in a buffer, at a place; the place after it.
+// Writes an int into a buffer at a place; returns the place after it.
 pub fn put_int(out: &mut [u8], at: usize, int: i32) -> usize
     ensures { λ r. ⌜ puts (Numbers.signed int) (record { next = at; out = now (out .entry) }) ≡ record { next = r; out = now (out .exit) } ⌝ }
 {
@@ -178,7 +178,7 @@ pub fn put_int(out: &mut [u8], at: usize, int: i32) -> usize
     put_number(out, at, int as usize)
 }
 
-// The first ints of an area in a buffer, a space before each; the place after them.
+// Writes the first ints of an area into a buffer, a space before each; returns the place after them.
 pub fn put_ints(out: &mut [u8], at: usize, area: &[i32], count: usize) -> usize
     ensures { λ r. ⌜ puts (Numbers.list (take count (now (area .entry)))) (record { next = at; out = now (out .entry) }) ≡ record { next = r; out = now (out .exit) } ⌝ }
 {
@@ -203,7 +203,7 @@ fn glyph(d: u8) -> u8
     if d < 10 { b'0' + d } else { b'a' - 10 + d }
 }
 
-// Bytes in a buffer, as hexadecimal digits, or a minus where there are none; the place after them.
+// Writes bytes into a buffer as hexadecimal digits, or a minus if there are none; returns the place after them.
 pub fn put_hex(out: &mut [u8], at: usize, bytes: &[u8]) -> usize
     ensures { λ r. ⌜ puts (Numbers.hex (now (bytes .entry))) (record { next = at; out = now (out .entry) }) ≡ record { next = r; out = now (out .exit) } ⌝ }
 {
@@ -221,7 +221,7 @@ pub fn put_hex(out: &mut [u8], at: usize, bytes: &[u8]) -> usize
     next
 }
 
-// A space and the first bytes of an area in a buffer, as put_hex puts them; the place after them.
+// Writes a space and the first bytes of an area into a buffer, as put_hex does; returns the place after them.
 pub fn put_bytes(out: &mut [u8], at: usize, area: &[u8], count: usize) -> usize
     ensures { λ r. ⌜ puts (Answers.bytes (take count (now (area .entry)))) (record { next = at; out = now (out .entry) }) ≡ record { next = r; out = now (out .exit) } ⌝ }
 {
@@ -232,7 +232,7 @@ pub fn put_bytes(out: &mut [u8], at: usize, area: &[u8], count: usize) -> usize
     put_hex(out, next, &area[..count])
 }
 
-// A space and a number in a buffer, at a place; the place after them.
+// Writes a space and a number into a buffer at a place; returns the place after them.
 pub fn put_next(out: &mut [u8], at: usize, n: usize) -> usize
     ensures { λ r. ⌜ puts (Answers.next n) (record { next = at; out = now (out .entry) }) ≡ record { next = r; out = now (out .exit) } ⌝ }
 {
@@ -240,7 +240,7 @@ pub fn put_next(out: &mut [u8], at: usize, n: usize) -> usize
     put_number(out, next, n)
 }
 
-// The answer of a call that is refused, at the front of a buffer; the place after it.
+// Writes the answer for a refused call at the front of a buffer; returns the place after it.
 pub fn put_refused(out: &mut [u8], e: Error) -> usize
     ensures { λ r. ⌜ puts (Answers.refused (number e)) (record { next = 0; out = now (out .entry) }) ≡ record { next = r; out = now (out .exit) } ⌝ }
 {
@@ -248,7 +248,7 @@ pub fn put_refused(out: &mut [u8], e: Error) -> usize
     put_next(out, next, format::error_number(e) as usize)
 }
 
-// The answer of a line that is no case, at the front of a buffer; the place after it.
+// Writes the answer for a line that is no case at the front of a buffer; returns the place after it.
 pub fn put_odd(out: &mut [u8]) -> usize
     ensures { λ r. ⌜ puts Answers.odd (record { next = 0; out = now (out .entry) }) ≡ record { next = r; out = now (out .exit) } ⌝ }
 {

@@ -19,7 +19,7 @@ use Rattle.snap.specs.declared.RawTypeId.the-variants as raw
 use Rattle.snap.specs.declared.TypeFound.{TypeFound}
 use Rattle.snap.specs.declared.TypeFound.the-variants as found
 
--- the type that a call is given
+-- the type that the caller passes
 abbrev pub typeOf : TypeId → Types.TypeId
 typeOf (type.Ordinal n) = Types.Ordinal n
 typeOf (type.Uuid a b c d) = Types.Uuid (a ∷ b ∷ c ∷ d ∷ [])

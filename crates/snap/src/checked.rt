@@ -1,4 +1,4 @@
-// The steps of reading a table with types and of applying a delta, and types of a table in form.
+// The steps of reading a table with types and of applying a delta, and the types of a table in form.
 ghost use mathlib.Core.Path.{_≡_};
 ghost use mathlib.Core.List.{_∷_, []};
 ghost use Prim.Native.Nat.{_<_};
@@ -46,13 +46,13 @@ use typed_applying::checked::apply_typed;
 use types::checked::Types;
 use types::checked::judge;
 
-// What the items of a table come to, and how many kinds have more than four ints.
+// The result of placing the items of a table, and how many kinds have more than four ints.
 pub struct Placing {
     pub answer: Stored,
     pub kinds: usize,
 }
 
-// A table of n items that take len ints, with sound types, into the front of out: how many ints; or why it is refused.
+// Writes a table of n items that take len ints, with sound types, into the front of out; returns the number of ints, or why it is refused.
 pub fn place_typed(src: &[i32], n: usize, len: usize, out: &mut [i32]) -> Placing
     requires { ⌜ Ints (now src) n len ⌝ }
     ensures { λ r. ⌜ storedTable (now (out .entry)) (typedItems (now (src .entry)) n) ≡ record { answer = storedWith (r .answer) (uuidExcess (r .kinds)); out = now (out .exit) } ⌝ }
@@ -88,14 +88,14 @@ pub fn place_typed(src: &[i32], n: usize, len: usize, out: &mut [i32]) -> Placin
     }
 }
 
-// What reading a table with types comes to, whether ints were left over, and how many kinds have more than four ints.
+// The result of reading a table with types, whether ints were left over, and how many kinds have more than four ints.
 pub struct Found {
     pub answer: Stored,
     pub excess: bool,
     pub kinds: usize,
 }
 
-// A table of ints with sound types, into the front of out.
+// Reads a table from ints, with sound types, into the front of out.
 pub fn read_typed(src: &[i32], out: &mut [i32]) -> Found
     ensures { λ r. ⌜ storedTable (now (out .entry)) (typedTable (now (src .entry))) ≡ record { answer = storedWith (r .answer) (plus (excess (r .excess)) (uuidExcess (r .kinds))); out = now (out .exit) } ⌝ }
 {
@@ -119,7 +119,7 @@ pub fn read_typed(src: &[i32], out: &mut [i32]) -> Found
     }
 }
 
-// The warnings of reading a table: the packer's two kinds, of a cut integer and ints left over, and of kinds.
+// The warnings of reading a table: the packer's two kinds, and those for a cut integer, for ints left over, and for kinds.
 pub fn warnings(overlong: usize, padding: usize, cut: bool, more: bool, kinds: usize) -> Warnings
     ensures { λ r. ⌜ counts r ≡ plus (packed overlong padding) (plus (excess cut) (plus (excess more) (uuidExcess kinds))) ⌝ }
 {
@@ -140,7 +140,7 @@ pub fn warnings(overlong: usize, padding: usize, cut: bool, more: bool, kinds: u
     }
 }
 
-// A table of ints with sound types, into the front of out, where scratch has so many entries.
+// Reads a table from ints, with sound types, into the front of out; scratch has so many entries.
 pub fn read_ints(src: &[i32], out: &mut [i32], scratch: usize) -> Reading
     ensures { λ r. ⌜ typedReadFromIntsCall (now (src .entry)) (now (out .entry)) scratch ≡ record { answer = storedWith (r .answer) (counts (r .warnings)); out = now (out .exit) } ⌝ }
 {
@@ -158,7 +158,7 @@ pub fn read_ints(src: &[i32], out: &mut [i32], scratch: usize) -> Reading
     }
 }
 
-// A packed table with sound types, into the front of out. What scratch then holds is of no account.
+// Reads a packed table with sound types into the front of out. Leaves scratch in any state.
 pub fn read_packed(src: &[u8], out: &mut [i32], scratch: &mut [i32]) -> Reading
     ensures { λ r. ⌜ typedReadCall (now (src .entry)) (now (out .entry)) (length (now (scratch .entry))) ≡ record { answer = storedWith (r .answer) (counts (r .warnings)); out = now (out .exit) } ⌝ }
 {
@@ -201,7 +201,7 @@ pub fn applied_warnings(unknown_delete: bool, long: usize) -> Warnings
     }
 }
 
-// What a delta made at the front of an area, into the front of out.
+// Stores the table that a delta made at the front of an area into the front of out.
 pub fn store_made(made: Typed, area: &[i32], out: &mut [i32]) -> Reading
     requires { ⌜ Stands (now area) (made .table) ⌝ }
     ensures { λ r. ⌜ storedTable (now (out .entry)) (Applying.typedTable (items (now (area .entry))) made) ≡ record { answer = storedWith (r .answer) (counts (r .warnings)); out = now (out .exit) } ⌝ }
@@ -220,7 +220,7 @@ pub fn store_made(made: Typed, area: &[i32], out: &mut [i32]) -> Reading
     }
 }
 
-// The table that a delta makes of its base, with sound types, into the front of out. What scratch then holds is of no account.
+// Applies a delta to its base, with sound types, into the front of out. Leaves scratch in any state.
 pub fn apply_delta(base: &[i32], delta: &[i32], out: &mut [i32], scratch: &mut [i32]) -> Reading
     ensures { λ r. ⌜ typedReadWithDeltaCall (now (base .entry)) (now (delta .entry)) (now (out .entry)) (length (now (scratch .entry))) ≡ record { answer = storedWith (r .answer) (counts (r .warnings)); out = now (out .exit) } ⌝ }
 {
@@ -238,7 +238,7 @@ pub fn apply_delta(base: &[i32], delta: &[i32], out: &mut [i32], scratch: &mut [
     }
 }
 
-// Whether the first four ints of some data are these.
+// Whether these are the first four ints of some data.
 pub fn names(data: &[i32], a: i32, b: i32, c: i32, d: i32) -> bool
     ensures { λ r. ⌜ r ≡ sameInts (take 4 (now («data» .entry))) (a ∷ b ∷ c ∷ d ∷ []) ⌝ }
 {
@@ -257,7 +257,7 @@ pub fn names(data: &[i32], a: i32, b: i32, c: i32, d: i32) -> bool
     data[3] == d
 }
 
-// Whether item i of n is of type 0 and names a kind.
+// Whether item i of n is of type 0 and names this kind.
 pub fn names_kind(area: &[i32], n: usize, i: usize, a: i32, b: i32, c: i32, d: i32) -> bool
     requires { ⌜ Held (now area) n × (i < n) ⌝ }
     ensures { λ r. ⌜ r ≡ namesKind (a ∷ b ∷ c ∷ d ∷ []) (itemAt (now (area .entry)) i) ⌝ }
@@ -268,7 +268,7 @@ pub fn names_kind(area: &[i32], n: usize, i: usize, a: i32, b: i32, c: i32, d: i
     names(data_at(area, n, i), a, b, c, d)
 }
 
-// The number of a kind among the n items; 65,536 where no item names it.
+// The number of a kind among the n items; 65,536 if no item names it.
 pub fn kind_number(area: &[i32], n: usize, a: i32, b: i32, c: i32, d: i32) -> usize
     requires { ⌜ Held (now area) n ⌝ }
     ensures { λ r. ⌜ kindNumber (a ∷ b ∷ c ∷ d ∷ []) (items (now (area .entry))) ≡ numberIn r ⌝ }
@@ -283,7 +283,7 @@ pub fn kind_number(area: &[i32], n: usize, a: i32, b: i32, c: i32, d: i32) -> us
     65536
 }
 
-// The raw type of a type, in a table of n items.
+// The raw type of a type in a table of n items.
 pub fn raw_of(area: &[i32], n: usize, type_id: TypeId) -> RawTypeId
     requires { ⌜ Held (now area) n ⌝ }
     ensures { λ r. ⌜ rawTypeIn (items (now (area .entry))) (typeOf «type_id») ≡ rawType r ⌝ }
@@ -308,7 +308,7 @@ pub fn raw_of(area: &[i32], n: usize, type_id: TypeId) -> RawTypeId
     }
 }
 
-// The type of a raw type, in a table of n items.
+// The type of a raw type in a table of n items.
 pub fn type_of(area: &[i32], n: usize, raw_type_id: u16) -> TypeFound
     requires { ⌜ Held (now area) n ⌝ }
     ensures { λ r. ⌜ return (typeId (items (now (area .entry))) «raw_type_id») ≡ typeFound r ⌝ }

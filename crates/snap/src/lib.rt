@@ -17,7 +17,7 @@ use table::checked::form;
 
 pub mod checked;
 
-// A type: a number, or a kind, whose 16 bytes are four ints, each with its highest byte first.
+// A type: a number, or a kind, whose 16 bytes are four big-endian ints.
 pub enum TypeId {
     Ordinal(u16),
     Uuid(i32, i32, i32, i32),
@@ -38,8 +38,8 @@ pub enum TypeFound {
     Refused(Error),
 }
 
-// A table of ints with sound types, into the front of out: how many ints it takes there. Scratch has 16,384 entries or more; it is zeros
-// afterwards. A refused call leaves out as it was.
+// Reads a table from ints, with sound types, into the front of out; returns how many ints it takes there. Scratch needs at least 16,384 entries;
+// it is all zeros afterwards. A refused call leaves out unchanged.
 pub fn read_from_ints(src: &[i32], out: &mut [i32], scratch: &mut [i32]) -> Reading
     ensures { λ r. ⌜ (typedReadFromIntsCall (now (src .entry)) (now (out .entry)) (length (now (scratch .entry))) ≡ record { answer = storedWith (r .answer) (counts (r .warnings)); out = now (out .exit) }) × (now (scratch .exit) ≡ cleared (now (scratch .entry))) ⌝ }
 {
@@ -48,7 +48,7 @@ pub fn read_from_ints(src: &[i32], out: &mut [i32], scratch: &mut [i32]) -> Read
     read
 }
 
-// A packed table with sound types, into the front of out. Scratch has 16,384 entries or more, and one for each byte; it is zeros afterwards.
+// Reads a packed table with sound types into the front of out. Scratch needs at least 16,384 entries and one for each byte; it is all zeros afterwards.
 pub fn read(src: &[u8], out: &mut [i32], scratch: &mut [i32]) -> Reading
     ensures { λ r. ⌜ (typedReadCall (now (src .entry)) (now (out .entry)) (length (now (scratch .entry))) ≡ record { answer = storedWith (r .answer) (counts (r .warnings)); out = now (out .exit) }) × (now (scratch .exit) ≡ cleared (now (scratch .entry))) ⌝ }
 {
@@ -57,8 +57,8 @@ pub fn read(src: &[u8], out: &mut [i32], scratch: &mut [i32]) -> Reading
     read
 }
 
-// The table that a delta makes of its base, with sound types, into the front of out: how many ints it takes there. Scratch has 16,384 entries
-// or more; it is zeros afterwards. A refused call leaves out as it was.
+// Applies a delta to its base, with sound types, into the front of out; returns how many ints the table takes there. Scratch needs at least
+// 16,384 entries; it is all zeros afterwards. A refused call leaves out unchanged.
 pub fn read_with_delta(base: &[i32], delta: &[i32], out: &mut [i32], scratch: &mut [i32]) -> Reading
     ensures { λ r. ⌜ (typedReadWithDeltaCall (now (base .entry)) (now (delta .entry)) (now (out .entry)) (length (now (scratch .entry))) ≡ record { answer = storedWith (r .answer) (counts (r .warnings)); out = now (out .exit) }) × (now (scratch .exit) ≡ cleared (now (scratch .entry))) ⌝ }
 {
@@ -102,7 +102,7 @@ pub fn has_item(area: &[i32], type_id: TypeId, id: u16) -> Has
     }
 }
 
-// The data of an item, as a part of the area; the empty part where there is none.
+// The data of an item, as a part of the area; empty if there is no such item.
 pub fn item(area: &[i32], type_id: TypeId, id: u16) -> &[i32]
     ensures { λ r. ⌜ now r ≡ typedItemCall (now (area .entry)) (typeOf «type_id») id ⌝ }
 {

@@ -1,4 +1,4 @@
--- What the answers of `storage` mean: document 01's number and values of each case. Assumes nothing.
+-- What the answers of `storage` mean: the refusal's number and the values of each case. Assumes nothing.
 use mathlib.Core.Path.{_≡_}
 use mathlib.Core.List.{List}
 use mathlib.Core.Option.{Option, some, none}
@@ -32,17 +32,17 @@ heldTick (heldAt.Refused e) = refuse (number e)
 
 -- ---- a base tick
 
--- an answer with the counts beside it
+-- an answer together with its warning counts
 abbrev pub setWith : Set → Counts → Outcome (Unit {0})
 setWith set.Done w = ok tt w
 setWith (set.Refused e) w = err (number e) w
 
--- what the call comes to, with the area afterwards
+-- the result of the call, with the area afterwards
 abbrev pub settings : Setting → List ℤ → Calls.StoreStep (Unit {0})
 settings r area =
     record { answer = setWith (r .answer) (counts (r .warnings)); store = storeOf (r .storage); area = area }
 
--- ---- a table that is added
+-- ---- adding a table
 
 -- the answer
 abbrev pub addedIn : Added → Outcome Calls.Added
@@ -50,7 +50,7 @@ addedIn (added.Delta base ints) = return (record { base = base; ints = ints })
 addedIn (added.DifferingSizes k) = refuse deltaDifferingSizes
 addedIn (added.Refused e) = refuse (number e)
 
--- what the call comes to, with both areas afterwards
+-- the result of the call, with both areas afterwards
 abbrev pub addings : Adding → List ℤ → List ℤ → Calls.AddStep
 addings r area delta =
     record { answer = addedIn (r .answer); store = storeOf (r .storage); area = area; delta = delta }
@@ -63,7 +63,7 @@ pub record Clash (s : Store.Store) (area : List ℤ) (at : ℤ) (table : List �
   pub new-is : tableOf table ≡ some new
   pub differing : Differing (Store.chosenBase (storage .deltaTick) (record { tick = at; snap = new }) (storage .snaps) .snap) new k
 
--- the key that is named differs; 10 comes with a key
+-- the key that is returned differs in length; 10 always comes with a key
 abbrev pub Clashing : Store.Store → List ℤ → ℤ → List ℤ → Added → Type 0
 Clashing s area at table (added.Delta base ints) = Unit {0}
 Clashing s area at table (added.DifferingSizes k) = Clash s area at table (bits k)

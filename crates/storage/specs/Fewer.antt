@@ -1,4 +1,4 @@
--- Tables that are left where older ones are dropped are no more than all. Assumes nothing.
+-- Dropping older tables leaves no more tables than before. Assumes nothing.
 use mathlib.Core.Bool.{Bool, true, false, cond}
 use mathlib.Core.List.{List, [], _∷_}
 use Prim.Native.Nat.{_≤_}
@@ -18,7 +18,7 @@ fewer tick (x ∷ l) = by (signedLess (x .tick) tick) (fewer tick l)
     by true h = omega arith
     by false h = omega arith
 
--- nor are those that are left
+-- the same for those that are left for a base
 pub few-for : (tick : ℤ) (l : List Store.StoredSnap) (b : Bool) → length (cond b l (Store.dropOlder tick l)) ≤ length l
 few-for tick l true = omega arith
 few-for tick l false = fewer tick l

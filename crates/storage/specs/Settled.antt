@@ -1,4 +1,4 @@
--- What a store holds tells every field of it. Assumes nothing.
+-- What a store holds determines every field of it. Assumes nothing.
 use mathlib.Core.Path.{_≡_, ap}
 use Rattle.definitions.specs.Storage as Store
 use Rattle.format.specs.Ticks.{tick-settled}

@@ -20,16 +20,16 @@ ackOf s = tickOf (s .«ack_tick»)
 abbrev pub deltaOf : Storage → Option ℤ
 deltaOf s = tickOf (s .«delta_tick»)
 
--- what stands beside the area
+-- what is held beside the area
 abbrev pub storeOf : Storage → Store.Store
 storeOf s = record { count = s .count; ackTick = ackOf s; deltaTick = deltaOf s }
 
--- what the test of a store's form answers
+-- the answer of a store's form check
 abbrev pub storageForm : Option Store.Storage → StoreForm
 storageForm (some h) = form.Tables (length (Store.storeInts (h .snaps)))
 storageForm none = form.Bad
 
--- what a store that was tested holds
+-- what a store holds whose form was checked
 abbrev pub holdsIn : Store.Store → List ℤ → Store.Storage
 holdsIn s a = record { snaps = snapsIn (s .count) a; ackTick = s .ackTick; deltaTick = s .deltaTick }
 

@@ -1,4 +1,4 @@
--- What the steps of adding a table come to. Assumes nothing.
+-- The results of the steps of adding a table. Assumes nothing.
 use mathlib.Core.Bool.{Bool, cond, _&&_}
 use mathlib.Core.List.{List, _∷_}
 use Prim.Native.Nat.{ℕ, _+_}
@@ -15,7 +15,7 @@ use Rattle.delta_making.specs.declared.Made.the-variants as made
 use Rattle.storage.specs.declared.Added.{Added}
 use Rattle.storage.specs.declared.Added.the-variants as added
 
--- ints laid over the front of an area where they fit and there is room for what they go with
+-- ints written over the front of an area, if they fit and there is room for the table that they belong to
 unfoldable pub making : Bool → List ℤ → Outcome (List ℤ) → Wrote ℕ ℤ
 making room out (ok xs w) =
     cond (room && leb (length xs) (length out))
@@ -29,19 +29,19 @@ addedOf base (made.Ints n) = added.Delta base n
 addedOf base (made.DifferingSizes k) = added.DifferingSizes k
 addedOf base (made.Refused e) = added.Refused e
 
--- the store then
+-- the store afterwards
 abbrev pub storeAfter : Store.Store → Made → Store.Store
 storeAfter s (made.Ints n) = record { count = s .count + 1; ackTick = s .ackTick; deltaTick = s .deltaTick }
 storeAfter s (made.DifferingSizes k) = s
 storeAfter s (made.Refused e) = s
 
--- and its area
+-- its area afterwards
 abbrev pub areaAfter : List ℤ → List Store.StoredSnap → Store.StoredSnap → Made → List ℤ
 areaAfter a l x (made.Ints n) = Store.storeArea (length a) (x ∷ l)
 areaAfter a l x (made.DifferingSizes k) = a
 areaAfter a l x (made.Refused e) = a
 
--- a table that is added to what a store holds, with the areas of the store and of the delta
+-- adding a table to what a store holds, with the areas of the store and of the delta
 unfoldable pub addingTo : Store.Storage → Store.StoredSnap → List ℤ → List ℤ → Calls.AddStep
 addingTo h x area delta =
     Calls.addStep (Calls.laidOut area (Store.addSnap (length area) (length delta) x h))

@@ -1,4 +1,4 @@
--- What the steps of taking a delta come to. Assumes nothing.
+-- The results of the steps of taking a delta. Assumes nothing.
 use mathlib.Core.Path.{_≡_}
 use mathlib.Core.Bool.{cond}
 use mathlib.Core.List.{List, []}
@@ -27,12 +27,12 @@ use Rattle.storage.specs.declared.checked.Sent.{Sent}
 abbrev pub sumOf : Sent → Option ℤ
 sumOf m = cond (m .«has_crc») (some (m .crc)) none
 
--- an answer with the counts beside it
+-- an answer together with its warning counts
 abbrev pub takenWith : Taken → Counts → Outcome ℤ
 takenWith (taken.Tick t) w = ok t w
 takenWith (taken.Refused e) w = err (number e) w
 
--- what the call comes to, with the area afterwards
+-- the result of the call, with the area afterwards
 abbrev pub takings : Taking → List ℤ → Calls.StoreStep ℤ
 takings r area =
     record { answer = takenWith (r .answer) (counts (r .warnings)); store = storeOf (r .storage); area = area }
@@ -45,18 +45,18 @@ refusing n s area = record { answer = refuse n; store = s; area = area }
 abbrev pub baseIn : ℤ → List Store.StoredSnap → Option Table
 baseIn tick l = cond (Store.isNegative tick) (some []) (Store.oldestAt tick l)
 
--- what is left where older tables were dropped
+-- what is left after older tables were dropped
 pub record DropsFor (a : List ℤ) (l : List Store.StoredSnap) (tick : ℤ) (r : Left) (out : List ℤ) : Type 0 where
   pub count-is : r .count ≡ length (Store.dropFor tick l)
   pub ints-is : r .ints ≡ length (Store.storeInts (Store.dropFor tick l))
   pub area-is : out ≡ Store.storeArea (length a) (Store.dropFor tick l)
 
--- a delta was applied to a base, and the table that it made stands at the front of an area
+-- a delta was applied to a base, and the table that it made is at the front of an area
 pub record Applies (o : Option Table) (d : Delta) (out : List ℤ) (r : Typed) : Type 0 where
   pub made : (b : Table) → o ≡ some b → appliedTyped b d ≡ typedTable (items out) r
   pub stands : Stands out (r .table)
 
--- what a delta made, behind the warning of its base
+-- what a delta made, after the warning for its base
 abbrev pub warned : ℤ → Outcome Table → Outcome Table
 warned base o = Store.warnWeird base >> o
 

@@ -1,4 +1,4 @@
--- The test of the form of a store and its area, and what it tells. Assumes nothing.
+-- The form check of a store and its area, and what it says. Assumes nothing.
 use mathlib.Core.Path.{_≡_, refl, sym, ap, _∙_}
 use mathlib.Core.Bool.{Bool, true, false}
 use mathlib.Core.List.{List}
@@ -16,7 +16,7 @@ use Rattle.store_area.specs.declared.checked.StoreForm.{StoreForm}
 use Rattle.store_area.specs.declared.checked.StoreForm.the-variants as form
 use Rattle.storage.specs.States.{storageForm, holdsIn, Holds}
 
--- ---- the test
+-- ---- the check
 
 module _ (s : Store.Store) (a : List ℤ) where
   -- too many tables
@@ -29,12 +29,12 @@ module _ (s : Store.Store) (a : List ℤ) where
   with-form none = refl
   with-form (some l) = refl
 
-  -- few enough: by the area
+  -- few enough: decided by the area
   pub by-area : (r : StoreForm) → s .count ≤ 100 → r ≡ formOf (Store.snapsOf (s .count) a) → r ≡ storageForm (Store.storageOf s a)
   unfolding Store.storageOf
   by-area r h e = e ∙ rw (le-leb (s .count) 100 h) (with-form (Store.snapsOf (s .count) a))
 
-  -- ---- what it tells
+  -- ---- what it says
 
   -- the store is not in form
   pub not-held : form.Bad ≡ storageForm (Store.storageOf s a) → Store.storageOf s a ≡ none
@@ -49,7 +49,7 @@ module _ (s : Store.Store) (a : List ℤ) where
     pub holds : Holds s a k
     pub is : Store.storageOf s a ≡ some (holdsIn s a)
 
-  -- of at most 100 tables
+  -- with at most 100 tables
   few-told : (k : ℕ) → s .count ≤ 100 → form.Tables k ≡ storageForm (Store.storageOf s a) → Told k
   unfolding Store.storageOf
   few-told k h e =
@@ -82,6 +82,6 @@ module _ (s : Store.Store) (a : List ℤ) (k : ℕ) (h : Holds s a k) where
       ap (λ (n : ℕ). Store.snapsOf n a) (sym (h .held .many)) ∙ stands-found a (snapsIn (s .count) a) (h .held .stands) in
       rw (le-leb (s .count) 100 (h .few), f)
 
-  -- what stands beside it
+  -- what is held beside the area
   pub beside-is : Store.beside (holdsIn s a) ≡ s
   beside-is = ap (λ (n : ℕ). record { count = n; ackTick = s .ackTick; deltaTick = s .deltaTick }) (h .held .many)

@@ -1,4 +1,4 @@
-// The steps of a call on a store: its form, the tables that are dropped, the base, and a table that is added.
+// The steps of a call on a store: checking its form, dropping tables, finding the base, and adding a table.
 ghost use mathlib.Core.Path.{_≡_};
 ghost use mathlib.Core.Bool.{true, false, not, _&&_};
 ghost use mathlib.Core.List.{List, [], _∷_};
@@ -53,7 +53,7 @@ use typed_applying::checked::Table;
 use typed_applying::checked::Typed;
 use typed_applying::checked::apply_typed;
 
-// The numbers of a delta: its sum, if any was sent, the tick of its base, and its own.
+// The numbers of a delta: its sum, if one was sent, the tick of its base, and its own tick.
 pub struct Sent {
     pub has_crc: bool,
     pub crc: i32,
@@ -61,7 +61,7 @@ pub struct Sent {
     pub tick: i32,
 }
 
-// Whether two ints are the same.
+// Whether two ints are equal.
 pub fn same(a: i32, b: i32) -> bool
     ensures { λ r. ⌜ r ≡ Receiver.same a b ⌝ }
 {
@@ -78,7 +78,7 @@ pub fn is_weird(tick: i32) -> bool
     false
 }
 
-// The warnings of a base tick.
+// The warnings for a base tick.
 pub fn weird(tick: i32) -> Warnings
     ensures { λ r. ⌜ Store.warnWeird tick ≡ ok tt (counts r) ⌝ }
 {
@@ -99,7 +99,7 @@ pub fn weird(tick: i32) -> Warnings
     }
 }
 
-// The form of a store and its area.
+// Checks the form of a store and its area.
 pub fn form(s: Storage, area: &[i32]) -> StoreForm
     ensures { λ r. ⌜ r ≡ storageForm (Store.storageOf (storeOf s) (now (area .entry))) ⌝ }
 {
@@ -146,7 +146,7 @@ pub fn with_count(s: Storage, count: usize) -> Storage
     }
 }
 
-// Whether the oldest of so many tables is of a tick.
+// Whether the oldest of so many tables has this tick.
 pub fn is_oldest(area: &[i32], count: usize, tick: i32) -> bool
     requires { ⌜ HeldStore (now area) count ⌝ }
     ensures { λ r. ⌜ r ≡ Store.isHeld (Store.oldestAt tick (snapsIn count (now (area .entry)))) ⌝ }
@@ -157,7 +157,7 @@ pub fn is_oldest(area: &[i32], count: usize, tick: i32) -> bool
     same(tick_at(area, count, count - 1), tick)
 }
 
-// Drops what is older than a tick that is not negative, and sets it as the base tick where its table is then the oldest.
+// Drops the tables older than a tick that is not negative, and sets it as the base tick if its table is then the oldest.
 pub fn set_base(s: Storage, tick: i32, area: &mut [i32], ints: usize) -> Setting
     requires { ⌜ Holds (storeOf s) (now area) ints × (Store.isNegative tick ≡ false) ⌝ }
     ensures { λ r. ⌜ laidOut (now (area .entry)) (Store.setDeltaTick tick (holdsIn (storeOf s) (now (area .entry)))) ≡ settings r (now (area .exit)) ⌝ }
@@ -177,7 +177,7 @@ pub fn set_base(s: Storage, tick: i32, area: &mut [i32], ints: usize) -> Setting
     }
 }
 
-// A call that adds nothing.
+// The refusal of a call that adds nothing.
 pub fn not_added(s: Storage, error: Error) -> Adding
     ensures { λ r. ⌜ (r .answer ≡ added.Refused error) × (storeOf (r .storage) ≡ storeOf s) ⌝ }
 {
@@ -187,7 +187,7 @@ pub fn not_added(s: Storage, error: Error) -> Adding
     }
 }
 
-// The delta from a base to a target of nt items, into the front of delta; where the store has no room for the target, it is judged alone.
+// Writes the delta from a base to a target of nt items into the front of delta; if the store has no room for the target, only judges it.
 pub fn make(base: &[i32], target: &[i32], nt: usize, room: bool, delta: &mut [i32]) -> Made
     requires { ⌜ Held (now base) (count (now base)) × Held (now target) nt ⌝ }
     ensures { λ r. ⌜ making room (now (delta .entry)) (createdInts (Tables.items (now (base .entry))) (Tables.items (now (target .entry)))) ≡ record { answer = madeInts r; out = now (delta .exit) } ⌝ }
@@ -204,7 +204,7 @@ pub fn make(base: &[i32], target: &[i32], nt: usize, room: bool, delta: &mut [i3
     }
 }
 
-// The delta of a table with nt items from its base: the oldest table, that one included, where a base tick is set, else the empty table.
+// Makes the delta of a table of nt items from its base: the oldest table, including the new one, if a base tick is set, else the empty table.
 pub fn make_delta(
     s: Storage,
     area: &[i32],
@@ -229,7 +229,7 @@ pub fn make_delta(
     make(base, table, nt, room, delta)
 }
 
-// The tick of that base, for a table of a tick; -1 is that of the empty table.
+// The tick of that base for a table with this tick; -1 for the empty table.
 pub fn base_tick(s: Storage, area: &[i32], tick: i32) -> i32
     requires { ⌜ HeldStore (now area) (s .count) ⌝ }
     ensures { λ r. ⌜ ((t : Tables.Table) → r ≡ Store.chosenBase (deltaOf s) (record { tick = tick; snap = t }) (snapsIn (s .count) (now (area .entry))) .tick) ⌝ }
@@ -244,7 +244,7 @@ pub fn base_tick(s: Storage, area: &[i32], tick: i32) -> i32
     tick_at(area, s.count, s.count - 1)
 }
 
-// The answer to a table that is added: its base and its delta's length, the key that clashes, or why it is refused.
+// The answer for an added table: its base and its delta's length, the key that clashes, or why it is refused.
 pub fn answer(base: i32, result: Made) -> Added
     ensures { λ r. ⌜ r ≡ addedOf base result ⌝ }
 {
@@ -255,7 +255,7 @@ pub fn answer(base: i32, result: Made) -> Added
     }
 }
 
-// A table is added.
+// Adds a table.
 pub fn store(
     s: Storage,
     answer: Added,
@@ -274,7 +274,7 @@ pub fn store(
     }
 }
 
-// A table whose delta was made is added; else nothing is.
+// Adds a table if its delta was made; else adds nothing.
 pub fn finish(
     s: Storage,
     base: i32,
@@ -316,7 +316,7 @@ pub fn add(
     finish(s, base, result, tick, &table[..size], area, ints)
 }
 
-// A delta that is refused before anything is counted.
+// The refusal of a delta before anything is counted.
 pub fn not_taken(s: Storage, error: Error) -> Taking
     ensures { λ r. ⌜ ((area : List ℤ) → refusing (number error) (storeOf s) area ≡ takings r area) ⌝ }
 {
@@ -327,7 +327,7 @@ pub fn not_taken(s: Storage, error: Error) -> Taking
     }
 }
 
-// Whether a tick is newer than the newest of so many tables, which is -1 where there are none.
+// Whether a tick is above that of the newest of so many tables, or above -1 if there are none.
 pub fn is_newer(area: &[i32], count: usize, tick: i32) -> bool
     requires { ⌜ HeldStore (now area) count ⌝ }
     ensures { λ r. ⌜ r ≡ signedLess (Store.newestTick (snapsIn count (now (area .entry)))) tick ⌝ }
@@ -338,7 +338,7 @@ pub fn is_newer(area: &[i32], count: usize, tick: i32) -> bool
     ints::signed_less(tick_at(area, count, 0), tick)
 }
 
-// Drops what is older than a base; a negative tick names the empty table, and drops nothing.
+// Drops the tables older than a base; a negative tick names the empty table and drops nothing.
 pub fn drop_for(area: &mut [i32], count: usize, ints: usize, tick: i32) -> Left
     requires { ⌜ HeldStore (now area) count × (ints ≡ length (Store.storeInts (snapsIn count (now area)))) ⌝ }
     ensures { λ r. ⌜ DropsFor (now (area .entry)) (snapsIn count (now (area .entry))) tick r (now (area .exit)) ⌝ }
@@ -360,7 +360,7 @@ pub fn has_base(area: &[i32], count: usize, tick: i32) -> bool
     is_oldest(area, count, tick)
 }
 
-// A delta applied to that base, into the front of scratch.
+// Applies a delta to that base, into the front of scratch.
 pub fn apply_on(
     area: &[i32],
     count: usize,
@@ -403,7 +403,7 @@ pub fn taken_warnings(tick: i32, made: Typed) -> Warnings
     }
 }
 
-// Whether a table of n items has the sum that was sent, if any was.
+// Whether a table of n items has the sum that was sent, if one was.
 pub fn sum_fits(m: Sent, table: &[i32], n: usize) -> bool
     requires { ⌜ Held (now table) n ⌝ }
     ensures { λ r. ⌜ r ≡ Store.sumFits (sumOf m) (Tables.items (now (table .entry))) ⌝ }
@@ -414,7 +414,7 @@ pub fn sum_fits(m: Sent, table: &[i32], n: usize) -> bool
     true
 }
 
-// How many of so many tables stay where one more comes.
+// How many of so many tables stay when one more is added.
 pub fn stay(count: usize) -> usize
     requires { ⌜ count ≤ 100 ⌝ }
     ensures { λ r. ⌜ (r ≤ count) × (r ≤ 99) × ((l : List Store.StoredSnap) → length l ≡ count → take r l ≡ take 99 l) ⌝ }
@@ -449,7 +449,7 @@ pub fn without_ack(s: Storage, count: usize) -> Storage
     }
 }
 
-// A table whose sum is right is held and acknowledged, where the area has room; the 101st pushes out the oldest.
+// Adds and acknowledges a table whose sum is right, if the area has room; the 101st pushes out the oldest.
 pub fn hold(
     s: Storage,
     tick: i32,
@@ -479,7 +479,7 @@ pub fn hold(
     }
 }
 
-// What a delta made, at the front of scratch, is held where nothing is wrong with it.
+// Adds the table that a delta made at the front of scratch, if nothing is wrong with it.
 pub fn hold_made(
     s: Storage,
     m: Sent,
@@ -512,7 +512,7 @@ pub fn hold_made(
     }
 }
 
-// A delta for a tick that is new: older tables are dropped, and the base must then be held.
+// Takes a delta for a new tick: drops older tables; the base must then be held.
 pub fn take_on(
     s: Storage,
     m: Sent,
@@ -546,7 +546,7 @@ pub fn take_on(
     hold_made(with_count(s, left.count), m, made, area, left.ints, scratch)
 }
 
-// A delta for a tick, where store and delta were judged. What scratch then holds is of no account.
+// Takes a delta for a tick, after store and delta were judged. Leaves scratch in any state.
 pub fn take_judged(
     s: Storage,
     m: Sent,
@@ -566,7 +566,7 @@ pub fn take_judged(
     take_on(s, m, delta, deleted, updated, area, ints, scratch)
 }
 
-// A delta for a tick. What scratch then holds is of no account.
+// Takes a delta for a tick. Leaves scratch in any state.
 pub fn take(s: Storage, m: Sent, delta: &[i32], area: &mut [i32], scratch: &mut [i32]) -> Taking
     ensures { λ r. ⌜ addDeltaCall (storeOf s) (now (area .entry)) (sumOf m) (m .«delta_tick») (m .tick) (now (delta .entry)) (length (now (scratch .entry))) ≡ takings r (now (area .exit)) ⌝ }
 {

@@ -20,7 +20,7 @@ use table::checked::TableForm;
 
 pub mod checked;
 
-// How many tables stand in a store's area, the tick acknowledged last and the tick of the base that is set, where there are any.
+// How many tables are in a store's area, the tick acknowledged last, if any, and the base tick that is set, if any.
 pub struct Storage {
     pub count: usize,
     pub ack_tick: OptionTick,
@@ -40,33 +40,33 @@ pub enum Set {
     Refused(Error),
 }
 
-// What setting a base tick comes to, with the warnings counted and the store afterwards.
+// The result of setting a base tick, with the warnings counted and the store afterwards.
 pub struct Setting {
     pub answer: Set,
     pub warnings: Warnings,
     pub storage: Storage,
 }
 
-// The base of an added table and how many ints its delta takes, a key whose two items differ in length, or why it is refused.
+// The base of an added table and how many ints its delta takes; or a key whose two items differ in length; or why it is refused.
 pub enum Added {
     Delta { base: i32, ints: usize },
     DifferingSizes(i32),
     Refused(Error),
 }
 
-// What adding a table comes to, and the store afterwards.
+// The result of adding a table, and the store afterwards.
 pub struct Adding {
     pub answer: Added,
     pub storage: Storage,
 }
 
-// The tick of a table that was taken, or why it is refused.
+// The tick of the table that a delta made, or why the delta is refused.
 pub enum Taken {
     Tick(i32),
     Refused(Error),
 }
 
-// What taking a delta comes to, with the warnings counted and the store afterwards.
+// The result of taking a delta, with the warnings counted and the store afterwards.
 pub struct Taking {
     pub answer: Taken,
     pub warnings: Warnings,
@@ -74,7 +74,7 @@ pub struct Taking {
 }
 
 impl Storage {
-    // How many tables a store holds at most.
+    // The most tables that a store holds.
     pub const MAX_STORED_SNAPSHOT: usize = 100;
 
     // A store without tables.
@@ -104,7 +104,7 @@ impl Storage {
         tick
     }
 
-    // The tick of the base that is set.
+    // The base tick that is set.
     pub fn delta_tick(self) -> OptionTick
         ensures { λ r. ⌜ tickOf r ≡ storeOf self .deltaTick ⌝ }
     {
@@ -125,7 +125,7 @@ impl Storage {
         HeldTick::End
     }
 
-    // The i-th table, the newest first, as a part of the area; the empty part where there is none.
+    // The i-th table, the newest first, as a part of the area; empty if there is none.
     pub fn snap(self, area: &[i32], i: usize) -> &[i32]
         ensures { λ r. ⌜ now r ≡ tableCall (storeOf self) (now (area .entry)) i ⌝ }
     {
@@ -138,7 +138,7 @@ impl Storage {
         &area[..0]
     }
 
-    // Sets the base of the tables that are added: older tables are dropped, and it must then be the oldest. A negative tick sets none.
+    // Sets the base of the tables that are added: drops older tables; the base must then be the oldest. A negative tick sets none.
     pub fn set_delta_tick(self, tick: i32, area: &mut [i32]) -> Setting
         ensures { λ r. ⌜ setDeltaTickCall (storeOf self) (now (area .entry)) tick ≡ settings r (now (area .exit)) ⌝ }
     {
@@ -159,8 +159,8 @@ impl Storage {
         checked::set_base(self, tick, area, ints)
     }
 
-    // Takes a delta for a tick and applies it to its base: older tables are dropped, and the base must then be the oldest.
-    // The table that it makes is held and acknowledged. Scratch has 16,384 entries or more, and is zeros afterwards.
+    // Takes a delta for a tick and applies it to its base: drops older tables; the base must then be the oldest.
+    // Adds and acknowledges the table that it makes. Scratch needs at least 16,384 entries; it is all zeros afterwards.
     pub fn add_delta(
         self,
         has_crc: bool,
@@ -184,8 +184,8 @@ impl Storage {
         taking
     }
 
-    // Adds a table, and makes its delta against the oldest table then held where a base tick is set, else against the empty table.
-    // Where two items of one key differ in length, such a key; a refused call leaves both areas as they were.
+    // Adds a table, and makes its delta: against the oldest table then held if a base tick is set, else against the empty table.
+    // If two items of one key differ in length, returns such a key. A refused call leaves both areas unchanged.
     pub fn add_snap(self, tick: i32, table: &[i32], delta: &mut [i32], area: &mut [i32]) -> Adding
         ensures { λ r. ⌜ addSnapCall (storeOf self) (now (area .entry)) tick (now (table .entry)) (now (delta .entry)) ≡ addings r (now (area .exit)) (now (delta .exit)) ⌝ }
         ensures { λ r. ⌜ Clashing (storeOf self) (now (area .entry)) tick (now (table .entry)) (r .answer) ⌝ }

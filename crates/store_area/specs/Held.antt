@@ -1,4 +1,4 @@
--- What is known of a store's area whose form was tested. Assumes nothing.
+-- What is known of a store's area whose form was checked. Assumes nothing.
 use mathlib.Core.Path.{_≡_}
 use mathlib.Core.List.{List, [], _∷_, _++_}
 use mathlib.Core.Option.{Option, some, none}
@@ -11,12 +11,12 @@ use Rattle.laws.specs.StoreForm.{Sounds}
 use Rattle.store_area.specs.declared.checked.StoreForm.{StoreForm}
 use Rattle.store_area.specs.declared.checked.StoreForm.the-variants as form
 
--- what the test of a form answers
+-- the answer of the form check
 abbrev pub formOf : Option (List StoredSnap) → StoreForm
 formOf (some l) = form.Tables (length (storeInts l))
 formOf none = form.Bad
 
--- the table that ints begin with, behind its tick and its int count
+-- the table that ints begin with, after its tick and its int count
 abbrev pub firstTable : List ℤ → Option Table
 firstTable [] = none
 firstTable (tick ∷ []) = none
@@ -44,7 +44,7 @@ noSnap = record { tick = negsuc 0; snap = [] }
 abbrev pub snapAt : List StoredSnap → ℕ → StoredSnap
 snapAt l i = getD l i noSnap
 
--- an area is what these tables are laid out as
+-- an area is these tables laid out
 pub record Stands (a : List ℤ) (l : List StoredSnap) : Type 0 where
   pub sounds : Sounds l
   pub room : length (storeInts l) ≤ length a
@@ -55,6 +55,6 @@ pub record HeldStore (a : List ℤ) (n : ℕ) : Type 0 where
   pub many : length (snapsIn n a) ≡ n
   pub stands : Stands a (snapsIn n a)
 
--- a tick, a table's int count and its ints, and two parts behind them
+-- a tick, a table's int count and its ints, and two parts after them
 abbrev pub laidFirst : ℤ → List ℤ → List ℤ → List ℤ → List ℤ
 laidFirst tick table moved rest = tick ∷ pos (length table) ∷ (table ++ (moved ++ rest))

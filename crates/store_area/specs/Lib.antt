@@ -1,4 +1,4 @@
--- What the functions of `store_area` are given and promise. Assumes nothing.
+-- What the functions of `store_area` require and promise. Assumes nothing.
 pub mod Held
 pub mod Tables
 pub mod Tested

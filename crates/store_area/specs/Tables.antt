@@ -1,4 +1,4 @@
--- Tables in a store's area: their places, and what the test of a form tells. Assumes nothing.
+-- Tables in a store's area: their places, and what the form check says. Assumes nothing.
 use mathlib.Core.Path.{_≡_, refl, sym, ap, _∙_, subst}
 use mathlib.Core.Bool.{Bool, true, false, cond}
 use mathlib.Core.List.{List, [], _∷_, _++_, append-assoc}
@@ -27,7 +27,7 @@ pub ints-cons : (x : StoredSnap) (l : List StoredSnap) → storeInts (x ∷ l) �
 unfolding storeInts
 ints-cons x l = refl
 
--- of no tables
+-- the ints of no tables
 pub ints-none : storeInts [] ≡ []
 unfolding storeInts
 ints-none = refl
@@ -48,7 +48,7 @@ sound-take l zero s = nothing
 sound-take [] (suc i) s = nothing
 sound-take (x ∷ l) (suc i) (more e s) = more e (sound-take l i s)
 
--- tables that are not older are sound where all are
+-- tables that are not older are sound if all are
 pub sound-older : (tick : ℤ) (l : List StoredSnap) → Sounds l → Sounds (dropOlder tick l)
 unfolding dropOlder
 sound-older tick [] s = nothing
@@ -58,7 +58,7 @@ sound-older tick (x ∷ l) (more e s) = by (signedLess (x .tick) tick) (sound-ol
     by true h = nothing
     by false h = more e h
 
--- and take no more ints
+-- they take no more ints
 pub older-within : (tick : ℤ) (l : List StoredSnap) → length (storeInts (dropOlder tick l)) ≤ length (storeInts l)
 unfolding dropOlder
 older-within tick [] = omega arith
@@ -70,7 +70,7 @@ older-within tick (x ∷ l) = by (signedLess (x .tick) tick) (older-within tick 
 
 -- ---- a table in its area
 
--- a table stands at a place
+-- a table is at a place
 pub record Entry (a : List ℤ) (p : ℕ) (x : StoredSnap) : Type 0 where
   pub tick-is : getD a p (pos 0) ≡ x .tick
   pub size-is : nat a (p + 1) ≡ length (written (x .snap))
@@ -102,7 +102,7 @@ abbrev pub placeOf : List StoredSnap → ℕ → ℕ
 placeOf l i = length (storeInts (take i l))
 
 module _ (a : List ℤ) (l : List StoredSnap) (h : Stands a l) where
-  -- the i-th table stands at its place
+  -- the i-th table is at its place
   pub entry-at : (i : ℕ) → i < length l → Entry a (placeOf l i) (snapAt l i)
   entry-at i k =
       let x = snapAt l i in
@@ -114,7 +114,7 @@ module _ (a : List ℤ) (l : List StoredSnap) (h : Stands a l) where
       entry x (storeInts (take i l)) (storeInts m ++ z) a (sound-at l i (h .sounds) k)
       (h .area-is ∙ (ap (λ (r : List ℤ). r ++ z) e ∙ simp append-assoc))
 
--- the next table begins behind a table
+-- the next table begins after a table
 pub next-place : (l : List StoredSnap) (i : ℕ) → i < length l → placeOf l (i + 1) ≡ placeOf l i + (2 + length (written (snapAt l i .snap)))
 next-place l i k =
     let x = snapAt l i in
@@ -122,11 +122,11 @@ next-place l i k =
     rw (e, ints-append (take i l) (x ∷ []))
     (omega (arith, length-append (storeInts (take i l)) (storeInts (x ∷ [])), length-cons x [], ap length ints-none))
 
--- behind all tables
+-- the place after all tables
 pub last-place : (l : List StoredSnap) → placeOf l (length l) ≡ length (storeInts l)
 last-place l = rw (take-length l)
 
--- the first tables, and those behind them
+-- the first tables, and those after them
 pub ints-split : (l : List StoredSnap) (i : ℕ) → storeInts l ≡ storeInts (take i l) ++ storeInts (drop i l)
 ints-split l i = ap storeInts (sym (take-append-drop i l)) ∙ ints-append (take i l) (drop i l)
 
@@ -136,7 +136,7 @@ place-within l i = omega (arith, ap length (ints-split l i), length-append (stor
 
 -- ---- areas that are laid out
 
--- an area that is laid out with sound tables is what they stand in
+-- an area laid out with sound tables holds them
 pub laid-stands : (n : ℕ) (l : List StoredSnap) → Sounds l → length (storeInts l) ≤ n → Stands (storeArea n l) l
 laid-stands n l s k =
     let e : length (storeArea n l) ≡ n = length-area n l k in
@@ -151,7 +151,7 @@ pub stands-in : (a : List ℤ) (l : List StoredSnap) (n : ℕ) → Stands a l �
 unfolding snapsIn
 stands-in a l n h e = rw (e, stands-found a l h)
 
--- and the area holds so many
+-- the area holds so many
 pub stands-held : (a : List ℤ) (l : List StoredSnap) (n : ℕ) → Stands a l → n ≡ length l → HeldStore a n
 stands-held a l n h e =
     let i = stands-in a l n h e in

@@ -1,4 +1,4 @@
--- What the test of a store's form tells. Assumes nothing.
+-- What the form check of a store says. Assumes nothing.
 use mathlib.Core.Path.{_≡_, refl, sym, ap, _∙_}
 use mathlib.Core.List.{List, _++_}
 use mathlib.Core.Option.{Option, some, none}
@@ -11,7 +11,7 @@ use Rattle.laws.specs.StoreForm.{snaps-laid, are-zeros}
 use Rattle.store_area.specs.Held.{formOf, snapsIn, Stands, HeldStore}
 use Rattle.store_area.specs.declared.checked.StoreForm.the-variants as form
 
--- tables that some ints hold stand in them
+-- tables that are found in some ints are laid out in them
 pub found-stands : (n : ℕ) (a : List ℤ) (l : List StoredSnap) → snapsOf n a ≡ some l → Stands a l
 found-stands n a l e =
     let k = snaps-laid n a l e in
@@ -23,13 +23,13 @@ found-stands n a l e =
       area-is = k .whole ∙ ap (λ (r : List ℤ). storeInts l ++ r) (are-zeros (k .rest) (k .zeros) ∙ ap (λ (i : ℕ). replicate i (pos 0)) d);
     }
 
--- what is known where tables are found
+-- what is known if tables are found
 pub record Found (n : ℕ) (a : List ℤ) (k : ℕ) : Type 0 where
   pub held : HeldStore a n
   pub snaps-are : snapsOf n a ≡ some (snapsIn n a)
   pub ints-are : k ≡ length (storeInts (snapsIn n a))
 
--- what an answer tells, by what is found
+-- what an answer says, by what is found
 abbrev Tells : ℕ → List ℤ → ℕ → Option (List StoredSnap) → Type 0
 Tells n a k o = snapsOf n a ≡ o → form.Tables k ≡ formOf o → Found n a k
 

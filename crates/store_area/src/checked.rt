@@ -1,4 +1,4 @@
-// Store areas: the test of their form, the tables in them, and how tables go and come.
+// Store areas: the check of their form, the tables in them, and how tables are dropped and added.
 ghost use mathlib.Core.Path.{_≡_};
 ghost use mathlib.Core.Bool.{_&&_};
 ghost use mathlib.Core.List.{_∷_};
@@ -10,7 +10,7 @@ ghost use Rattle.definitions.specs.Storage.{snapsOf, storeInts, storeArea, drop
 ghost use Rattle.store_area.specs.Held.{formOf, sizeOf, firstTable, snapsIn, snapAt, HeldStore, laidFirst};
 use table::checked::TableForm;
 
-// Whether an area holds tables and then zeros: how many ints the tables take.
+// Whether an area holds tables and then zeros, and how many ints the tables take.
 pub enum StoreForm {
     Tables(usize),
     Bad,
@@ -22,7 +22,7 @@ pub struct Left {
     pub ints: usize,
 }
 
-// How many ints the table at a place takes, where its tick, their count and the table itself stand there; else 0.
+// How many ints the table at a place takes, if its tick, its int count and the table itself are there; else 0.
 pub fn table_size(area: &[i32], p: usize) -> usize
     requires { ⌜ p ≤ length (now area) ⌝ }
     ensures { λ r. ⌜ r ≡ sizeOf (firstTable (drop p (now (area .entry)))) ⌝ }
@@ -44,7 +44,7 @@ pub fn table_size(area: &[i32], p: usize) -> usize
     0
 }
 
-// Whether a count is 0, and so were all before it.
+// Whether a count is 0 and all counts before it were.
 fn still_zero(all: bool, n: usize) -> bool
     ensures { λ r. ⌜ r ≡ (all && eqb n 0) ⌝ }
 {
@@ -54,7 +54,7 @@ fn still_zero(all: bool, n: usize) -> bool
     false
 }
 
-// Whether the ints from a place on are all 0. No turn leaves the loop, so that the compiler can take several at once.
+// Whether the ints from a place on are all 0. The loop has no early exit, so that the compiler can test several ints at once.
 pub fn zeros(area: &[i32], from: usize) -> bool
     ensures { λ r. ⌜ r ≡ allZero (drop from (now (area .entry))) ⌝ }
 {
@@ -67,7 +67,7 @@ pub fn zeros(area: &[i32], from: usize) -> bool
     all
 }
 
-// The form of an area with so many tables.
+// Checks the form of an area with so many tables.
 pub fn form(area: &[i32], count: usize) -> StoreForm
     ensures { λ r. ⌜ r ≡ formOf (snapsOf count (now (area .entry))) ⌝ }
 {
@@ -87,7 +87,7 @@ pub fn form(area: &[i32], count: usize) -> StoreForm
     StoreForm::Bad
 }
 
-// The place of the i-th of so many tables, the newest first, or that behind the last.
+// The place of the i-th of so many tables, the newest first, or the place after the last.
 pub fn place(area: &[i32], count: usize, i: usize) -> usize
     requires { ⌜ HeldStore (now area) count × (i ≤ count) ⌝ }
     ensures { λ r. ⌜ r ≡ length (storeInts (take i (snapsIn count (now (area .entry))))) ⌝ }
@@ -121,7 +121,7 @@ pub fn table_at(area: &[i32], count: usize, i: usize) -> &[i32]
     &area[from..from + size]
 }
 
-// How many tables stand before the first one that is older than a tick.
+// How many tables are before the first one that is older than a tick.
 pub fn count_newer(area: &[i32], count: usize, tick: i32) -> usize
     requires { ⌜ HeldStore (now area) count ⌝ }
     ensures { λ r. ⌜ (r ≤ count) × (dropOlder tick (snapsIn count (now (area .entry))) ≡ take r (snapsIn count (now (area .entry)))) ⌝ }
@@ -138,7 +138,7 @@ pub fn count_newer(area: &[i32], count: usize, tick: i32) -> usize
     i
 }
 
-// Leaves the first tables, zeros behind them: how many ints they take. All tables take so many.
+// Keeps the first tables and zeros the rest; returns how many ints they take. ints is how many all tables take.
 pub fn cut(area: &mut [i32], count: usize, ints: usize, left: usize) -> usize
     requires { ⌜ HeldStore (now area) count × (ints ≡ length (storeInts (snapsIn count (now area)))) × (left ≤ count) ⌝ }
     ensures { λ r. ⌜ (r ≡ length (storeInts (take left (snapsIn count (now (area .entry)))))) × (now (area .exit) ≡ storeArea (length (now (area .entry))) (take left (snapsIn count (now (area .entry))))) ⌝ }
@@ -148,7 +148,7 @@ pub fn cut(area: &mut [i32], count: usize, ints: usize, left: usize) -> usize
     from
 }
 
-// Drops the first table that is older than a tick, and all behind it.
+// Drops the first table that is older than a tick, and all after it.
 pub fn drop_older(area: &mut [i32], count: usize, ints: usize, tick: i32) -> Left
     requires { ⌜ HeldStore (now area) count × (ints ≡ length (storeInts (snapsIn count (now area)))) ⌝ }
     ensures { λ r. ⌜ (r .count ≡ length (dropOlder tick (snapsIn count (now (area .entry))))) × (r .ints ≡ length (storeInts (dropOlder tick (snapsIn count (now (area .entry)))))) × (now (area .exit) ≡ storeArea (length (now (area .entry))) (dropOlder tick (snapsIn count (now (area .entry))))) ⌝ }
@@ -161,7 +161,7 @@ pub fn drop_older(area: &mut [i32], count: usize, ints: usize, tick: i32) -> Lef
     }
 }
 
-// Moves the first ints of an area up as one block, and lays a tick, a table's int count and its ints before them.
+// Moves the first ints of an area up as one block, and writes a tick, a table's int count and its ints before them.
 pub fn lay_first(area: &mut [i32], ints: usize, tick: i32, table: &[i32])
     requires { ⌜ (ints + (length (now table) + 2) ≤ length (now area)) × (length (now table) < 2 ^ 31) ⌝ }
     ensures { λ _. ⌜ now (area .exit) ≡ laidFirst tick (now (table .entry)) (take ints (now (area .entry))) (drop (ints + (length (now (table .entry)) + 2)) (now (area .entry))) ⌝ }
@@ -172,7 +172,7 @@ pub fn lay_first(area: &mut [i32], ints: usize, tick: i32, table: &[i32])
     ints::copy_into(area, 2, table);
 }
 
-// A table more, the newest, which is the whole of its part. The tables held take so many ints.
+// Adds a table, which takes up its whole slice, as the newest. The tables held take so many ints.
 pub fn push(area: &mut [i32], count: usize, ints: usize, tick: i32, table: &[i32])
     requires { ⌜ HeldStore (now area) count × (ints ≡ length (storeInts (snapsIn count (now area))))
         × (ints + (length (now table) + 2) ≤ length (now area)) × (length (now table) ≤ 16384) ⌝ }

@@ -1,2 +1,2 @@
-// The areas of stores: what works on an area whose form was tested.
+// The areas of stores: functions on an area whose form was checked.
 pub mod checked;

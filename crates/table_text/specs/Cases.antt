@@ -1,4 +1,4 @@
--- Document 01's example of `tablelist`, proved of the definitions. Assumes nothing.
+-- The example of `tablelist` in docs/FORMAT.md, proved of the definitions. Assumes nothing.
 use mathlib.Core.Path.{_≡_, refl}
 use mathlib.Core.List.{[], _∷_}
 use Rattle.definitions.specs.Ints.{bits, fromBits, wrappingAdd}

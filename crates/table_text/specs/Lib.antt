@@ -1,3 +1,3 @@
--- The listing of a packed table, and document 01's case of it. Assumes nothing.
+-- The listing of a packed table, and the example of it in docs/FORMAT.md. Assumes nothing.
 pub mod Listing
 pub mod Cases

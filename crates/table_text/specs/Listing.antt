@@ -1,4 +1,4 @@
--- The text that `tablelist` writes, by document 01's paragraph on it. Assumes nothing.
+-- The text that `tablelist` writes, as docs/FORMAT.md describes it. Assumes nothing.
 use mathlib.Core.List.{List, [], _∷_, _++_}
 use Prim.Native.Nat.{ℕ, _/_, _%_}
 use lib.Dec.{leb}
@@ -15,7 +15,7 @@ use Rattle.replay_text.specs.Answers.{next, refused}
 abbrev pub ended : List ℕ → List ℕ
 ended text = text ++ 10 ∷ []
 
--- type, id and int count of an item, a space between two of them
+-- type, id and int count of an item, separated by spaces
 abbrev pub line : ℕ → ℕ → ℕ → List ℕ
 line type id count = ended (decimal type ++ next id ++ next count)
 
@@ -23,12 +23,12 @@ line type id count = ended (decimal type ++ next id ++ next count)
 unfoldable pub itemLine : Item → List ℕ
 itemLine x = line (x .key / 65536) (x .key % 65536) (length (x .values))
 
--- the lines of a table: one an item, in unsigned key order
+-- the lines of a table: one for each item, in unsigned key order
 unfoldable pub itemLines : Table → List ℕ
 itemLines [] = []
 itemLines (x ∷ t) = itemLine x ++ itemLines t
 
--- the words "items" and "sum", each with its number behind it
+-- the words "items" and "sum", each followed by its number
 unfoldable pub heading : ℕ → ℤ → List ℕ
 heading n sum = ended (105 ∷ 116 ∷ 101 ∷ 109 ∷ 115 ∷ next n ++ 32 ∷ 115 ∷ 117 ∷ 109 ∷ 32 ∷ signed sum)
 
@@ -36,7 +36,7 @@ heading n sum = ended (105 ∷ 116 ∷ 101 ∷ 109 ∷ 115 ∷ next n ++ 32 ∷ 
 unfoldable pub tableText : Table → List ℕ
 tableText t = heading (length t) (crc t) ++ itemLines t
 
--- the text of what reading comes to: the table's, or the refusal and its number
+-- the text of the result of reading: the table's, or the refusal and its number
 abbrev pub answerText : Outcome Table → List ℕ
 answerText (ok t w) = tableText t
 answerText (err n w) = ended (refused n)

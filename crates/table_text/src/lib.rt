@@ -20,7 +20,7 @@ use replay_text::put_number;
 use replay_text::put_refused;
 use table::checked::TableForm;
 
-// The line of a table, at the front of a buffer: how many items, and the sum of their ints.
+// Writes the line of a table at the front of a buffer: how many items, and the sum of their ints.
 fn put_heading(out: &mut [u8], items: usize, sum: i32) -> usize
     ensures { λ r. ⌜ puts (heading items sum) (record { next = 0; out = now (out .entry) }) ≡ record { next = r; out = now (out .exit) } ⌝ }
 {
@@ -31,7 +31,7 @@ fn put_heading(out: &mut [u8], items: usize, sum: i32) -> usize
     put_byte(out, end, b'\n')
 }
 
-// The line of an item: its type, its id, and how many ints it has.
+// Writes the line of an item: its type, its id, and how many ints it has.
 fn put_item(out: &mut [u8], at: usize, key: i32, count: usize) -> usize
     ensures { λ r. ⌜ puts (line (bits key / 65536) (bits key % 65536) count) (record { next = at; out = now (out .entry) }) ≡ record { next = r; out = now (out .exit) } ⌝ }
 {
@@ -43,7 +43,7 @@ fn put_item(out: &mut [u8], at: usize, key: i32, count: usize) -> usize
     put_byte(out, end, b'\n')
 }
 
-// The lines of the n items of a table, as they are written: in the order of keys read as unsigned.
+// Writes the lines of the n items of a table in their written order: unsigned key order.
 fn put_items(out: &mut [u8], at: usize, area: &[i32], n: usize) -> usize
     requires { ⌜ Held (now area) n ⌝ }
     ensures { λ r. ⌜ puts (itemLines (items (now (area .entry)))) (record { next = at; out = now (out .entry) }) ≡ record { next = r; out = now (out .exit) } ⌝ }
@@ -59,7 +59,7 @@ fn put_items(out: &mut [u8], at: usize, area: &[i32], n: usize) -> usize
     end
 }
 
-// The line of a refusal, at the front of a buffer.
+// Writes the line of a refusal at the front of a buffer.
 fn put_refusal(out: &mut [u8], e: Error) -> usize
     ensures { λ r. ⌜ puts (answerText (refuse (number e))) (record { next = 0; out = now (out .entry) }) ≡ record { next = r; out = now (out .exit) } ⌝ }
 {
@@ -67,7 +67,7 @@ fn put_refusal(out: &mut [u8], e: Error) -> usize
     put_byte(out, end, b'\n')
 }
 
-// The text of the table that an area holds, at the front of a buffer.
+// Writes the text of the table that an area holds at the front of a buffer.
 fn put_table(out: &mut [u8], area: &[i32]) -> usize
     ensures { λ r. ⌜ puts (answerText (held (now (area .entry)))) (record { next = 0; out = now (out .entry) }) ≡ record { next = r; out = now (out .exit) } ⌝ }
 {
@@ -78,7 +78,7 @@ fn put_table(out: &mut [u8], area: &[i32]) -> usize
     put_items(out, end, area, n)
 }
 
-// The lines for a packed table of at most 8,192 bytes, or for its refusal, at the front of out; where they end.
+// Writes the lines for a packed table of at most 8,192 bytes, or for its refusal, at the front of out; returns where they end.
 pub fn listing(src: &[u8], out: &mut [u8]) -> usize
     ensures { λ r. ⌜ puts (listingText (now (src .entry))) (record { next = 0; out = now (out .entry) }) ≡ record { next = r; out = now (out .exit) } ⌝ }
     ensures { λ r. ⌜ Counts r (now (out .exit)) ⌝ }

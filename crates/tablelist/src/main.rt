@@ -1,4 +1,4 @@
-// Lists the packed table on the standard input: its item count and sum, then type, id and int count of each item.
+// Lists the packed table on standard input: its item count and sum, then type, id and int count of each item.
 use libc::STDIN_FILENO;
 use libc::STDOUT_FILENO;
 

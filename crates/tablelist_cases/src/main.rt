@@ -1,4 +1,4 @@
-// Lists packed tables: each line of the standard input is one, as hexadecimal digits, and gets its listing.
+// Lists packed tables: each line of standard input is one, in hexadecimal digits, and gets its listing.
 use libc::STDIN_FILENO;
 use libc::STDOUT_FILENO;
 
@@ -21,7 +21,7 @@ fn replay(cases: &[u8]) {
     }
 }
 
-// Reads all cases, and answers them.
+// Reads all cases and answers them.
 fn main() {
     let mut cases = io::large_buffer();
     let len = io::read_full(STDIN_FILENO, &mut cases);

@@ -1,4 +1,4 @@
--- What the answers of `typed_applying` mean: document 01's number and values of each case. Assumes nothing.
+-- What the answers of `typed_applying` mean: the refusal's number and the values of each case. Assumes nothing.
 use mathlib.Core.Path.{_≡_}
 use mathlib.Core.Bool.{Bool, cond}
 use mathlib.Core.List.{List}
@@ -40,7 +40,7 @@ typedCounts unknown n =
       weirdNegativeDeltaTick = 0;
     }
 
--- an answer on a table, with the counts beside it
+-- an answer on a table, together with its warning counts
 abbrev pub tableWith : Tables.Table → Table → Counts → Outcome Tables.Table
 tableWith t (table.Made n k) w = ok t w
 tableWith t (table.Refused e) w = err (number e) w
@@ -49,7 +49,7 @@ tableWith t (table.Refused e) w = err (number e) w
 abbrev pub typedTable : Tables.Table → Typed → Outcome Tables.Table
 typedTable t r = tableWith t (r .table) (typedCounts (r .«unknown_delete») (r .excess))
 
--- where a table was made, the area begins with it
+-- if a table was made, the area begins with it
 abbrev pub Stands : List ℤ → Table → Type 0
 Stands a (table.Made n k) = tableForm.Table n k ≡ formOf (Tables.tableOf a)
 Stands a (table.Refused e) = Unit {0}

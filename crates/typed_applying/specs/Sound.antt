@@ -1,4 +1,4 @@
--- A delta in form makes a sound table of a sound base. Assumes nothing.
+-- A delta in form applied to a sound base makes a sound table. Assumes nothing.
 use mathlib.Core.Path.{_≡_, refl, sym, _∙_}
 use mathlib.Core.Bool.{Bool, true, false, cond}
 use mathlib.Core.List.{List, [], _∷_}
@@ -53,7 +53,7 @@ small-then : (j : Judging.Judged) (f : ℕ → ℕ → Judging.Judged) → Small
 small-then (Judging.bad r) f s h = tt
 small-then (Judging.good n w) f s h = h n w (s .0) (s .1)
 
--- and so do all
+-- so do all updates
 small-updates : (g : List ℕ) (b : Table) (us : List Item) (n w : ℕ) → n ≤ 1024 → w ≤ 16384 → Small (Judging.judgeUpdates g b us n w)
 unfolding Judging.judgeUpdates
 small-updates g b [] n w h k = (h, k)

@@ -1,4 +1,4 @@
-// The table that a delta makes of its base, with its types judged.
+// Applies a delta to its base and judges the types of the table.
 ghost use mathlib.Core.Path.{_≡_};
 ghost use mathlib.Core.List.{[]};
 ghost use Prim.Native.Nat.{_≤_};
@@ -31,7 +31,7 @@ pub struct Typed {
     pub excess: usize,
 }
 
-// The table of so many ints that an area begins with, judged by its types.
+// Judges the types of the table of so many ints that an area begins with.
 pub fn judge(area: &[i32], ints: usize, unknown_delete: bool) -> Typed
     requires { ⌜ tableForm.Table (count (now area)) ints ≡ formOf (tableOf (now area)) ⌝ }
     ensures { λ r. ⌜ (after (unknownCounts «unknown_delete») (typed (items (now (area .entry)))) ≡ typedTable (items (now (area .entry))) r) × Stands (now (area .entry)) (r .table) ⌝ }
@@ -54,7 +54,7 @@ pub fn judge(area: &[i32], ints: usize, unknown_delete: bool) -> Typed
     }
 }
 
-// A delta of so many deleted keys and updates applied to a base of nb items, into the front of out, and judged there.
+// Applies a delta of so many deleted keys and updates to a base of nb items, into the front of out, and judges the types there.
 pub fn apply_typed(
     base: &[i32],
     nb: usize,

@@ -1,2 +1,2 @@
-// Applying a delta to its base, where the result's types must be sound.
+// Applying a delta to its base; the types of the result must be sound.
 pub mod checked;

@@ -1,4 +1,4 @@
-//! Holds the port against the Rust: the same inputs to both, in one process.
+//! Compares the port with the Rust: the same inputs to both, in one process.
 //!
 //!     driver quick|full|bench|record [--seed N] [--part NAME] [--rounds N] [--into FOLDER]
 //!

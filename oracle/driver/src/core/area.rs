@@ -1,9 +1,9 @@
 //! Lent areas: filled with a known pattern, with guards on both sides, so
-//! that whatever was written can be told from what was left.
+//! that every entry that was written can be told from one that was not.
 
-/// What an area is made of: bytes or ints.
+/// The entries of an area: bytes or ints.
 pub trait Pattern: Copy + PartialEq + std::fmt::Debug {
-    /// What place `i` holds at first.
+    /// The initial value of place `i`.
     fn pattern(i: usize) -> Self;
 }
 
@@ -19,14 +19,14 @@ impl Pattern for i32 {
     }
 }
 
-/// What a lent number holds at first.
+/// The initial value of a lent number.
 pub const LEFT_INT: i32 = 0x5a17_c3e1;
 pub const LEFT_FLAG: u32 = 0xc35a_17e1;
 pub const LEFT_SIZE: usize = 0x5a17_c3e1_0f2d_b496;
 
 const GUARD: usize = 4;
 
-/// An area that is lent again and again.
+/// An area that is lent repeatedly.
 pub struct Area<T> {
     entries: Vec<T>,
     len: usize,
@@ -52,11 +52,11 @@ impl<T: Pattern> Area<T> {
         lent.copy_from_slice(content);
         lent
     }
-    /// The lent part, as it is now.
+    /// The lent part, in its current state.
     pub fn now(&self) -> &[T] {
         &self.entries[GUARD..GUARD + self.len]
     }
-    /// Whether `written` stands at place `at`, and all else is as it was.
+    /// Whether `written` is at place `at`, and everything else is unchanged.
     pub fn check(&self, at: usize, written: &[T]) -> Result<(), String> {
         let start = GUARD + at;
         for (i, &entry) in self.entries.iter().enumerate() {

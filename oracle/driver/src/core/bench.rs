@@ -47,8 +47,8 @@ impl Table {
     ) {
         self.race_least(LEAST, operation, size, rust, port);
     }
-    /// The same where a call takes long: once, and again while there is
-    /// patience.
+    /// The same for a slow call: once, and again while `PATIENCE`
+    /// lasts.
     pub fn race_slow(
         &mut self,
         operation: &str,
@@ -58,8 +58,8 @@ impl Table {
     ) {
         self.race_least(1, operation, size, rust, port);
     }
-    /// The same where each call changes what is held, and what comes before it
-    /// is not timed: of each side what is held, the step before, and the call.
+    /// The same if each call changes a state and is preceded by a step that is
+    /// not timed: for each side the state, that step, and the call.
     pub fn race_steps<R, P>(
         &mut self,
         operation: &str,

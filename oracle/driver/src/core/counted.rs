@@ -35,7 +35,7 @@ impl Counted {
             count: LEFT_SIZE,
         }
     }
-    /// As the safe calls answer it.
+    /// As the safe calls return it.
     pub fn answer(self) -> Result<usize, Refusal> {
         match self.number {
             0 => Ok(self.count),
@@ -44,12 +44,12 @@ impl Counted {
     }
 }
 
-/// Room for `needed` entries and `spare` more, or none where that is negative.
+/// Room for `needed` entries and `spare` more, or none if that is negative.
 pub fn room(needed: usize, spare: isize) -> usize {
     (needed as isize).saturating_add(spare).max(0) as usize
 }
 
-/// Whether what was lent as `name` is as it is to be.
+/// Whether the area lent as `name` is as expected.
 pub fn left(name: &str, how: Result<(), String>) -> Compared {
     how.map_err(|how| Shown::touched(name, how))
 }

@@ -2,7 +2,7 @@
 
 use super::random::Random;
 
-/// What a list is made of: bytes or ints.
+/// The entries of a list: bytes or ints.
 pub trait Entry: Copy {
     /// Any entry.
     fn any(random: &mut Random) -> Self;
@@ -37,7 +37,7 @@ impl Entry for i32 {
     }
 }
 
-/// Does one thing to `list`: an entry changed, inserted, removed, doubled or
+/// Makes one change to `list`: an entry changed, inserted, removed, doubled or
 /// swapped with another, a run doubled, or the end cut off.
 pub fn damage<T: Entry>(list: &mut Vec<T>, random: &mut Random) {
     if list.is_empty() {

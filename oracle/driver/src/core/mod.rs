@@ -1,4 +1,4 @@
-//! What all parts share.
+//! Code that all parts share.
 
 pub mod area;
 pub mod bench;

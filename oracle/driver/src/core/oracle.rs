@@ -1,4 +1,4 @@
-//! The Rust's warnings and errors in document 01's order and numbers.
+//! The Rust's warnings and errors in the order and numbers of docs/FORMAT.md.
 
 use cefdugar::Warnings;
 use libtw2_snapshot::format;

@@ -14,7 +14,7 @@ fn splitmix(state: &mut u64) -> u64 {
 }
 
 impl Random {
-    /// A generator of its own for each seed, name and round.
+    /// A separate generator for each seed, name and round.
     pub fn new(seed: u64, name: &str, round: u64) -> Random {
         let mut state = seed;
         for byte in name.bytes() {
@@ -45,7 +45,7 @@ impl Random {
     pub fn between(&mut self, first: usize, last: usize) -> usize {
         first + self.below(last - first + 1)
     }
-    /// True `part` times in `whole`.
+    /// True in `part` of `whole` cases.
     pub fn chance(&mut self, part: usize, whole: usize) -> bool {
         self.below(whole) < part
     }
@@ -55,7 +55,7 @@ impl Random {
     pub fn byte(&mut self) -> u8 {
         (self.bits() >> 56) as u8
     }
-    /// An int of any size in bits, small ones as often as great ones.
+    /// An int of any size in bits, small ones as often as large ones.
     pub fn int(&mut self) -> i32 {
         let bits = self.below(32) as u32;
         let digits = (self.bits() as u32) & ((1u32 << bits).wrapping_sub(1));

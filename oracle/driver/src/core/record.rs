@@ -1,4 +1,4 @@
-//! Recorded answers: one case a line, the questions in `stdin` and the
+//! Recorded answers: one case on each line, the questions in `stdin` and the
 //! answers in `stdout` of the program crate that replays them.
 
 use std::fs;
@@ -13,7 +13,7 @@ pub struct Record {
 }
 
 impl Record {
-    /// What a file may hold at most.
+    /// The most that a file may hold.
     const MOST: usize = 60_000;
 
     pub fn case(&mut self, question: &str, answer: &str) {

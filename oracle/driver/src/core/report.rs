@@ -1,23 +1,23 @@
-//! A run of a part: its inputs' seed, its length, its count of cases, and the
-//! first difference.
+//! A run of a part: the seed of its inputs, its length, its count of cases,
+//! and the first difference.
 
 use super::random::Random;
 use super::shrink;
 use super::shrink::Shrink;
 use super::text::thousands;
 
-/// What the two sides showed on the same input.
+/// What the two sides showed for the same input.
 #[derive(Clone, Debug)]
 pub struct Shown {
     pub oracle: String,
     pub port: String,
 }
 
-/// `Err` where the sides differ.
+/// `Err` if the sides differ.
 pub type Compared = Result<(), Shown>;
 
 impl Shown {
-    /// Compares what both sides show as a whole.
+    /// Compares all that both sides show.
     pub fn compare<T: PartialEq + std::fmt::Debug>(oracle: &T, port: &T) -> Compared {
         if oracle == port {
             Ok(())
@@ -28,7 +28,7 @@ impl Shown {
             })
         }
     }
-    /// Something that the port was to leave has changed.
+    /// Something that the port must leave unchanged has changed.
     pub fn touched(what: &str, how: String) -> Shown {
         Shown {
             oracle: format!("{what} otherwise left as it was"),
@@ -49,7 +49,7 @@ pub enum Length {
     Full,
 }
 
-/// After how many cases a full run says how far it is.
+/// After how many cases a full run prints its progress.
 const SAY_EVERY: u64 = 1_000_000_000;
 
 pub struct Run {
@@ -65,9 +65,9 @@ impl Run {
     pub fn random(&self, round: u64) -> Random {
         Random::new(self.seed, self.part, round)
     }
-    /// Counts a case. Where it differs, looks for the smallest input that
-    /// does: `input` makes the input, `compare` compares on any, `print`
-    /// prints one.
+    /// Counts a case. If it differs, searches the smallest input that
+    /// differs: `input` makes the input, `compare` compares on any input,
+    /// `print` prints one.
     pub fn case<I: Shrink>(
         &mut self,
         compared: Compared,

@@ -1,4 +1,4 @@
-//! Scratch: it is lent with any content, and is zeros afterwards.
+//! Scratch: it is lent with any content, and is all zeros afterwards.
 
 use super::area::LEFT_INT;
 use super::report::Compared;
@@ -14,7 +14,7 @@ impl Scratch {
         self.0.resize(len + 2, LEFT_INT);
         &mut self.0[1..=len]
     }
-    /// Whether all of it is zeros, and the guards are as they were.
+    /// Whether all of it is zeros, and the guards are unchanged.
     pub fn check(&self) -> Compared {
         let [first, lent @ .., last] = &self.0[..] else {
             unreachable!("there are two guards")

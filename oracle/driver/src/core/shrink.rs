@@ -9,7 +9,7 @@ pub trait Shrink: Clone {
     fn offer(&self, take: &mut dyn FnMut(Self) -> bool) -> bool;
 }
 
-/// How long is looked for a smaller one.
+/// How long a smaller input is searched.
 const PATIENCE: Duration = Duration::from_secs(30);
 
 /// The smallest input found that `differs`, with what it shows. `first` must
@@ -41,7 +41,7 @@ pub fn smallest<I: Shrink, D>(first: I, mut differs: impl FnMut(&I) -> Option<D>
 
 macro_rules! shrink_number {
     ($($number:ty),*) => {$(
-        /// Nearer to 0, and rather above it than below.
+        /// Nearer to 0, and preferably above it.
         impl Shrink for $number {
             fn offer(&self, take: &mut dyn FnMut($number) -> bool) -> bool {
                 let n = *self;

@@ -1,6 +1,6 @@
 //! Bytes, ints and numbers as text.
 
-/// Two digits a byte, lowercase; `-` for no bytes.
+/// Two lowercase digits for each byte; `-` for no bytes.
 pub fn hex(bytes: &[u8]) -> String {
     if bytes.is_empty() {
         return "-".to_string();
@@ -8,7 +8,7 @@ pub fn hex(bytes: &[u8]) -> String {
     bytes.iter().map(|byte| format!("{byte:02x}")).collect()
 }
 
-/// [`hex`], cut where it gets long.
+/// [`hex`], cut if it gets long.
 pub fn hex_short(bytes: &[u8]) -> String {
     const MOST: usize = 400;
     match bytes.len() {
@@ -17,7 +17,7 @@ pub fn hex_short(bytes: &[u8]) -> String {
     }
 }
 
-/// Ints as a list, cut where it gets long.
+/// Ints as a list, cut if it gets long.
 pub fn ints_short(ints: &[i32]) -> String {
     const MOST: usize = 60;
     match ints.len() {

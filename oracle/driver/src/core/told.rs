@@ -1,4 +1,4 @@
-//! What the Rust says: a value, a refusal or a panic.
+//! What the Rust answers: a value, a refusal or a panic.
 
 use std::cell::Cell;
 use std::panic;
@@ -11,7 +11,7 @@ pub enum Told<T> {
 }
 
 impl<T> Told<T> {
-    /// The answer of a panic, which no call of the port gives.
+    /// The answer for a panic, which no call of the port gives.
     pub const PANICKED: u32 = u32::MAX;
 
     /// 0 or the refusal's number.
@@ -22,7 +22,7 @@ impl<T> Told<T> {
             Told::Panicked => Told::<T>::PANICKED,
         }
     }
-    /// The value, or what was there before.
+    /// The value, or the previous one.
     pub fn value_or(self, left: T) -> T {
         match self {
             Told::Value(value) => value,
@@ -32,11 +32,11 @@ impl<T> Told<T> {
 }
 
 thread_local! {
-    /// Whether a panic is awaited, and is not to be printed.
+    /// Whether a panic is expected, and must not be printed.
     static AWAITED: Cell<bool> = const { Cell::new(false) };
 }
 
-/// Keeps awaited panics silent. Called once, at the start.
+/// Keeps expected panics silent. Called once, at the start.
 pub fn silence() {
     let print = panic::take_hook();
     panic::set_hook(Box::new(move |info| {
@@ -46,7 +46,7 @@ pub fn silence() {
     }));
 }
 
-/// What `call` says. A refusal is an `Err` with its number.
+/// The answer of `call`. A refusal is an `Err` with its number.
 pub fn told<T>(call: impl FnOnce() -> Result<T, u32>) -> Told<T> {
     AWAITED.with(|awaited| awaited.set(true));
     let result = panic::catch_unwind(panic::AssertUnwindSafe(call));

@@ -1,5 +1,5 @@
-//! The published examples and the cases of document 01, on the Rust alone:
-//! that it is built right, stand-ins included.
+//! The published examples and those of docs/FORMAT.md, on the Rust alone:
+//! they show that it is built right, including the stand-ins.
 
 use super::Part;
 use super::Rounds;
@@ -41,7 +41,7 @@ struct Examples<'a> {
 }
 
 impl Examples<'_> {
-    /// An example comes out as it is written.
+    /// An example has the published result.
     fn is<T: Debug + PartialEq>(
         &mut self,
         name: &str,
@@ -95,7 +95,7 @@ fn item_deltas(examples: &mut Examples) -> Result<(), Difference> {
     )
 }
 
-/// Document 01's packed integers, and the stand-in for the writer's buffer.
+/// The packed integers of docs/FORMAT.md, and the stand-in for the writer's buffer.
 fn packed_ints(examples: &mut Examples) -> Result<(), Difference> {
     for (int, bytes) in super::packer::MARKED {
         let mut out = Vec::with_capacity(bytes.len());
@@ -160,7 +160,7 @@ fn read_ints(ints: &[i32]) -> Told<usize> {
     })
 }
 
-/// Document 01's tables.
+/// Worked examples of tables.
 fn tables(examples: &mut Examples) -> Result<(), Difference> {
     let bytes = [0x08, 0x01, 0x00, 0x82, 0x80, 0x08, 0x07];
     let lines = "items 1 sum 7\n1 2 1\n".to_string();
@@ -192,7 +192,7 @@ fn tables(examples: &mut Examples) -> Result<(), Difference> {
 
 /// Warnings come through all layers, each once.
 fn warnings(examples: &mut Examples) -> Result<(), Difference> {
-    // An overlong int, a padded one that is 0, and one that is cut.
+    // An overlong int, a padded one that is 0, and one that is cut off.
     let bytes = [0x80, 0x00, 0x80, 0x80, 0x80, 0x80, 0x20, 0x80];
     let mut expected = Warnings::default();
     expected.0[Warnings::OVERLONG_INT_ENCODING] = 1;
@@ -225,7 +225,7 @@ fn warnings(examples: &mut Examples) -> Result<(), Difference> {
     examples.is("a message with warnings", found, expected)
 }
 
-/// Document 01's parts.
+/// Worked examples of parts.
 fn chunks(examples: &mut Examples) -> Result<(), Difference> {
     let kinds = |len: usize| {
         let data = vec![0; len];
@@ -243,7 +243,7 @@ fn chunks(examples: &mut Examples) -> Result<(), Difference> {
     examples.is("a distance that wraps", wrapped, Told::Value(1))
 }
 
-/// A panic of the Rust is told from a refusal.
+/// A panic of the Rust is distinguished from a refusal.
 fn panics(examples: &mut Examples) -> Result<(), Difference> {
     let applied = told(|| {
         let mut builder = RawBuilder::new();

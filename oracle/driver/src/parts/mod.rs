@@ -1,8 +1,8 @@
 //! The parts: one for each subject.
 //!
-//! A new part is a module with a function `part`, listed in [`all`]. What the
-//! Rust says stands in its `oracle`, what both sides do on one input in its
-//! `calls`, and which inputs they get in its `compare`.
+//! A new part is a module with a function `part`, listed in [`all`]. Its `oracle`
+//! has the Rust's answers, its `calls` what both sides do on one input, and its
+//! `compare` which inputs they get.
 
 mod deltas;
 mod examples;
@@ -20,7 +20,7 @@ use crate::core::record::Record;
 use crate::core::report::Difference;
 use crate::core::report::Run;
 
-/// How many rounds of random inputs a run makes.
+/// How many rounds of random inputs a run has.
 pub struct Rounds {
     pub quick: u64,
     pub full: u64,

@@ -1,4 +1,4 @@
-//! Times of deltas between tables of which one item in twenty changes.
+//! Times of deltas between tables in which one item in twenty changes.
 
 use super::hostile;
 use super::inputs;
@@ -28,7 +28,7 @@ pub fn changed(items: &[Item]) -> Vec<Item> {
     items
 }
 
-/// A table to be timed, with what becomes of it.
+/// A table to be timed, with its changed form.
 struct Shape {
     name: &'static str,
     size: usize,
@@ -110,7 +110,7 @@ fn create(rows: &mut Table, shape: &Shape) {
     assert!(out == ints);
 }
 
-/// A delta packed under known sizes.
+/// Packing a delta under known sizes.
 fn race_write(rows: &mut Table, shape: &Shape, operation: &str, sizes: &[i32]) {
     let (ints, rust) = shape.delta();
     let Told::Value(bytes) = oracle::packed(&rust, sizes, ints.len()) else {
@@ -139,7 +139,7 @@ fn write(rows: &mut Table, shape: &Shape) {
     race_write(rows, shape, "delta write", &[]);
 }
 
-/// Where the items are all of four ints.
+/// If all items have four ints.
 fn write_known(rows: &mut Table, shape: &Shape) {
     race_write(rows, shape, "delta write, sizes known", &[4; 65_536]);
 }
@@ -162,7 +162,7 @@ fn write_to_ints(rows: &mut Table, shape: &Shape) {
     assert!(rust_out == ints && port_out == ints);
 }
 
-/// A packed delta read under known sizes.
+/// Reading a packed delta under known sizes.
 fn race_read(rows: &mut Table, shape: &Shape, operation: &str, sizes: &[i32]) {
     let (ints, rust) = shape.delta();
     let Told::Value(bytes) = oracle::packed(&rust, sizes, ints.len()) else {
@@ -192,7 +192,7 @@ fn read(rows: &mut Table, shape: &Shape) {
     race_read(rows, shape, "delta read", &[]);
 }
 
-/// Where the items are all of four ints.
+/// If all items have four ints.
 fn read_known(rows: &mut Table, shape: &Shape) {
     race_read(rows, shape, "delta read, sizes known", &[4; 65_536]);
 }

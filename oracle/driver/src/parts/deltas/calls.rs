@@ -1,4 +1,4 @@
-//! Each call on both sides: what was answered, what was set, what was left.
+//! Each call on both sides: the answer, what was set, what was unchanged.
 
 use super::inputs::Ints;
 use super::oracle;
@@ -30,8 +30,8 @@ const LEFT_WARNINGS: Warnings = Warnings([LEFT_SIZE; cefdugar::WARNINGS]);
 /// Room to spare: none, one too little, some, no room at all.
 const SPARES: [isize; 4] = [0, -1, 3, isize::MIN];
 
-/// What the caller is to hold where `said` is to be written to `room`
-/// entries; `panicked` is the refusal that stands for the Rust's panic.
+/// What the caller must hold if `said` is to be written to `room`
+/// entries; `panicked` is the refusal in place of the Rust's panic.
 fn expected<T>(said: &Told<Vec<T>>, panicked: u32, room: usize) -> Counted {
     match said {
         Told::Value(written) => Counted::fits(written.len(), room),
@@ -47,7 +47,7 @@ fn entries<T>(said: &Told<Vec<T>>) -> &[T] {
     }
 }
 
-/// Some room where the Rust refused, just enough and `spare` more where not.
+/// Some room if the Rust refused; else just enough and `spare` more.
 fn room_for<T>(said: &Told<Vec<T>>, spare: isize) -> usize {
     match said {
         Told::Value(written) => room(written.len(), spare),
@@ -55,7 +55,7 @@ fn room_for<T>(said: &Told<Vec<T>>, spare: isize) -> usize {
     }
 }
 
-/// A call that writes to the front of an area, with all sorts of room.
+/// A call that writes to the front of an area, with room of all sorts.
 fn compare_stored<T: Pattern>(
     out: &mut Area<T>,
     said: &Told<Vec<T>>,
@@ -92,11 +92,11 @@ struct Given<'a, T> {
 /// A call that reads: the input, known sizes, `out`, scratch, the count, the
 /// warnings.
 type Reads<T> = fn(&[T], &[i32], &mut [i32], &mut [i32], &mut usize, &mut Warnings) -> u32;
-/// The same, as a Rust program likes it.
+/// The safe form of the same call.
 type SafeReads<T> = fn(&[T], &[i32], &mut [i32], &mut [i32]) -> (Result<usize, Refusal>, Warnings);
 
-/// What the caller is to hold after a delta was to be read into `room` ints,
-/// and what is to stand there.
+/// What the caller must hold after a delta was to be read into `room` ints,
+/// and what the area must hold.
 fn read_into(said: &Told<oracle::Read>, room: usize) -> (Counted, &[i32]) {
     match said {
         Told::Value(read) if read.room <= room => {
@@ -107,7 +107,7 @@ fn read_into(said: &Told<oracle::Read>, room: usize) -> (Counted, &[i32]) {
     }
 }
 
-/// The port's areas, lent again and again.
+/// The port's areas, lent repeatedly.
 pub struct Calls {
     ints: [Area<i32>; 2],
     out: Area<i32>,
@@ -321,7 +321,7 @@ impl Calls {
         self.compare_reads(given, &said, plain::delta_read, delta::read)
     }
 
-    /// A delta is read into all sorts of room; where it is refused, into two.
+    /// Reads a delta into room of all sorts; if it is refused, into two.
     fn compare_reads<T>(
         &mut self,
         given: Given<T>,

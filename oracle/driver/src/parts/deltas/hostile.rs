@@ -1,4 +1,4 @@
-//! Times of the longest deltas that are read, with keys in orders that cost.
+//! Times of the longest deltas that are read, with keys in expensive orders.
 
 use super::inputs;
 use super::oracle;
@@ -17,18 +17,18 @@ use std::hint::black_box;
 /// The size of each type's items is known to be 0.
 const SIZES: [i32; 65_536] = [0; 65_536];
 
-/// In which order keys come.
+/// The order of the keys.
 #[derive(Clone, Copy)]
 enum Order {
     Falling,
     Equal,
     Shuffled,
-    /// So few different ones that those of one key alone are more than an index
+    /// So few different keys that those of one key alone are more than an index
     /// in the least scratch has room for.
     Few,
 }
 
-/// Of what a delta consists.
+/// What a delta consists of.
 #[derive(Clone, Copy)]
 enum Kind {
     Deletes,
@@ -78,7 +78,7 @@ impl Kind {
         };
         inputs::sent(&deleted, &updated, &SIZES)
     }
-    /// The longest delta whose ints `measure` no more than `most`.
+    /// The longest delta whose ints `measure` at most `most`.
     fn longest(self, order: Order, most: usize, measure: fn(&[i32]) -> usize) -> Vec<i32> {
         let (mut low, mut high) = (0, most);
         while high - low > most / 1_000 {

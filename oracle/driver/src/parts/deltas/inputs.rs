@@ -8,10 +8,10 @@ use crate::parts::tables;
 use crate::parts::tables::oracle::parts;
 use crate::parts::tables::oracle::Item;
 
-/// Ints that make each branch of judging a delta's form, for short lists.
+/// Ints that reach each branch of judging a delta's form, for short lists.
 pub const TELLING: [i32; 5] = [0, 1, 2, -1, 65_536];
 
-/// The ints of a delta as it comes, in no order and with no check.
+/// The ints of a delta in the given order, without a check.
 pub fn listed(deleted: &[i32], updated: &[Item]) -> Vec<i32> {
     let mut ints = vec![deleted.len() as i32, updated.len() as i32, 0];
     ints.extend(deleted);
@@ -23,8 +23,8 @@ pub fn listed(deleted: &[i32], updated: &[Item]) -> Vec<i32> {
     ints
 }
 
-/// A table that has much in common with another: some items go, some change,
-/// some come. At times one of them gets longer or shorter.
+/// A table that has much in common with another: some items are removed, some
+/// changed, some added. At times one of them gets longer or shorter.
 pub fn related(items: &[Item], random: &mut Random) -> Vec<Item> {
     let mut result = vec![];
     for (key, data) in items {
@@ -55,7 +55,7 @@ pub fn related(items: &[Item], random: &mut Random) -> Vec<Item> {
     result
 }
 
-/// Distinct keys, rising as signed.
+/// Distinct keys, rising in signed order.
 fn keys(random: &mut Random) -> Vec<i32> {
     let count = random.pick(&[0, 0, 1, 1, 2, 3, 5, 12]);
     let mut keys: Vec<i32> = (0..count).map(|_| tables::inputs::key(random)).collect();
@@ -64,7 +64,7 @@ fn keys(random: &mut Random) -> Vec<i32> {
     keys
 }
 
-/// A delta in form. Mostly, items of one type are of one length.
+/// A delta in form. Mostly, items of one type have one length.
 pub fn delta(random: &mut Random) -> (Vec<i32>, Vec<Item>) {
     let uniform = random.chance(3, 4);
     let deleted = keys(random);
@@ -126,7 +126,7 @@ pub fn sent(deleted: &[i32], updated: &[Item], sizes: &[i32]) -> Vec<i32> {
     ints
 }
 
-/// Ints packed, now and then with bytes too many or bits that are padding.
+/// Packed ints, sometimes overlong or with padding bits.
 pub fn loose(ints: &[i32], random: &mut Random) -> Vec<u8> {
     let mut bytes = vec![];
     for &int in ints {
@@ -148,8 +148,8 @@ pub fn loose(ints: &[i32], random: &mut Random) -> Vec<u8> {
     bytes
 }
 
-/// The lengths of updates by their types, in a list of `len` types; all else
-/// is unknown. The last update of a type counts.
+/// The lengths of updates by their types, in a list of `len` types; all others
+/// are unknown. The last update of a type counts.
 pub fn right_sizes(updated: &[Item], len: usize) -> Vec<i32> {
     let mut sizes = vec![-1; len];
     for (key, data) in updated {
@@ -160,8 +160,8 @@ pub fn right_sizes(updated: &[Item], len: usize) -> Vec<i32> {
     sizes
 }
 
-/// Known sizes for a delta's updates: none, unknown ones, right ones, some of
-/// them wrong, any.
+/// Known sizes for a delta's updates: none, unknown ones, right ones, some
+/// wrong ones, any.
 pub fn sizes(updated: &[Item], random: &mut Random) -> Vec<i32> {
     const UNKNOWN: [i32; 3] = [-1, -7, i32::MIN];
     let len = match random.below(12) {
@@ -196,11 +196,11 @@ pub fn sizes(updated: &[Item], random: &mut Random) -> Vec<i32> {
     }
 }
 
-/// Ints that are made smaller update by update where they are a delta's.
+/// Ints that are shrunk update by update if they form a delta.
 #[derive(Clone)]
 pub struct Ints(pub Vec<i32>);
 
-/// The deleted keys and the updates of a delta's ints, and the ints behind it.
+/// The deleted keys and the updates of a delta's ints, and the ints after it.
 pub fn taken_apart(ints: &[i32]) -> Option<(Vec<i32>, Vec<Item>, Vec<i32>)> {
     let [deleted, updated, 0, rest @ ..] = ints else {
         return None;

@@ -65,8 +65,8 @@ fn compare(run: &mut Run) -> Result {
     Ok(())
 }
 
-/// The examples of format.rs; then all pairs of up to two ints over a few,
-/// with each flag.
+/// The examples of format.rs; then all pairs of up to two ints from a small
+/// set, with each flag.
 fn item_deltas(run: &mut Run, calls: &mut Calls) -> Result {
     const OLD: [i32; 4] = [0, 1337, 42, 0x7fff_ffff];
     const NEW: [i32; 4] = [0, 1338, 21, -0x8000_0000];
@@ -89,11 +89,11 @@ fn item_deltas(run: &mut Run, calls: &mut Calls) -> Result {
     Ok(())
 }
 
-/// All tables of up to three items over the keys at the ends of both orders,
+/// All tables of up to three items with keys at the ends of both orders,
 /// each with no data or one int.
 fn few_tables() -> Vec<Vec<i32>> {
     let mut result = vec![];
-    // Of each key: absent, with no data, with one int.
+    // For each key: absent, with no data, with one int.
     for number in 0..3usize.pow(KEYS.len() as u32) {
         let states = numbered(number, KEYS.len() as u32, &[None, Some(0), Some(1)]);
         let items: Vec<Item> = KEYS
@@ -119,8 +119,8 @@ fn few_items(run: &mut Run, calls: &mut Calls) -> Result {
     Ok(())
 }
 
-/// All lists of up to seven ints over a small alphabet, in a full run of
-/// eight, as areas; with no size known, and with all sizes 0.
+/// All lists of up to seven ints over a small alphabet (eight in a full run)
+/// as areas; with no size known, and with all sizes 0.
 fn short_lists(run: &mut Run, calls: &mut Calls) -> Result {
     let most = match run.length {
         Length::Quick => 7,
@@ -168,8 +168,8 @@ fn few_updates(run: &mut Run, calls: &mut Calls) -> Result {
     Ok(())
 }
 
-/// Tables at the most items and the most ints; the longest delta; deltas with
-/// more updates than a table has items.
+/// Tables with the most items and the most ints; the longest delta; deltas
+/// with more updates than a table has items.
 fn limits(run: &mut Run, calls: &mut Calls) -> Result {
     let fullest = table::INTS - 2 - 2 * table::ITEMS;
     let tables: Vec<Vec<Item>> = vec![
@@ -178,7 +178,7 @@ fn limits(run: &mut Run, calls: &mut Calls) -> Result {
         tables::inputs::many(table::ITEMS, 4 * table::ITEMS),
         tables::inputs::many(table::ITEMS, fullest),
         bench::changed(&tables::inputs::many(table::ITEMS, fullest)),
-        // As full, and of other keys.
+        // As full, but with other keys.
         tables::inputs::many(table::ITEMS, fullest)
             .into_iter()
             .map(|(key, data)| (key ^ 0x8000, data))
@@ -204,7 +204,7 @@ fn limits(run: &mut Run, calls: &mut Calls) -> Result {
         area[3 + count / 2] = area[4 + count / 2];
         calls.write(run, &area, &[])?;
     }
-    // Counts and sizes that reach far behind the end.
+    // Counts and sizes that reach far past the end.
     for int in [i32::MAX, i32::MAX - 1, i32::MIN, 65_536, -1] {
         for at in [0, 1, 2, 3, 4, 5, 6] {
             let mut area = inputs::listed(&[3], &[(65_538, vec![5])]);
@@ -227,7 +227,7 @@ fn random_pairs(run: &mut Run, calls: &mut Calls, random: &mut Random) -> Result
         let mut target = tables::inputs::listed(&sorted(&target));
         calls.create(run, &base, &target)?;
         calls.create(run, &target, &base)?;
-        // What the Rust makes of two tables is written under known sizes.
+        // The Rust's delta of two tables is written under known sizes.
         if let Told::Value(area) = oracle::created(&base, &target) {
             calls.write(run, &area, &[])?;
             calls.write(run, &area, &[-1, 2, 1, 0])?;

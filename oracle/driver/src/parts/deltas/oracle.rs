@@ -1,6 +1,6 @@
-//! What the Rust says of deltas, and document 01 where the Rust has no such
-//! call: an area in form is one that begins with ints which the Rust reads as
-//! a delta and would write as they stand.
+//! The Rust's answers on deltas, or those of docs/FORMAT.md if the Rust has no
+//! such call: an area in form is one that begins with ints which the Rust
+//! reads as a delta and would write unchanged.
 
 use crate::core::oracle::Number;
 use crate::core::oracle::Tally;
@@ -19,13 +19,13 @@ use libtw2_snapshot::snap;
 use libtw2_snapshot::snap::RawSnap;
 use libtw2_snapshot::Delta;
 
-/// The size that is known of a type.
+/// The known size of a type.
 pub fn known_size(sizes: &[i32], raw_type_id: u16) -> Option<u32> {
     let size = *sizes.get(usize::from(raw_type_id))?;
     u32::try_from(size).ok()
 }
 
-/// A delta's ints under known sizes, which take no more than `room`.
+/// A delta's ints under known sizes, which take at most `room`.
 pub fn written(delta: &Delta, sizes: &[i32], room: usize) -> Told<Vec<i32>> {
     told(|| {
         let mut out = vec![0; room];
@@ -36,7 +36,7 @@ pub fn written(delta: &Delta, sizes: &[i32], room: usize) -> Told<Vec<i32>> {
     })
 }
 
-/// A delta packed under known sizes, of no more than `room` ints.
+/// A delta packed under known sizes, of at most `room` ints.
 pub fn packed(delta: &Delta, sizes: &[i32], room: usize) -> Told<Vec<u8>> {
     told(|| {
         let mut out = Vec::with_capacity(5 * room);
@@ -49,7 +49,7 @@ pub fn packed(delta: &Delta, sizes: &[i32], room: usize) -> Told<Vec<u8>> {
 }
 
 /// The delta between the tables of two areas, as an area holds it. The Rust
-/// panics where two items of one key differ in length.
+/// panics if two items of one key differ in length.
 pub fn created(base: &[i32], target: &[i32]) -> Told<Vec<i32>> {
     let (Some(base), Some(target)) = (tables::oracle::held(base), tables::oracle::held(target))
     else {
@@ -108,18 +108,18 @@ pub fn held(area: &[i32]) -> Option<Delta> {
 }
 
 /// A delta that was read, as an area holds it, and how many ints it would take
-/// there with what was repeated.
+/// there with repeated entries.
 #[derive(Clone, Debug, Eq, PartialEq)]
 pub struct Read {
     pub ints: Vec<i32>,
     pub room: usize,
 }
 
-/// The size that is known of a type, asked for at each update.
+/// The known size of a type, asked for at each update.
 type Sizes<'a> = &'a mut dyn FnMut(u16) -> Option<u32>;
 
-/// What the Rust reads. All of the input is read, so that a delta takes as
-/// many ints as that holds, and one for each size that is not in it.
+/// What the Rust reads. It reads all of the input, so that a delta takes as
+/// many ints as the input holds, and one for each size that is not in it.
 fn read_any(
     sizes: &[i32],
     count: impl FnOnce() -> usize,

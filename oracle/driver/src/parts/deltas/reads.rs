@@ -1,4 +1,4 @@
-//! Deltas that are read: valid and damaged, in order and not, whole and cut.
+//! Reading deltas: valid and damaged, in order and not, whole and cut.
 
 use super::calls::Calls;
 use super::inputs;
@@ -26,14 +26,14 @@ fn enough(src: &[u8]) -> usize {
     src.len().max(SCRATCH)
 }
 
-/// Reads ints as they are, and packed.
+/// Reads ints unpacked and packed.
 fn both(run: &mut Run, calls: &mut Calls, ints: &[i32], sizes: &[i32]) -> Result {
     calls.read_ints(run, ints, sizes, SCRATCH)?;
     let src = packed(ints);
     calls.read(run, &src, sizes, enough(&src))
 }
 
-/// What does not depend on the seed.
+/// The cases that do not depend on the seed.
 pub fn fixed(run: &mut Run, calls: &mut Calls) -> Result {
     short_lists(run, calls)?;
     short_strings(run, calls)?;
@@ -45,7 +45,7 @@ pub fn fixed(run: &mut Run, calls: &mut Calls) -> Result {
     many_entries(run, calls)
 }
 
-/// All lists of up to five ints over a small alphabet, in a full run of seven.
+/// All lists of up to five ints over a small alphabet; seven in a full run.
 fn short_lists(run: &mut Run, calls: &mut Calls) -> Result {
     let most = match run.length {
         Length::Quick => 5,
@@ -62,8 +62,8 @@ fn short_lists(run: &mut Run, calls: &mut Calls) -> Result {
     Ok(())
 }
 
-/// All strings of up to five bytes over a small alphabet, in a full run of
-/// seven; behind a header or not.
+/// All strings of up to five bytes over a small alphabet (seven in a full
+/// run), with and without a header before them.
 fn short_strings(run: &mut Run, calls: &mut Calls) -> Result {
     const TELLING: [u8; 5] = [0x00, 0x01, 0x02, 0x40, 0x80];
     let most = match run.length {
@@ -128,7 +128,7 @@ fn few_keys(run: &mut Run, calls: &mut Calls) -> Result {
             let updated = updates(keys, &[1, 0, 2]);
             let mut ints = inputs::listed(deleted, &updated);
             both(run, calls, &ints, &[])?;
-            // One of the header's numbers is another one.
+            // One of the header's numbers is changed.
             let at = (i + j) % 3;
             ints[at] += [1, -1, i32::MAX / 2][j % 3];
             both(run, calls, &ints, &[])?;
@@ -137,8 +137,8 @@ fn few_keys(run: &mut Run, calls: &mut Calls) -> Result {
     Ok(())
 }
 
-/// Deltas that are cut at every length, as ints and as bytes, also with loose
-/// integers, and those with an int or a byte too many.
+/// Deltas cut at every length, as ints and as bytes, also with overlong and
+/// padded integers, and those with an int or a byte too many.
 fn cut(run: &mut Run, calls: &mut Calls) -> Result {
     let deltas: [(Vec<i32>, Vec<Item>); 4] = [
         (vec![], vec![]),
@@ -196,7 +196,7 @@ fn known(run: &mut Run, calls: &mut Calls) -> Result {
     ];
     for updated in [&updated, &turned] {
         for sizes in shapes {
-            // As it is sent under the right ones, and under these.
+            // As sent under the right ones, and under these.
             for sent_under in [&[][..], &all, sizes] {
                 let ints = inputs::sent(&[65_540, 3], updated, sent_under);
                 both(run, calls, &ints, sizes)?;
@@ -206,7 +206,7 @@ fn known(run: &mut Run, calls: &mut Calls) -> Result {
     Ok(())
 }
 
-/// Inputs and scratch around the lengths that are judged.
+/// Inputs and scratch of about the lengths that are judged.
 fn lengths(run: &mut Run, calls: &mut Calls) -> Result {
     const MOST: usize = table::INPUT;
     let good = inputs::listed(&[4, 2], &updates(&[9, 1], &[1, 1]));
@@ -247,7 +247,7 @@ fn order(list: &mut [i32], order: usize, random: &mut Random) {
 }
 
 /// More entries than an index in the least scratch has room for: in several
-/// orders, with keys near to each other and far apart, and with so few
+/// orders, with keys close together and far apart, and with so few
 /// different ones that those of one key alone have no room.
 fn many_entries(run: &mut Run, calls: &mut Calls) -> Result {
     let mut random = run.random(u64::MAX);
@@ -290,8 +290,8 @@ fn many_entries(run: &mut Run, calls: &mut Calls) -> Result {
     Ok(())
 }
 
-/// Random deltas under random known sizes: as they are, damaged, with loose
-/// integers and cut.
+/// Random deltas under random known sizes: unchanged, damaged, with overlong
+/// and padded integers, and cut.
 pub fn random(run: &mut Run, calls: &mut Calls, random: &mut Random) -> Result {
     for _ in 0..6 {
         let (deleted, updated) = match random.below(3) {
@@ -315,7 +315,7 @@ pub fn random(run: &mut Run, calls: &mut Calls, random: &mut Random) -> Result {
     created(run, calls, random)
 }
 
-/// What the Rust makes of two tables.
+/// The Rust's deltas of two tables.
 fn created(run: &mut Run, calls: &mut Calls, random: &mut Random) -> Result {
     let base = tables::inputs::items(random);
     let target = inputs::related(&base, random);

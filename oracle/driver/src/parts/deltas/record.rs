@@ -9,8 +9,8 @@
 //!     r ROOM LEN INT.. INT..   COUNT WARNINGS INT.., or refused NUMBER
 //!                              WARNINGS (LEN known sizes, ints that are
 //!                              read; of the warnings the seven counts that
-//!                              reading can tell, in their order)
-//!     p ROOM LEN INT.. HEX     the same of packed ints
+//!                              reading can give, in their order)
+//!     p ROOM LEN INT.. HEX     the same for packed ints
 //!     m ROOM HAS LEN INT.. INT..  COUNT INT.., or refused NUMBER (whether
 //!                              there is a base, its LEN ints, the target's;
 //!                              the differences are made)
@@ -45,7 +45,7 @@ fn bytes(list: &[u8]) -> String {
     format!(" {}", hex(list))
 }
 
-/// The room, and what a call comes to in it.
+/// The room, and the result of a call in it.
 fn stored<T>(
     said: &Told<Vec<T>>,
     panicked: &str,
@@ -72,7 +72,7 @@ fn clear(record: &mut Record, spare: isize) {
     record.case(&format!("e {room}"), &answer);
 }
 
-/// Where several keys clash, the answer is not settled, and is not recorded.
+/// If several keys clash, the answer is not determined, and is not recorded.
 fn create(record: &mut Record, base: &[i32], target: &[i32], spare: isize) {
     let said = oracle::created(base, target);
     let panicked = match (&said, &oracle::clashes(base, target)[..]) {
@@ -101,7 +101,7 @@ fn write(record: &mut Record, area: &[i32], sizes: &[i32], spare: isize) {
     record.case(&format!("b {room}{rest}"), &answer);
 }
 
-/// The kinds of warning that reading can tell.
+/// The kinds of warning that reading can give.
 const READ_WARNINGS: [usize; 7] = [
     Warnings::OVERLONG_INT_ENCODING,
     Warnings::NON_ZERO_INT_PADDING,
@@ -112,7 +112,7 @@ const READ_WARNINGS: [usize; 7] = [
     Warnings::NUM_UPDATED_ITEMS,
 ];
 
-/// The room, and what reading a delta comes to in it.
+/// The room, and the result of reading a delta into it.
 fn was_read((said, warnings): (Told<Read>, Warnings), spare: isize) -> (usize, String) {
     let counts: String = READ_WARNINGS
         .map(|kind| format!(" {}", warnings.0[kind]))
@@ -189,7 +189,7 @@ fn examples(record: &mut Record) {
     item(record, None, &[], 0);
 }
 
-/// Tables of the keys at the ends of both orders.
+/// Tables with keys at the ends of both orders.
 fn tables_of_few(record: &mut Record) {
     let table = |states: [usize; 6]| {
         let items: Vec<Item> = KEYS
@@ -223,7 +223,7 @@ fn tables_of_few(record: &mut Record) {
     create(record, &[0, 0, 9], &[0, 0], 0);
 }
 
-/// Areas in form and damaged in one place.
+/// Areas in form, and with damage in one place.
 fn forms(record: &mut Record) {
     let whole = inputs::listed(&[-5, 7], &[(-1, vec![]), (65_538, vec![70, -70])]);
     for spare in [0, 3, -1, -40] {
@@ -300,7 +300,7 @@ fn random_cases(record: &mut Record, random: &mut Random) {
     }
 }
 
-/// Keys in every order, repeated, deleted and updated; headers that are wrong.
+/// Keys in every order, repeated, deleted and updated; wrong headers.
 fn reads(record: &mut Record) {
     let orders: [[i32; 3]; 6] = [
         [-7, 5, 65_536],

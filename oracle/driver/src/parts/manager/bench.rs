@@ -1,7 +1,7 @@
-//! Times of all the messages of a delta, one item in twenty changed. Beside the
-//! Rust's time for the delta also: `all old`, the same messages again, which are
-//! refused, so that only what each message costs anyway is timed; and `by steps`,
-//! the messages given to a receiver, and the whole delta to a store.
+//! Times of all the messages of a delta, with one item in twenty changed. Also
+//! compared with the Rust's time for the delta: `all old`, the same messages again,
+//! which are refused, so that only the fixed cost of each message is timed; and
+//! `by steps`, the messages given to a receiver, and the whole delta to a store.
 
 use crate::core::bench::Table;
 use crate::core::random::Random;
@@ -154,7 +154,7 @@ impl Steps {
     }
 }
 
-/// The same of the Rust's.
+/// The same for the Rust's.
 fn take(manager: &mut rust::Manager, messages: &[Call]) {
     for message in messages {
         let taken = match message {
@@ -172,8 +172,8 @@ fn take(manager: &mut rust::Manager, messages: &[Call]) {
     }
 }
 
-/// Tables that come round and round, all of them held: when the next one comes,
-/// the oldest goes, and the one after it is the base.
+/// Tables in rotation, all of them held: when the next one comes,
+/// the oldest is dropped, and the one after it is the base.
 struct Round<'a> {
     tables: &'a [Vec<i32>],
     /// The messages of each against the next one, which is the oldest.
@@ -280,7 +280,7 @@ fn race(rows: &mut Table, name: &str, size: usize, tables: &[Vec<i32>], room: us
     );
 }
 
-/// Rows beside the Rust's time for all the messages of a delta.
+/// Rows compared with the Rust's time for all the messages of a delta.
 struct Rows<'a, 'b> {
     rows: &'a mut Table,
     size: usize,

@@ -1,4 +1,4 @@
-//! Each message on both sides: what was answered, what was set, what was left.
+//! Each message on both sides: the answer, what was set, what was unchanged.
 
 use super::oracle::Printer;
 use super::oracle::Room;
@@ -58,7 +58,7 @@ const LEFT: Outputs = Outputs {
     warnings: Warnings([LEFT_SIZE; cefdugar::WARNINGS]),
 };
 
-/// What is set at an answer: of a refused call the warnings alone.
+/// What an answer sets: for a refused call the warnings alone.
 fn outputs_of(said: &Said) -> Outputs {
     let (taken, ack) = match (said.number, said.ack) {
         (0, Some(ack)) => (1, ack),
@@ -72,7 +72,7 @@ fn outputs_of(said: &Said) -> Outputs {
     }
 }
 
-/// What the port says to a message.
+/// The port's answer to a message.
 pub fn port_call(manager: &mut Manager, call: &Call, lent: Lent, outputs: &mut Outputs) -> u32 {
     match call {
         Call::Snap(numbers, data) => manager.plain_snap(*numbers, data, lent, outputs),
@@ -97,7 +97,7 @@ pub struct Areas {
     scratch: Area<i32>,
 }
 
-/// What the areas hold; scratch has a length.
+/// What the areas hold; scratch has only a length.
 #[derive(Clone)]
 pub struct Content {
     pub parts: Vec<u8>,
@@ -135,7 +135,7 @@ impl Areas {
         let zeros = vec![0; content.scratch];
         left("scratch", self.scratch.check(0, &zeros))
     }
-    /// Whether a message that the port alone refuses leaves all.
+    /// Whether a message that the port alone refuses leaves everything unchanged.
     pub fn refused(
         &mut self,
         manager: Manager,
@@ -154,7 +154,7 @@ impl Areas {
     }
 }
 
-/// The port's receiver alone, which a manager's is to equal.
+/// The port's receiver alone, which the manager's must equal.
 fn receiver_call(receiver: &mut receiver::Receiver, call: &Call, parts: &mut [u8]) {
     let mut joined = vec![0; AREA_BYTES];
     match call {
@@ -171,7 +171,7 @@ fn receiver_call(receiver: &mut receiver::Receiver, call: &Call, parts: &mut [u8
     }
 }
 
-/// The port's manager, with the Rust's beside it.
+/// The port's manager and the Rust's.
 pub struct Both {
     pub printer: Printer,
     pub port: Manager,
@@ -195,7 +195,7 @@ impl Both {
         }
     }
 
-    /// What is lent where the areas have this room.
+    /// What is lent if the areas have this room.
     pub fn content(&self, room: Room) -> Content {
         let mut delta = self.delta.clone();
         delta.resize(room.delta, LEFT_INT);

@@ -19,7 +19,7 @@ use crate::parts::storage::inputs::related;
 use crate::parts::storage::inputs::table_of;
 use crate::parts::tables;
 
-/// A list of messages to a new manager, and the sizes known.
+/// A list of messages to a new manager, and the known sizes.
 #[derive(Clone, Debug)]
 pub struct List {
     pub sizes: Vec<i32>,
@@ -76,7 +76,7 @@ fn delta(random: &mut Random, from: &[i32], sizes: &[i32], most: usize) -> (Vec<
         _ => vec![0, 0, 0],
     };
     let delta = deltas::oracle::held(&ints).expect("a delta");
-    // A known size that is not the data's is sent none the less.
+    // A known size that is not the data's length is sent nevertheless.
     let bytes = match deltas::oracle::packed(&delta, sizes, ints.len()) {
         Told::Value(bytes) => bytes,
         _ => match deltas::oracle::packed(&delta, &[], ints.len()) {
@@ -134,7 +134,7 @@ fn tick_messages(
     messages
 }
 
-/// The ints of packed ones.
+/// The ints of a packed list.
 fn unpacked(bytes: &[u8]) -> Vec<i32> {
     let mut out = vec![0; bytes.len()];
     let (said, _) = cefdugar::unpack(bytes, &mut out);
@@ -204,7 +204,7 @@ pub fn list(random: &mut Random) -> List {
                 delta: room(needs.delta, spare[0]),
                 area: room(needs.area, spare[1]).max(printer.store.len()),
             };
-            // A difference comes again where both sides are compared.
+            // A difference is found again when both sides are compared.
             let number = printer
                 .call(&sizes, &call, room)
                 .map_or(0, |said| said.number);

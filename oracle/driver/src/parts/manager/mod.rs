@@ -89,7 +89,7 @@ fn all(run: &mut Run, areas: &mut Areas, list: List) -> std::result::Result<Both
     Ok(both)
 }
 
-/// Every message where the port alone refuses.
+/// Every message in cases that the port alone refuses.
 fn refused(
     run: &mut Run,
     areas: &mut Areas,
@@ -114,7 +114,7 @@ fn refused(
     Ok(())
 }
 
-/// What a new manager is lent.
+/// What is lent to a new manager.
 fn content() -> Content {
     Content {
         parts: vec![1; AREA_BYTES],
@@ -126,7 +126,7 @@ fn content() -> Content {
 }
 
 /// Receivers and stores out of form, then areas that are too short: refused by
-/// every message, in this order, and left.
+/// every message, in this order, and unchanged.
 fn forms(run: &mut Run, areas: &mut Areas) -> Result {
     let fresh = Manager::new();
     let lengths = [
@@ -159,8 +159,8 @@ fn forms(run: &mut Run, areas: &mut Areas) -> Result {
     Ok(())
 }
 
-/// What a list of messages left, with the receiver or the store out of form,
-/// or with an area that is too short.
+/// The state after a list of messages, with the receiver or the store out of
+/// form, or with an area that is too short.
 fn damaged(run: &mut Run, areas: &mut Areas, random: &mut Random, both: &Both) -> Result {
     let room = oracle::Room {
         delta: 5,

@@ -1,9 +1,9 @@
-//! What the Rust's manager says of a message, and document 01 where the Rust
-//! has no such limit: the room of both areas, and 900 bytes a part.
+//! The answers of the Rust's manager to a message, or those of docs/FORMAT.md if
+//! the Rust has no such limit: the room of both areas, and 900 bytes a part.
 //!
-//! The Rust's manager shows no more than the table that it took. So its parts
-//! (receiver, delta and store, all the Rust's) get the same beside it, which
-//! show what was received, read and held; what both say is compared.
+//! The Rust's manager shows only the table that it took. So its parts (receiver,
+//! delta and store, all the Rust's) get the same messages, and show what was
+//! received, read and held; the answers of both are compared.
 
 use crate::core::oracle::Number;
 use crate::core::oracle::Tally;
@@ -24,7 +24,7 @@ use libtw2_snapshot::Snap;
 use receiving::Call;
 use storing::Store;
 
-/// What a message is answered, and what goes to the areas.
+/// The answer to a message, and what is written to the areas.
 #[derive(Clone, Debug, Default, Eq, PartialEq)]
 pub struct Said {
     pub number: u32,
@@ -59,7 +59,7 @@ fn plus(a: Warnings, b: Warnings) -> Warnings {
     Warnings(std::array::from_fn(|kind| a.0[kind] + b.0[kind]))
 }
 
-/// What the Rust's manager says: a number, and the table that it took.
+/// The answer of the Rust's manager: a number, and the table that it took.
 type Answer = (u32, Option<Vec<i32>>);
 
 fn manager_call(
@@ -90,7 +90,7 @@ impl Printer {
     pub fn new() -> Printer {
         Printer::default()
     }
-    /// What a call takes where all areas have room.
+    /// What a call takes if all areas have room.
     pub fn needs(&self, sizes: &[i32], call: &Call) -> Room {
         let mut room = Room {
             delta: 3,
@@ -115,8 +115,8 @@ impl Printer {
         room
     }
 
-    /// A call under known sizes where the areas have this room. A difference
-    /// between the Rust's manager and its parts is told as one.
+    /// A call under known sizes if the areas have this room. A difference
+    /// between the Rust's manager and its parts is reported as one.
     pub fn call(&mut self, sizes: &[i32], call: &Call, room: Room) -> Result<Said, Shown> {
         if too_long(call) {
             return Ok(Said {
@@ -135,7 +135,7 @@ impl Printer {
         let answer: Answer = match told {
             Told::Value(table) => (0, table),
             Told::Refused(number) => (number, None),
-            // An update of a kept item of another length.
+            // An update of a kept item with another length.
             Told::Panicked => (10, None),
         };
         if ample {
@@ -151,8 +151,8 @@ impl Printer {
         Ok(said)
     }
 
-    /// The Rust's manager where an area is too short: the tick is finished;
-    /// and where the delta could be read, what is older than its base is
+    /// The Rust's manager if an area is too short: the tick is finished;
+    /// and if the delta could be read, tables older than its base are
     /// dropped.
     fn finish_short(&mut self, delta: &ReceivedDelta, unread: bool) {
         let data = match unread {
@@ -165,7 +165,7 @@ impl Printer {
         assert!(said.number() != 0);
     }
 
-    /// What the parts say, and the delta that was received.
+    /// The answer of the parts, and the delta that was received.
     fn parts_call(
         &mut self,
         sizes: &[i32],
@@ -203,7 +203,7 @@ impl Printer {
     }
 }
 
-/// The delta that was received; an empty message's is empty.
+/// The delta that was received; that of an empty message is empty.
 fn read(
     sizes: &[i32],
     delta: &ReceivedDelta,

@@ -1,17 +1,17 @@
-//! Recorded answers of managers. A case is a message to the manager that the
-//! cases before it left.
+//! Recorded answers of managers. A case is a message to the manager as the
+//! cases before left it.
 //!
 //!     n ROOM DELTA                            new: a manager with a store area
 //!                                             of ROOM ints, and a delta area
 //!     r                                       reset
 //!     s TICK DIST NUM PART CRC LEN INT.. HEX  a part, and LEN known sizes
-//!     i TICK DIST CRC LEN INT.. HEX           a single message, and those
-//!     e TICK DIST                             an empty one
+//!     i TICK DIST CRC LEN INT.. HEX           a single message, and sizes
+//!     e TICK DIST                             an empty message
 //!     l PLACE                                 the table at a place
 //!
-//! Answers: the 13 counts of warnings, COUNT ACK, how many tables are held and
-//! the tick acknowledged (`-` where there is none), and then `more`,
-//! `tick TICK`, or `refused NUMBER`. Of a look: `TICK INT..`, or `end`.
+//! Answers: the 13 warning counts, COUNT ACK, how many tables are held and
+//! the tick acknowledged (`-` if there is none), and then `more`,
+//! `tick TICK`, or `refused NUMBER`. For `l`: `TICK INT..`, or `end`.
 
 use super::inputs;
 use super::oracle::Printer;

@@ -1,8 +1,8 @@
 //! Times of packed integers.
 //!
-//! `unpack`: all ints of a byte string by one call, against the Rust's loop as
-//! its users write it. `write_int each`: one call of the port an int, against
-//! such a loop. `each call`: the Rust behind the same C boundary as the port.
+//! `unpack`: all ints of a byte string in one call, compared with the Rust's loop
+//! as its users write it. `write_int each`: one call of the port for each int,
+//! compared with such a loop. `each call`: the Rust behind the port's C boundary.
 
 use super::oracle;
 use crate::core::bench::Table;
@@ -43,7 +43,7 @@ pub fn bench(table: &mut Table) {
     }
 }
 
-/// `cef_read_int` by the Rust.
+/// `cef_read_int` in Rust.
 #[inline(never)]
 extern "C" fn rust_read_int(
     src: *const u8,
@@ -69,7 +69,7 @@ extern "C" fn rust_read_int(
     }
 }
 
-/// `cef_write_int` by the Rust.
+/// `cef_write_int` in Rust.
 #[inline(never)]
 extern "C" fn rust_write_int(
     out: *mut u8,
@@ -92,7 +92,7 @@ extern "C" fn rust_write_int(
     })
 }
 
-/// Reads each int by a call; the ints are added up.
+/// Reads each int with a call; the ints are added up.
 fn read_by(
     bytes: &[u8],
     mut call: impl FnMut(&[u8], usize, &mut i32, &mut usize, &mut Warnings) -> u32,
@@ -106,7 +106,7 @@ fn read_by(
     (sum, warnings)
 }
 
-/// Writes each int by a call; gives the place after the last.
+/// Writes each int with a call; returns the place after the last.
 fn write_by(
     list: &[i32],
     out: &mut [u8],
@@ -122,7 +122,7 @@ fn write_by(
     at
 }
 
-/// Reads each int by a call; both sides behind the same C boundary.
+/// Reads each int with a call; both sides behind the same C boundary.
 fn read_calls(table: &mut Table, name: &str, list: &[i32]) {
     let bytes = oracle::packed(list);
     table.race(
@@ -149,7 +149,7 @@ fn unpack(table: &mut Table, name: &str, list: &[i32]) {
         ints: Vec::with_capacity(list.len()),
         cut: false,
     };
-    // One int a byte, as reading bytes asks of scratch.
+    // One int for each byte, as reading bytes requires of scratch.
     let mut out = vec![0; bytes.len()];
     table.race(
         &format!("unpack, {name}"),
@@ -166,7 +166,7 @@ fn unpack(table: &mut Table, name: &str, list: &[i32]) {
     assert!(unpacked.ints == list && out[..list.len()] == *list);
 }
 
-/// Writes each int behind the other.
+/// Writes each int after the other.
 fn write(table: &mut Table, name: &str, list: &[i32]) {
     let bytes = oracle::packed(list);
     let (mut rust_out, mut port_out) = (vec![0; bytes.len()], vec![0; bytes.len()]);

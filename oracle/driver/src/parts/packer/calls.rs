@@ -1,4 +1,4 @@
-//! Each call on both sides: what was answered, what was set, what was left.
+//! Each call on both sides: the answer, what was set, what was unchanged.
 
 use super::oracle;
 use crate::core::area::Area;
@@ -41,7 +41,7 @@ struct Unpacked {
     warnings: Warnings,
 }
 
-/// A number and a value as the safe calls answer them.
+/// A number and a value as the safe calls return them.
 pub fn answer<T>(number: u32, value: T) -> Result<T, Refusal> {
     match number {
         0 => Ok(value),
@@ -49,7 +49,7 @@ pub fn answer<T>(number: u32, value: T) -> Result<T, Refusal> {
     }
 }
 
-/// Both sides' areas, lent again and again.
+/// Both sides' areas, lent repeatedly.
 pub struct Calls {
     src: Area<u8>,
     bytes: Area<u8>,
@@ -97,7 +97,7 @@ impl Calls {
         )
     }
 
-    /// Writes the ints of `list` one behind the other.
+    /// Writes the ints of `list` one after the other.
     pub fn write_list(&mut self, run: &mut Run, list: &[i32]) -> Result<(), Difference> {
         let compared = self.compare_write_list(list);
         run.case(
@@ -108,8 +108,8 @@ impl Calls {
         )
     }
 
-    /// Unpacks `src` into an area of as much room as it needs and `spare`
-    /// more, or of none where that is negative.
+    /// Unpacks `src` into an area with as much room as it needs and `spare`
+    /// more, or none if that is negative.
     pub fn unpack(&mut self, run: &mut Run, src: &[u8], spare: isize) -> Result<(), Difference> {
         let compared = self.compare_unpack(src, spare);
         run.case(

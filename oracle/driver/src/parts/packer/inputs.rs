@@ -2,7 +2,7 @@
 
 use crate::core::random::Random;
 
-/// Document 01's marked cases.
+/// The marked cases of docs/FORMAT.md.
 pub const MARKED: [(i32, &[u8]); 8] = [
     (0, &[0x00]),
     (-1, &[0x40]),
@@ -17,7 +17,7 @@ pub const MARKED: [(i32, &[u8]); 8] = [
 /// Places far outside of any bytes.
 pub const FAR: [usize; 4] = [1 << 32, isize::MAX as usize, usize::MAX - 4, usize::MAX];
 
-/// Bytes that make each branch of reading: zero, sign, extend, digits at both
+/// Bytes that reach each branch of reading: zero, sign, extend, digits at both
 /// ends, padding bits.
 pub const TELLING: [u8; 8] = [0x00, 0x01, 0x40, 0x7f, 0x80, 0x8f, 0x90, 0xff];
 
@@ -98,7 +98,7 @@ pub fn bytes(len: usize, random: &mut Random) -> Vec<u8> {
         0 => (0..len).map(|_| random.byte()).collect(),
         1 => (0..len).map(|_| random.byte() | 0x80).collect(),
         2 => (0..len).map(|_| random.pick(&TELLING)).collect(),
-        // Mostly extended, now and then an end of any sort.
+        // Mostly extended, sometimes an end of any sort.
         3 => (0..len)
             .map(|_| match random.below(5) {
                 0 => random.pick(&[0x00, 0x01, 0x0f, 0x10, 0x40, 0x7f]),
@@ -113,7 +113,7 @@ pub fn bytes(len: usize, random: &mut Random) -> Vec<u8> {
             bytes.truncate(len);
             bytes
         }
-        // Ints of five bytes, padding and overlong ones among them.
+        // Ints of five bytes, including padded and overlong ones.
         _ => (0..len)
             .map(|i| match i % 5 {
                 4 => random.pick(&[0x00, 0x01, 0x0f, 0x10, 0x1f, 0x80, 0xf0, 0xff]),

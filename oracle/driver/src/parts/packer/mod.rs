@@ -54,7 +54,7 @@ fn compare(run: &mut Run) -> Result {
     Ok(())
 }
 
-/// Reads at every place of `src` and outside of it.
+/// Reads at every place of `src` and outside it.
 fn read_everywhere(run: &mut Run, calls: &mut Calls, src: &[u8]) -> Result {
     for at in (0..=src.len() + 2).chain(inputs::FAR) {
         calls.read(run, src, at)?;
@@ -102,7 +102,7 @@ fn short_strings(run: &mut Run, calls: &mut Calls) -> Result {
 }
 
 /// All strings of four to six bytes over a small alphabet: what the fourth
-/// byte, the fifth and the one behind it do.
+/// byte, the fifth and the one after it do.
 fn telling_strings(run: &mut Run, calls: &mut Calls) -> Result {
     for len in 4..=6 {
         for number in 0..inputs::TELLING.len().pow(len) {

@@ -1,5 +1,5 @@
-//! What the Rust says of packed integers, and document 01 where the Rust has
-//! no such call: a place outside of the bytes, and ints that do not fit.
+//! The Rust's answers on packed integers, or those of docs/FORMAT.md if the Rust
+//! has no such call: a place outside the bytes, and ints that do not fit.
 
 use crate::core::oracle::Number;
 use crate::core::oracle::Tally;
@@ -27,7 +27,7 @@ pub fn read_int(src: &[u8], at: usize) -> (Told<(i32, usize)>, Warnings) {
     (said, tally.0)
 }
 
-/// What a reader says, and where it then stands.
+/// The answer of a reader, and its position afterwards.
 pub struct Stood {
     pub said: Told<i32>,
     pub standing: Standing,
@@ -53,7 +53,7 @@ pub fn unpacker_read_int(from: usize, unpacker: &mut Unpacker) -> Stood {
     }
 }
 
-/// The same of a reader at any place; outside of the bytes, one at their end.
+/// The same for a reader at any place; outside the bytes, one at their end.
 pub fn unpacker_read_int_at(src: &[u8], at: usize) -> Stood {
     let from = at.min(src.len());
     unpacker_read_int(from, &mut Unpacker::new(&src[from..]))
@@ -86,7 +86,7 @@ pub fn write_int(out: &mut [u8], at: usize, int: i32) -> Told<usize> {
     })
 }
 
-/// All ints of some bytes, in the way of `RawSnap::read`.
+/// All ints of some bytes, as `RawSnap::read` reads them.
 #[derive(Clone, Debug, Default, Eq, PartialEq)]
 pub struct Unpacked {
     pub ints: Vec<i32>,
@@ -114,7 +114,7 @@ pub fn unpack(src: &[u8], unpacked: &mut Unpacked) -> (Told<()>, Warnings) {
     (said, tally.0)
 }
 
-/// The bytes of `list`, one int behind the other.
+/// The bytes of `list`, one int after the other.
 pub fn packed(list: &[i32]) -> Vec<u8> {
     let mut bytes = Vec::with_capacity(5 * list.len());
     with_packer(&mut bytes, |mut packer| {

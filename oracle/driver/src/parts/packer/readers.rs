@@ -1,5 +1,5 @@
-//! The readers: one of the Rust's goes through its whole input, and at every
-//! place where it stands the port's is held against it.
+//! The readers: one of the Rust's goes through its whole input, and the port's
+//! is compared with it at each of its places.
 
 use super::calls::answer;
 use super::calls::LEFT_WARNINGS;
@@ -63,7 +63,7 @@ pub fn bytes(run: &mut Run, src: &[u8]) -> Result<(), Difference> {
     )
 }
 
-/// A reader over the bytes of `src` that stands at place `at`, also outside.
+/// A reader over the bytes of `src` at place `at`, also outside.
 pub fn bytes_at(run: &mut Run, src: &[u8], at: usize) -> Result<(), Difference> {
     let compared = compare_bytes_at(src, at);
     run.case(
@@ -87,7 +87,7 @@ pub fn ints(run: &mut Run, src: &[i32]) -> Result<(), Difference> {
 
 fn compare_bytes(src: &[u8]) -> Compared {
     let mut unpacker = Unpacker::new(src);
-    // At the end it is asked once more.
+    // At the end it reads once more.
     loop {
         let ended = unpacker.is_empty();
         let at = unpacker.num_bytes_read();

@@ -54,7 +54,7 @@ fn standing(stood: &Stood) -> String {
     }
 }
 
-/// A reader over ints, at each of its places and behind them.
+/// A reader over ints, at each of its places and past them.
 fn read_ints(record: &mut Record, list: &[i32]) {
     assert!(list.len() <= MOST_INTS);
     let ints: String = list.iter().map(|int| format!(" {int}")).collect();
@@ -93,7 +93,7 @@ fn unpack(record: &mut Record, src: &[u8], spare: isize) {
     record.case(&format!("u {room} {}", hex(src)), &answer);
 }
 
-/// Document 01's marked cases, the boundaries, then random ones.
+/// The marked cases of docs/FORMAT.md, the boundaries, then random ones.
 pub fn fill(record: &mut Record, random: &mut Random) {
     marked(record);
     boundaries(record);
@@ -113,7 +113,7 @@ fn marked(record: &mut Record) {
 }
 
 fn boundaries(record: &mut Record) {
-    // The ends of each length in bytes, both signs, with room and without.
+    // The limits of each length in bytes, both signs, with room and without.
     for digits in [6, 13, 20, 27, 31] {
         let last = ((1u32 << digits) - 1) as i32;
         for int in [last, last.wrapping_add(1), !last, !last.wrapping_add(1)] {
@@ -124,7 +124,7 @@ fn boundaries(record: &mut Record) {
             write(record, bytes.len() - 1, 0, int);
         }
     }
-    // Every end inside of an int, and places outside.
+    // Every end inside an int, and places outside.
     let whole = [0x80, 0x80, 0x80, 0x80, 0x01, 0x02];
     for len in 0..whole.len() {
         for at in 0..=len + 1 {
@@ -142,7 +142,7 @@ fn boundaries(record: &mut Record) {
     write(record, 16, 11, i32::MIN);
     write(record, 16, 12, i32::MIN);
     write(record, 16, FAR, i32::MIN);
-    // Each bit of the fifth byte, over either sign.
+    // Each bit of the fifth byte, with either sign.
     for first in [0x80, 0xff] {
         for fifth in [0x00, 0x01, 0x02, 0x04, 0x08, 0x10, 0x20, 0x40, 0x80, 0xff] {
             read(record, &[first, 0x80, 0x80, 0x80, fifth], 0);
@@ -159,7 +159,7 @@ fn boundaries(record: &mut Record) {
             read(record, &bytes, 0);
         }
     }
-    // As many ints as a replay takes, and rooms around it.
+    // As many ints as a replay takes, and rooms close to it.
     for spare in [-64, -1, 0] {
         unpack(record, &[0x40; 64], spare);
         unpack(record, &[0xff; 64], spare);

@@ -1,10 +1,10 @@
-//! Times of a delta that is cut, and of its parts that are received.
+//! Times of cutting a delta, and of receiving its parts.
 //!
-//! The plain rows hold the port's safe calls against the Rust as its users call
+//! The plain rows compare the port's safe calls with the Rust as its users call
 //! it. `each call`: the Rust behind the same C boundary as the port, with the
 //! same outputs filled: kind, numbers, length and the 13 counts. `copies alone`:
-//! in the port's place only what document 01 has it copy, each part into the first
-//! part area and the whole into the second.
+//! instead of the port only the copies that docs/FORMAT.md requires, each part into
+//! the first part area and the whole into the second.
 
 use super::oracle;
 use super::oracle::Call;
@@ -22,7 +22,7 @@ use libtw2_snapshot::snap;
 use libtw2_snapshot::DeltaReceiver;
 use std::hint::black_box;
 
-/// The bytes of a part that is full.
+/// The bytes of a full part.
 const PART_BYTES: usize = 900;
 
 pub fn bench(table: &mut Table) {
@@ -65,7 +65,7 @@ fn cut(table: &mut Table, data: &[u8]) {
     );
 }
 
-/// `cef_chunk` by the Rust, whose iterator takes the place of the number.
+/// `cef_chunk` in Rust, whose iterator replaces the number.
 #[inline(never)]
 extern "C" fn rust_chunk(
     chunks: &mut snap::DeltaChunks<'_>,
@@ -100,7 +100,7 @@ extern "C" fn rust_chunk(
     0
 }
 
-/// Each message by a call; both sides behind the same C boundary.
+/// Each message with a call; both sides behind the same C boundary.
 fn cut_calls(table: &mut Table, data: &[u8]) {
     let (mut kind, mut numbers, mut len) = (0, [0; 5], 0);
     let (mut rust_kind, mut rust_numbers, mut rust_len) = (0, [0; 5], 0);
@@ -168,7 +168,7 @@ fn receive(table: &mut Table, name: &str, len: usize, list: &[Call]) {
     );
 }
 
-/// `cef_receiver_snap` by the Rust, whose areas are its own.
+/// `cef_receiver_snap` in Rust, with its own areas.
 #[inline(never)]
 extern "C" fn rust_snap(
     receiver: &mut DeltaReceiver,
@@ -214,7 +214,7 @@ extern "C" fn rust_snap(
     0
 }
 
-/// What a call of the Rust's side leaves beside its receiver.
+/// What a call of the Rust's side sets beside its receiver.
 struct Left {
     outputs: Outputs,
     warnings: Warnings,
@@ -229,7 +229,7 @@ impl Left {
     }
 }
 
-/// All parts of a delta to the Rust's receiver, each by a call.
+/// All parts of a delta to the Rust's receiver, each with a call.
 fn rust_snaps(rust: &mut DeltaReceiver, parts: &[([i32; 5], &[u8])], left: &mut Left) {
     rust.reset();
     for ([tick, delta_tick, num_parts, part, crc], data) in parts {
@@ -249,7 +249,7 @@ fn rust_snaps(rust: &mut DeltaReceiver, parts: &[([i32; 5], &[u8])], left: &mut 
     }
 }
 
-/// Each part by a call; both sides behind the same C boundary.
+/// Each part with a call; both sides behind the same C boundary.
 fn receive_calls(table: &mut Table, name: &str, len: usize, list: &[Call]) {
     let parts = parts_of(list);
     let (mut rust, mut port) = (DeltaReceiver::new(), Receiver::new());
@@ -276,7 +276,7 @@ fn receive_calls(table: &mut Table, name: &str, len: usize, list: &[Call]) {
     assert!((left.outputs, left.warnings) == (rust_left.outputs, rust_left.warnings));
 }
 
-/// What those calls have to copy and nothing else, beside the Rust's calls.
+/// Only what those calls have to copy, compared with the Rust's calls.
 fn copies(table: &mut Table, name: &str, len: usize, list: &[Call]) {
     let parts = parts_of(list);
     let mut rust = DeltaReceiver::new();

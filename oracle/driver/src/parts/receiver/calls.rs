@@ -1,4 +1,4 @@
-//! Each call on both sides: what was answered, what was set, what was left.
+//! Each call on both sides: the answer, what was set, what was unchanged.
 
 use super::oracle;
 use super::oracle::Call;
@@ -47,17 +47,17 @@ pub fn print(call: &Call) -> String {
     }
 }
 
-/// The port's areas and receiver, with the Rust's beside it.
+/// The port's areas and receiver, and the Rust's.
 pub struct Both {
     rust: DeltaReceiver,
     pub port: Receiver,
     parts: Area<u8>,
     joined: Area<u8>,
-    /// What the two areas are to hold.
+    /// What the two areas must hold.
     held: [Vec<u8>; 2],
 }
 
-/// What the port says.
+/// The port's answer.
 fn port_call(
     receiver: &mut Receiver,
     call: &Call,
@@ -138,8 +138,8 @@ impl Both {
         left("joined", self.joined.check(0, &self.held[1]))
     }
 
-    /// Whether a call that is refused with `number` by the port alone leaves
-    /// all; areas of these lengths are lent.
+    /// Whether a call that the port alone refuses with `number` leaves
+    /// everything unchanged; areas of these lengths are lent.
     pub fn refused(receiver: Receiver, call: &Call, lengths: [usize; 2], number: u32) -> Compared {
         let (mut parts, mut joined) = (Area::new(), Area::new());
         let (mut now, mut outputs) = (receiver, LEFT);
@@ -161,7 +161,7 @@ impl Both {
     }
 }
 
-/// What the outputs hold where the message was taken.
+/// What the outputs hold if the message was taken.
 fn outputs_of(delta: Option<cefdugar::receiver::ReceivedDelta>) -> Outputs {
     match delta {
         None => Outputs { kind: 0, ..LEFT },
@@ -179,7 +179,7 @@ fn outputs_of(delta: Option<cefdugar::receiver::ReceivedDelta>) -> Outputs {
     }
 }
 
-/// The Rust's message as the port has it.
+/// The Rust's message in the port's form.
 fn message(message: msg::SnapMsg<'_>) -> Message<'_> {
     match message {
         msg::SnapMsg::Snap(snap) => Message::Snap {
@@ -203,7 +203,7 @@ fn message(message: msg::SnapMsg<'_>) -> Message<'_> {
     }
 }
 
-/// Some bytes cut into messages by both.
+/// Cuts some bytes into messages on both sides.
 pub fn cut(tick: i32, delta_tick: i32, data: &[u8], crc: i32) -> Compared {
     let mut all: Vec<_> = snap::delta_chunks(tick, delta_tick, data, crc)
         .map(message)
@@ -235,7 +235,7 @@ pub fn cut(tick: i32, delta_tick: i32, data: &[u8], crc: i32) -> Compared {
     Ok(())
 }
 
-/// Bytes that are too many: refused, and all is left.
+/// Too many bytes: refused, and everything is unchanged.
 pub fn too_many(data: &[u8]) -> Compared {
     let (mut kind, mut numbers, mut len) = (LEFT_FLAG, [LEFT_INT; 5], LEFT_SIZE);
     for i in [0, 1, usize::MAX] {

@@ -5,7 +5,7 @@ use crate::core::random::Random;
 use libtw2_gamenet_snap as msg;
 use libtw2_snapshot::snap;
 
-/// Ticks around the ends of the range, and around 0.
+/// Ticks near the ends of the range, and near 0.
 const ENDS: [i32; 9] = [
     i32::MIN,
     i32::MIN + 1,
@@ -64,7 +64,7 @@ pub fn messages_of(tick: i32, base: i32, data: &[u8], crc: i32) -> Vec<Call> {
         .collect()
 }
 
-/// One number of a part is not what it was.
+/// Changes one number of a part.
 pub fn changed(call: &mut Call, random: &mut Random) {
     match call {
         Call::Snap(numbers, data) => {

@@ -95,7 +95,7 @@ fn receive(run: &mut Run, list: &[Call]) -> Result {
 }
 
 /// Receivers out of form, and part areas that are too short: refused by every
-/// call, in this order, and left.
+/// call, in this order, and unchanged.
 fn forms(run: &mut Run) -> Result {
     let fresh = Receiver::new();
     let part = |p| Call::Snap([5, 2, 3, p, 9], vec![1; 901]);
@@ -141,14 +141,14 @@ fn refused(
 /// Receivers that no call leaves.
 pub fn out_of_form(fresh: Receiver) -> Vec<Receiver> {
     let mut list = vec![];
-    // A part is in, and no tick is unfinished.
+    // A part is in while no tick is unfinished.
     let mut one = fresh;
     one.lengths[3] = 900;
     list.push(one);
     one.counts[0] = 7;
     list.push(one);
     // An unfinished tick without a part, with all, with too many, and with too
-    // high a count.
+    // large a count.
     for (count, parts) in [
         (2, 0),
         (1, 1),

@@ -1,4 +1,4 @@
-//! What the Rust says of messages.
+//! The Rust's answers on messages.
 
 use crate::core::oracle::Number;
 use crate::core::oracle::Tally;
@@ -51,7 +51,7 @@ fn said(
     }
 }
 
-/// A part of a delta as the Rust has it.
+/// A part of a delta in the Rust's form.
 pub fn snap<'a>(numbers: &[i32; 5], data: &'a [u8]) -> msg::Snap<'a> {
     let [tick, delta_tick, num_parts, part, crc] = *numbers;
     msg::Snap {
@@ -75,13 +75,13 @@ pub fn single<'a>(numbers: &[i32; 3], data: &'a [u8]) -> msg::SnapSingle<'a> {
     }
 }
 
-/// An empty one.
+/// An empty delta.
 pub fn empty(numbers: &[i32; 2]) -> msg::SnapEmpty {
     let [tick, delta_tick] = *numbers;
     msg::SnapEmpty { tick, delta_tick }
 }
 
-/// What the Rust's receiver says.
+/// The answer of the Rust's receiver.
 pub fn call(receiver: &mut DeltaReceiver, call: &Call) -> Said {
     let mut tally = Tally::default();
     let result = match call {

@@ -1,13 +1,13 @@
-//! Recorded answers of receivers. A case is a call on the receiver that the
-//! cases before it left.
+//! Recorded answers of receivers. A case is a call on the receiver as the
+//! cases before left it.
 //!
 //!     n                              new: a fresh receiver
 //!     r                              reset
 //!     s TICK DIST NUM PART CRC HEX   a part
 //!     i TICK DIST CRC HEX            a single message
-//!     e TICK DIST                    an empty one
+//!     e TICK DIST                    an empty message
 //!
-//! Answers: DUPLICATE DIFFERING, the two counts of warnings, and then `more`
+//! Answers: DUPLICATE DIFFERING, the two warning counts, and then `more`
 //! (not yet), `delta TICK BASE CRC LEN HEX`, `empty TICK BASE`, or
 //! `refused NUMBER`.
 
@@ -65,7 +65,7 @@ fn list(record: &mut Record, calls: &[Call]) {
     }
 }
 
-/// The parts of a delta whose parts are short.
+/// The parts of a delta that has short parts.
 fn parts(random: &mut Random, tick: i32, distance: i32, count: i32) -> Vec<Call> {
     let crc = random.int();
     (0..count)

@@ -82,7 +82,7 @@ impl Controller {
         }
     }
 
-    /// Some things go, some change, some come.
+    /// Removes, changes and adds some things.
     fn change(&mut self, random: &mut Random) {
         let steady = self.steady;
         self.things.retain(|_, _| !random.chance(1, 20));
@@ -143,8 +143,8 @@ impl Controller {
         self.same()
     }
 
-    /// Adds the next table at a tick; the messages that are sent for it, none
-    /// where it is not accepted. Now and then nothing changes.
+    /// Adds the next table at a tick; returns the messages that are sent for it,
+    /// none if it is not accepted. Sometimes nothing changes.
     pub fn tick(&mut self, random: &mut Random, tick: i32) -> Result<Vec<Call>, Shown> {
         if !random.chance(1, 8) {
             self.change(random);
@@ -167,7 +167,7 @@ impl Controller {
         Shown::compare(&(said.number, said.added.clone()), &answer)?;
         self.same()?;
         match said.added {
-            // A store that is full, or tables that clash: a new start.
+            // A full store, or tables that clash: a new start.
             None => {
                 self.set_delta_tick(random.pick(&[-1, tick.wrapping_sub(1)]))?;
                 Ok(vec![])

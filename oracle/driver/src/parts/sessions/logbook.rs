@@ -1,7 +1,7 @@
-//! The logbook of document 01: what a printer's messages alone, without their
-//! bytes, lead to.
+//! The logbook of docs/FORMAT.md: the outcome of a printer's messages without
+//! their bytes.
 
-/// What a message is answered.
+/// The answer to a message.
 #[derive(Clone, Copy, Debug, Eq, PartialEq)]
 pub enum Answer {
     Refused(u32),
@@ -59,7 +59,7 @@ impl Logbook {
         }
         self.complete(tick, base)
     }
-    /// All parts of a tick came.
+    /// Completes a tick whose parts all came.
     fn complete(&mut self, tick: i32, base: i32) -> Answer {
         if base >= 0 {
             self.held.retain(|held| *held >= base);

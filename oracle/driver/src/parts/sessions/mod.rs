@@ -1,5 +1,5 @@
 //! Whole sessions: a controller and a printer, on both sides, on a radio that
-//! loses, doubles and reorders. Beside them goes the logbook of document 01.
+//! loses, doubles and reorders; compared with the logbook of docs/FORMAT.md.
 
 mod controller;
 mod logbook;
@@ -58,7 +58,7 @@ fn compare(run: &mut Run) -> Result<(), Difference> {
     Ok(())
 }
 
-/// How bad the radio is, in parts of 100, and how far it reorders.
+/// How bad the radio is, in percent, and how far it reorders.
 struct Radio {
     loses: usize,
     loses_acks: usize,
@@ -114,7 +114,7 @@ struct Receiving {
     logbook: Logbook,
 }
 
-/// What the logbook is fed of a message.
+/// The numbers of a message for the logbook.
 fn numbers(call: &Call) -> Numbers {
     let (tick, distance, part, count) = match call {
         Call::Snap([tick, distance, count, part, _], _) => (*tick, *distance, *part, *count),
@@ -199,7 +199,7 @@ impl Receiving {
         }
     }
 
-    /// Demand 3: ticks and acknowledgement are the logbook's, and each table
+    /// Demand 3: ticks and acknowledgement equal the logbook's, and each table
     /// is the one that the controller had at its tick.
     fn held(&self, controller: &Controller) -> Compared {
         let store = &self.rust.store;
@@ -215,7 +215,7 @@ impl Receiving {
     }
 }
 
-/// How many items a table has at most, and the ints of both stores' areas.
+/// The most items of a table, and the ints of both stores' areas.
 fn size(random: &mut Random) -> (usize, usize) {
     let most = match random.below(40) {
         0 => 700,
@@ -223,7 +223,7 @@ fn size(random: &mut Random) -> (usize, usize) {
         3..=9 => 60,
         _ => random.pick(&[1, 3, 8, 20]),
     };
-    // Two kinds, and at most 4 ints an item.
+    // Two kinds, and at most 4 ints for each item.
     (most, 101 * (2 + 2 + 6 * (most + 2) + 2 * most))
 }
 
@@ -265,7 +265,7 @@ fn session(random: &mut Random, ticks: usize, messages: &mut u64) -> Compared {
     printer.rust.store.probe()
 }
 
-/// Acknowledgements that come back, now and then an old one; at times the base
+/// Acknowledgements that come back, sometimes an old one; at times the base
 /// is given up, or is one that was never acknowledged.
 fn acknowledge(random: &mut Random, controller: &mut Controller, radio: &mut Radio) -> Compared {
     if random.chance(1, 60) {

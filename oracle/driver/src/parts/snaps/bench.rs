@@ -1,4 +1,4 @@
-//! Times of deltas applied to tables of which one item in twenty changes, of
+//! Times of deltas applied to tables in which one item in twenty changes, of
 //! tables with many kinds, and of building.
 
 use super::area;
@@ -23,7 +23,7 @@ use libtw2_snapshot::snap::Snap;
 use libtw2_snapshot::Delta;
 use std::hint::black_box;
 
-/// A table whose types are numbers, with what becomes of it.
+/// A table whose types are numbers, with its changed form.
 struct Shape {
     name: &'static str,
     size: usize,
@@ -131,7 +131,7 @@ fn apply_typed(rows: &mut Table, shape: &Shape) {
     assert!(out == shape.target && oracle::written(&rust) == out);
 }
 
-/// A table that is built item by item, and finished.
+/// Builds a table item by item and finishes it.
 fn build(rows: &mut Table, shape: &Shape) {
     let mut out = vec![0; shape.base.len()];
     let types: Vec<(TypeId, u16)> = shape
@@ -163,7 +163,7 @@ fn build(rows: &mut Table, shape: &Shape) {
     assert!(out == shape.base && oracle::written(&built) == out);
 }
 
-/// A table with many kinds, read with its types judged.
+/// Reads a table with many kinds, with its types judged.
 fn read_kinds(rows: &mut Table, count: usize, operation: &str, items: Vec<Item>) {
     let ints = area(&items);
     let mut rust = Snap::empty();

@@ -1,5 +1,5 @@
-//! Each call that makes a table on both sides: what was answered, what was
-//! set, what was left.
+//! Each call that makes a table, on both sides: the answer, what was set, what
+//! was unchanged.
 
 use super::oracle;
 use super::oracle::Made;
@@ -31,16 +31,16 @@ const SPARES: [isize; 4] = [0, -1, 3, isize::MIN];
 
 /// A call that makes a table: `out`, scratch, the count, the warnings.
 type Makes<'a> = &'a mut dyn FnMut(&mut [i32], &mut [i32], &mut usize, &mut Warnings) -> u32;
-/// The same, as a Rust program likes it.
+/// The safe form of the same call.
 type SafeMakes<'a> =
     &'a mut dyn FnMut(&mut [i32], &mut [i32]) -> (Result<usize, Refusal>, Warnings);
 /// A call that applies a delta to a base.
 type Applies = fn(&[i32], &[i32], &mut [i32], &mut [i32], &mut usize, &mut Warnings) -> u32;
-/// The same, as a Rust program likes it.
+/// The safe form of the same call.
 type SafeApplies = fn(&[i32], &[i32], &mut [i32], &mut [i32]) -> (Result<usize, Refusal>, Warnings);
 
-/// What the caller is to hold after a table was to be made in `room` ints, and
-/// what is to stand there.
+/// What the caller must hold after a table was to be made in `room` ints, and
+/// what the area must hold.
 fn made_in(said: &Told<Vec<i32>>, room: usize) -> (Counted, &[i32]) {
     match said {
         Told::Value(ints) if ints.len() <= room => (Counted::fits(ints.len(), room), ints),
@@ -56,7 +56,7 @@ pub struct Lent {
 }
 
 impl Lent {
-    /// A table is made in all sorts of room; where it is refused, in two.
+    /// Makes a table in room of all sorts; if it is refused, in two.
     fn compare_made(
         &mut self,
         scratch: usize,
@@ -88,7 +88,7 @@ impl Lent {
     }
 }
 
-/// The port's areas, lent again and again.
+/// The port's areas, lent repeatedly.
 pub struct Calls {
     pub ints: [Area<i32>; 2],
     pub lent: Lent,
@@ -105,7 +105,7 @@ impl Calls {
         }
     }
 
-    /// Applies a delta to a table, with its types judged and without.
+    /// Applies a delta to a table, with and without judging its types.
     pub fn apply(
         &mut self,
         run: &mut Run,

@@ -45,7 +45,7 @@ fn some_kind(random: &mut Random) -> [i32; 4] {
     }
 }
 
-/// Items without the later ones of two with one key.
+/// Items without the later one of two with the same key.
 fn distinct(items: Vec<Item>) -> Vec<Item> {
     let mut result: Vec<Item> = vec![];
     for item in items {
@@ -96,7 +96,7 @@ pub fn items(random: &mut Random) -> Vec<Item> {
     }
     for _ in 0..random.pick(&[1, 1, 2, 4]) {
         let item = kind_item(random);
-        // A kind that is there already comes again with another id.
+        // A kind that is present already comes again with another id.
         items.insert(random.below(items.len() + 1), item);
     }
     for _ in 0..random.pick(&[0, 0, 1, 2]) {
@@ -110,7 +110,7 @@ pub fn items(random: &mut Random) -> Vec<Item> {
     distinct(items)
 }
 
-/// The ints of a delta in form, with keys in any order and doubled ones left
+/// The ints of a delta in form, from keys in any order; repeated ones are left
 /// out.
 pub fn delta(mut deleted: Vec<i32>, updated: Vec<Item>) -> Vec<i32> {
     deleted.sort_unstable();
@@ -120,7 +120,7 @@ pub fn delta(mut deleted: Vec<i32>, updated: Vec<Item>) -> Vec<i32> {
     deltas::inputs::listed(&deleted, &updated)
 }
 
-/// An update of an item: mostly as long, and often without a change.
+/// An update of an item: mostly of the same length, and often without a change.
 fn update(data: &[i32], random: &mut Random) -> Vec<i32> {
     let len = match random.below(16) {
         0 => data.len() + 1,
@@ -135,7 +135,7 @@ fn update(data: &[i32], random: &mut Random) -> Vec<i32> {
 }
 
 /// A delta in form to a table: some of its items are deleted, some updated,
-/// some both, and some keys are not the table's.
+/// some both, and some keys are not in the table.
 pub fn delta_to(base: &[Item], random: &mut Random) -> Vec<i32> {
     let [deletes, updates] = random.pick(&[[0, 3], [1, 3], [3, 1], [2, 2], [6, 6]]);
     let (mut deleted, mut updated) = (vec![], vec![]);

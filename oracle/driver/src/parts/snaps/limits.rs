@@ -1,4 +1,4 @@
-//! Tables at the most items, the most ints and the most kinds.
+//! Tables with the most items, the most ints and the most kinds.
 
 use super::area;
 use super::everything;
@@ -23,7 +23,7 @@ pub fn ordinals(count: usize, ints: usize) -> Vec<Item> {
         .collect()
 }
 
-/// A kind of its own for each number.
+/// A separate kind for each number.
 pub fn numbered_kind(i: usize) -> [i32; 4] {
     [1, -(i as i32 % 3), 0x0700_0000 - i as i32 % 50, i as i32]
 }
@@ -40,7 +40,7 @@ pub fn kinds_from(first: u16, count: usize) -> Vec<Item> {
 }
 
 /// Bases and deltas whose result has about as many items or ints as a table
-/// may have; what is too much comes before and behind what clashes.
+/// may have; what is too much comes before and after what clashes.
 pub fn applied(run: &mut Run, calls: &mut Calls) -> Result {
     for count in [1_022, 1_023, 1_024] {
         for ints in [0, 4 * count, 16_380 - 2 * count, 16_382 - 2 * count] {
@@ -56,7 +56,7 @@ pub fn applied(run: &mut Run, calls: &mut Calls) -> Result {
             }
         }
     }
-    // All of a table by updates alone.
+    // A whole table by updates alone.
     for (count, ints) in [
         (1_023, 0),
         (1_024, 0),
@@ -80,7 +80,7 @@ pub fn applied(run: &mut Run, calls: &mut Calls) -> Result {
 }
 
 /// A delta with some deleted keys of a table and some new ones; the same with
-/// an update that clashes, before and behind these, and with a deleted key
+/// an update that clashes, before and after these, and with a deleted key
 /// that is updated.
 fn at_limit(
     run: &mut Run,
@@ -117,7 +117,7 @@ fn at_limit(
     Ok(())
 }
 
-/// Builders at the most items and the most ints, also in areas where the item
+/// Builders with the most items and the most ints, also in areas where the item
 /// that names a new kind has no room: 9 and 8 of the other come before 40.
 pub fn built(run: &mut Run, calls: &mut Calls) -> Result {
     for count in [1_020, 1_022, 1_023, 1_024] {
@@ -153,7 +153,7 @@ pub fn built(run: &mut Run, calls: &mut Calls) -> Result {
     Ok(())
 }
 
-/// Many kinds: read and asked, with ids on both sides of 8000 hex and the last
+/// Many kinds: read and looked up, with ids on both sides of 8000 hex and the last
 /// ones doubled or missing; built, until a table is full.
 pub fn kinds(run: &mut Run, calls: &mut Calls) -> Result {
     for (first, count) in [(0x4000, 511), (0x4000, 512), (0x7f00, 512), (0xff00, 255)] {

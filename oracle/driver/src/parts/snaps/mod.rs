@@ -1,4 +1,4 @@
-//! Tables with types: deltas applied, types judged and asked for, builders.
+//! Tables with types: deltas applied, types judged and looked up, builders.
 
 mod bench;
 mod building;
@@ -78,7 +78,7 @@ fn area(items: &[Item]) -> Vec<i32> {
     tables::inputs::listed(&sorted(items))
 }
 
-/// Reads a table in the order of its items, and asks everything of it.
+/// Reads a table in the order of its items, and makes all queries of it.
 fn everything(run: &mut Run, calls: &mut Calls, items: &[Item]) -> Result {
     let ints = tables::inputs::listed(items);
     calls.read_ints(run, &ints, SCRATCH)?;
@@ -89,8 +89,8 @@ fn everything(run: &mut Run, calls: &mut Calls, items: &[Item]) -> Result {
     calls.area(run, &area)
 }
 
-/// An item of a kind and, with its id, one of type 0: of these the Rust's
-/// table that was read gives the second, and the port the first.
+/// An item of a kind and one of type 0 with the same id: of these, the Rust's
+/// table that was read returns the second, and the port the first.
 fn filed_under_zero(run: &mut Run, calls: &mut Calls) -> Result {
     let items = [
         (key(0, 0x4000), KINDS[1].to_vec()),
@@ -113,8 +113,8 @@ fn filed_under_zero(run: &mut Run, calls: &mut Calls) -> Result {
     everything(run, calls, &items)
 }
 
-/// All tables of up to two items over four keys, two of them kinds', with up
-/// to one int; to each, all deltas of up to two deleted keys and two updates.
+/// All tables of up to two items with four keys, two of them of kinds, with up
+/// to one int; for each, all deltas of up to two deleted keys and two updates.
 fn few_deltas(run: &mut Run, calls: &mut Calls) -> Result {
     const KEYS: [i32; 4] = [0x4000, 0x1_0003, 0x4000_0001, -0x8000_0000];
     let mut lists: Vec<Vec<Item>> = vec![];
@@ -145,7 +145,7 @@ fn few_deltas(run: &mut Run, calls: &mut Calls) -> Result {
     Ok(())
 }
 
-/// All tables over three items of type 0, each absent, short, of two kinds or
+/// All tables with three items of type 0, each absent, short, of two kinds or
 /// long, and items of four types.
 fn few_types(run: &mut Run, calls: &mut Calls) -> Result {
     let long = [&KINDS[1][..], &[9]].concat();
@@ -175,8 +175,8 @@ fn few_types(run: &mut Run, calls: &mut Calls) -> Result {
     Ok(())
 }
 
-/// Adds items one by one in areas of as much room as the whole takes, less and
-/// more.
+/// Adds items one by one in areas with as much room as the whole takes, less
+/// and more.
 fn builds(run: &mut Run, calls: &mut Calls, adds: &[(TypeId, u16, Vec<i32>)]) -> Result {
     let mut whole = vec![0; 2_000];
     for (type_id, id, data) in adds {
@@ -195,7 +195,7 @@ fn builds(run: &mut Run, calls: &mut Calls, adds: &[(TypeId, u16, Vec<i32>)]) ->
     Ok(())
 }
 
-/// All lists of up to three items over a few types, with two ids.
+/// All lists of up to three items of a few types, with two ids.
 fn few_builds(run: &mut Run, calls: &mut Calls) -> Result {
     let types = [
         TypeId::Ordinal(0),
@@ -219,7 +219,7 @@ fn few_builds(run: &mut Run, calls: &mut Calls) -> Result {
     Ok(())
 }
 
-/// Inputs and scratch around the lengths that are judged; areas out of form.
+/// Inputs and scratch of about the lengths that are judged; areas out of form.
 fn lengths(run: &mut Run, calls: &mut Calls) -> Result {
     let good = area(&[(key(0, 0x4000), KINDS[1].to_vec()), (0x4000_0001, vec![5])]);
     let delta = inputs::delta(vec![0x4000_0001], vec![(0x4000_0002, vec![7, 8])]);
@@ -265,7 +265,7 @@ fn random_deltas(run: &mut Run, calls: &mut Calls, random: &mut Random) -> Resul
     Ok(())
 }
 
-/// Random tables read and asked, as they are and damaged.
+/// Random tables, read and queried, unchanged and damaged.
 fn random_tables(run: &mut Run, calls: &mut Calls, random: &mut Random) -> Result {
     for _ in 0..60 {
         let mut items = inputs::items(random);

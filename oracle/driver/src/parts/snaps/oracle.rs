@@ -1,7 +1,7 @@
-//! What the Rust says of types, of builders and of deltas that are applied,
-//! and document 01 where the Rust has no such call: a table is a builder's
-//! where the Rust's builder builds it, and the number of a kind is the id of
-//! the item of type 0 that names it.
+//! The Rust's answers on types, builders and applied deltas, or those of
+//! docs/FORMAT.md if the Rust has no such call: a table is a builder's if the
+//! Rust's builder builds it, and the number of a kind is the id of the item of
+//! type 0 that names it.
 
 use crate::core::counted::Counted;
 use crate::core::oracle::Number;
@@ -71,7 +71,7 @@ pub fn read(src: &[u8], scratch: usize) -> Made {
     })
 }
 
-/// The table with types of an area, where these are sound.
+/// The table with types of an area, if these are sound.
 pub fn held(area: &[i32]) -> Option<Snap> {
     tables::oracle::held(area)?;
     let mut snap = Snap::empty();
@@ -79,7 +79,7 @@ pub fn held(area: &[i32]) -> Option<Snap> {
     Some(snap)
 }
 
-/// A base and a delta of areas, or the number of the refusal.
+/// The base and the delta of two areas, or the number of the refusal.
 fn judged(base: &[i32], delta: &[i32], scratch: usize) -> Result<(RawSnap, Delta), u32> {
     let base = tables::oracle::held(base).ok_or(47u32)?;
     let delta = deltas::oracle::held(delta).ok_or(47u32)?;
@@ -89,7 +89,7 @@ fn judged(base: &[i32], delta: &[i32], scratch: usize) -> Result<(RawSnap, Delta
     Ok((base, delta))
 }
 
-/// Whether an update is of a kept item of another length.
+/// Whether an update is of a kept item with another length.
 fn clashes(base: &RawSnap, delta: &[i32]) -> bool {
     let (deleted, updated, _) = deltas::inputs::taken_apart(delta).expect("a delta's ints");
     updated.iter().any(|(key, data)| {
@@ -99,7 +99,7 @@ fn clashes(base: &RawSnap, delta: &[i32]) -> bool {
     })
 }
 
-/// 10 where the Rust panics on an update of a kept item of another length, and
+/// 10 if the Rust panics on an update of a kept item with another length, and
 /// on nothing else.
 fn settled((said, warnings): Made, base: &RawSnap, delta: &[i32]) -> Made {
     match said {
@@ -122,8 +122,8 @@ pub fn applied(base: &[i32], delta: &[i32], scratch: usize) -> Made {
     settled(made, &from, delta)
 }
 
-/// A delta applied to a table, and the types of the result judged. Where those
-/// of the base are not sound, the Rust can't hold it as a `Snap`: it then
+/// A delta applied to a table, and the types of the result judged. If those of
+/// the base are not sound, the Rust cannot hold it as a `Snap`: it then
 /// applies the delta, and reads the result.
 pub fn applied_typed(base: &[i32], delta: &[i32], scratch: usize) -> Made {
     let (from, changes) = match judged(base, delta, scratch) {
@@ -154,7 +154,7 @@ pub fn kind_of(data: &[i32]) -> Option<Kind> {
     Some(uuid.into_bytes())
 }
 
-/// A type as the Rust has it.
+/// A type in the Rust's form.
 pub fn rust_type(type_id: TypeId) -> format::TypeId {
     match type_id {
         TypeId::Ordinal(ordinal) => format::TypeId::Ordinal(ordinal),
@@ -166,7 +166,7 @@ pub fn rust_type(type_id: TypeId) -> format::TypeId {
     }
 }
 
-/// A type of the Rust's.
+/// A type of the Rust's in the port's form.
 pub fn port_type(type_id: format::TypeId) -> TypeId {
     match type_id {
         format::TypeId::Ordinal(ordinal) => TypeId::Ordinal(ordinal),
@@ -179,7 +179,7 @@ pub fn kind_items(raw: &RawSnap) -> impl Iterator<Item = RawItem<'_>> {
     raw.items().filter(|item| item.raw_type_id == 0)
 }
 
-/// The raw type of a type, or 45 where the Rust panics.
+/// The raw type of a type, or 45 if the Rust panics.
 pub fn raw_type_id(raw: &RawSnap, type_id: TypeId) -> Result<Option<u16>, u32> {
     match type_id {
         TypeId::Ordinal(ordinal) => {
@@ -208,15 +208,15 @@ pub fn type_id(raw: &RawSnap, raw_type_id: u16) -> Option<TypeId> {
     }
 }
 
-/// Gives a builder a kind and none of its items: an item that is longer than
-/// any table leaves its kind behind.
+/// Adds a kind to a builder without any of its items: an item that is longer
+/// than any table leaves its kind in the builder.
 fn give_kind(builder: &mut Builder, kind: Kind) {
     static LONGER: [i32; table::INTS] = [0; table::INTS];
     let said = builder.add_item(rust_type(TypeId::Uuid(kind)), 0, &LONGER);
     assert!(said.is_err());
 }
 
-/// A builder that was given the kinds and the items of a table.
+/// A builder with the kinds and the items of a table.
 fn given(raw: &RawSnap) -> Option<Builder> {
     let mut builder = Builder::new();
     for item in kind_items(raw) {
@@ -239,7 +239,7 @@ pub fn builder(area: &[i32]) -> Option<Builder> {
     given(&raw)
 }
 
-/// An area with ints laid over its front, where they fit.
+/// An area with ints written over its front, if they fit.
 fn laid(area: &[i32], ints: &[i32]) -> Vec<i32> {
     let mut result = area.to_vec();
     if let Some(front) = result.get_mut(..ints.len()) {
@@ -248,7 +248,7 @@ fn laid(area: &[i32], ints: &[i32]) -> Vec<i32> {
     result
 }
 
-/// 45 where the Rust panics on a number, and on nothing else.
+/// 45 if the Rust panics on a number, and on nothing else.
 fn panicked(type_id: TypeId) -> u32 {
     match type_id {
         TypeId::Ordinal(_) => 45,
@@ -256,8 +256,8 @@ fn panicked(type_id: TypeId) -> u32 {
     }
 }
 
-/// What is answered where an item is to be added to a builder's table, and
-/// what its area holds then.
+/// The answer for adding an item to a builder's table, and what its area holds
+/// afterwards.
 pub fn added(area: &[i32], type_id: TypeId, id: u16, data: &[i32]) -> (Counted, Vec<i32>) {
     let Some(mut adding) = builder(area) else {
         return (Counted::refused(47), area.to_vec());
@@ -272,7 +272,7 @@ pub fn added(area: &[i32], type_id: TypeId, id: u16, data: &[i32]) -> (Counted, 
             (Counted::fits(ints.len(), area.len()), ints)
         }
         Told::Value(()) => (Counted::refused(40), with_kind(area, type_id)),
-        // An item that names a new kind is left behind where it has room.
+        // An item that names a new kind stays if it has room.
         Told::Refused(number) => (Counted::refused(number), ints),
         Told::Panicked => (Counted::refused(panicked(type_id)), ints),
     };

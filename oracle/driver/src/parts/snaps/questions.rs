@@ -1,4 +1,4 @@
-//! What is asked of the types of an area, on both sides.
+//! Queries about the types of an area, on both sides.
 
 use super::calls::Calls;
 use super::inputs;
@@ -30,10 +30,10 @@ use cefdugar::Refusal;
 use libtw2_snapshot::snap::RawSnap;
 use libtw2_snapshot::snap::Snap;
 
-/// What a lent raw type holds at first.
+/// The initial value of a lent raw type.
 const LEFT_TYPE: u16 = 0x5a17;
 
-/// A type with a flag of its own, and with numbers where none are looked at.
+/// A type with its own flag, and with numbers in the fields that are not read.
 fn flagged(type_id: TypeId) -> Type {
     let mut plain = type_id.plain();
     match type_id {
@@ -46,8 +46,8 @@ fn flagged(type_id: TypeId) -> Type {
     plain
 }
 
-/// A table, as far as the Rust has it: as it is read, where its types are
-/// sound, and as it is built, where a builder builds it.
+/// A table, as far as the Rust holds it: as it is read, if its types are
+/// sound, and as it is built, if a builder builds it.
 pub struct Held {
     pub raw: RawSnap,
     read: Option<Snap>,
@@ -63,7 +63,7 @@ impl Held {
         })
     }
     /// The data of an item, or 45. A table that was read has its kinds under
-    /// 0, so that for these the one that was built is asked, or the raw one.
+    /// 0; so for these the built one is asked, or the raw one.
     pub fn item(&self, type_id: TypeId, id: u16) -> Result<Option<&[i32]>, u32> {
         let raw_type_id = oracle::raw_type_id(&self.raw, type_id)?;
         let typed = match type_id {
@@ -76,7 +76,7 @@ impl Held {
             (None, None) => None,
         })
     }
-    /// The types to ask for: the table's, those near to them, and others.
+    /// The types to ask for: the table's, similar ones, and others.
     fn types(&self) -> Vec<TypeId> {
         let mut types: Vec<TypeId> = TYPES.map(TypeId::Ordinal).into();
         types.extend(KINDS.map(inputs::kind));
@@ -103,7 +103,7 @@ impl Held {
     }
 }
 
-/// At most so many of a list, over all of it.
+/// At most so many entries of a list, spread over all of it.
 fn some<T: PartialEq>(mut list: Vec<T>, most: usize) -> impl Iterator<Item = T> {
     list.dedup();
     let step = list.len().div_ceil(most).max(1);
@@ -111,7 +111,7 @@ fn some<T: PartialEq>(mut list: Vec<T>, most: usize) -> impl Iterator<Item = T> 
 }
 
 impl Calls {
-    /// Asks everything of an area.
+    /// Makes all queries of an area.
     pub fn area(&mut self, run: &mut Run, area: &[i32]) -> Result<(), Difference> {
         let compared = self.compare_area(area);
         run.case(
@@ -157,7 +157,7 @@ impl Calls {
         compare_type_id(area, 0x4000, Err(47))
     }
 
-    /// Whether there is an item, and its data in all sorts of room.
+    /// Whether there is an item, and its data in room of all sorts.
     fn compare_item(
         &mut self,
         area: &[i32],
@@ -220,7 +220,7 @@ fn compare_type_id(area: &[i32], raw_type_id: u16, found: Result<Option<TypeId>,
     Shown::compare(&found.map_err(Refusal), &snap::type_id(area, raw_type_id))
 }
 
-/// The types that the Rust gives with the items of a table that was read.
+/// The types that the Rust returns with the items of a table that was read.
 fn compare_typed_items(area: &[i32], raw: &RawSnap, read: &Snap) -> Compared {
     let raw_items = raw.items().filter(|item| item.raw_type_id != 0);
     let step = raw.items().len() / 24 + 1;
@@ -231,8 +231,8 @@ fn compare_typed_items(area: &[i32], raw: &RawSnap, read: &Snap) -> Compared {
     Ok(())
 }
 
-/// The Rust files each kind of a table that was read under 0, and so looks
-/// among the items of type 0; the port gives the id of the item that names it.
+/// The Rust stores each kind of a table that was read under 0, and so looks
+/// among the items of type 0; the port returns the id of the item that names it.
 fn compare_filed(area: &[i32], raw: &RawSnap, read: &Snap) -> Compared {
     for named in kind_items(raw).take(8) {
         let kind = TypeId::Uuid(kind_of(named.data).expect("sound types"));

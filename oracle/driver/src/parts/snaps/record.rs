@@ -1,13 +1,13 @@
-//! Recorded answers on types, builders and deltas that are applied. An area of
+//! Recorded answers on types, builders and applied deltas. An area of
 //! ROOM entries is lent. TYPE is six ints: whether the type is a kind, its
-//! number, and the four ints of the kind. COUNTS are the five counts of
-//! warnings that these calls can tell, in their order.
+//! number, and the four ints of the kind. COUNTS are the five warning counts
+//! that these calls can give, in their order.
 //!
 //!     r ROOM LEN INT.. INT..     COUNT COUNTS INT.., or refused NUMBER COUNTS
 //!                                (a base of LEN ints, a delta)
 //!     d ROOM LEN INT.. INT..     the same, with types judged
-//!     i ROOM INT..               the same of ints that are read
-//!     p ROOM HEX                 the same of packed ints
+//!     i ROOM INT..               the same for ints that are read
+//!     p ROOM HEX                 the same for packed ints
 //!     n TYPE INT..               raw NUMBER, none, or refused NUMBER
 //!     t RAW INT..                number NUMBER, kind INT INT INT INT, none, or
 //!                                refused NUMBER
@@ -53,7 +53,7 @@ fn type_text(type_id: TypeId) -> String {
     }
 }
 
-/// The room, and what a table that is made comes to in it.
+/// The room, and the result of making a table in it.
 fn was_made((said, warnings): &Made, spare: isize) -> (usize, String) {
     let counts: String = [
         Warnings::OVERLONG_INT_ENCODING,
@@ -184,8 +184,8 @@ pub fn fill(record: &mut Record, random: &mut Random) {
     random_cases(record, random);
 }
 
-/// Deleted keys and updates for a table of a kind, an item of it, and one whose
-/// type is a number.
+/// Deleted keys and updates for a table with a kind, an item of that kind, and
+/// an item whose type is a number.
 fn changes() -> [(Vec<i32>, Vec<Item>); 16] {
     let [kept, of_kind, named] = [key(1, 3), key(0x4000, 1), key(0, 0x4000)];
     [
@@ -208,7 +208,7 @@ fn changes() -> [(Vec<i32>, Vec<Item>); 16] {
     ]
 }
 
-/// These deltas to such a table and to the empty one.
+/// These deltas applied to such a table and to the empty one.
 fn deltas(record: &mut Record) {
     let base = area(&[
         (key(0, 0x4000), KINDS[1].to_vec()),
@@ -269,7 +269,7 @@ fn type_tables() -> [Vec<Item>; 9] {
     ]
 }
 
-/// Reads these tables and asks everything of them.
+/// Reads these tables and makes all queries of them.
 fn types(record: &mut Record) {
     for items in &type_tables() {
         let area = area(items);

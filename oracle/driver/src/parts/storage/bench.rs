@@ -1,4 +1,4 @@
-//! Times of a table that is added to a store, one item in twenty changed.
+//! Times of adding a table to a store, with one item in twenty changed.
 
 use super::inputs::key;
 use super::inputs::table_of;
@@ -23,7 +23,7 @@ pub fn items(count: usize) -> Vec<Item> {
         .collect()
 }
 
-/// Tables of so many items, each of which has one item in twenty other than
+/// Tables of so many items, each of which differs in one item in twenty from
 /// the one before; one more than `held`.
 pub fn tables(count: usize, held: usize) -> Vec<Vec<i32>> {
     let mut items = items(count);
@@ -43,7 +43,7 @@ pub fn bench(table: &mut Table) {
     }
 }
 
-/// The table of a tick, of those that come round and round.
+/// The table of a tick, of tables in rotation.
 pub fn at<T>(tables: &[T], tick: i32) -> &T {
     &tables[tick as usize % tables.len()]
 }
@@ -72,7 +72,7 @@ impl Rust {
     }
 }
 
-/// The port's, and its areas.
+/// The port's store, and its areas.
 struct Port {
     store: Storage,
     tick: i32,
@@ -97,7 +97,7 @@ impl Port {
     }
 }
 
-/// So many tables are held, the oldest is the base, and one more is added.
+/// Adds one more table while so many are held; the oldest is the base.
 fn add_snap(rows: &mut Table, count: usize, held: usize) {
     let tables = tables(count, held);
     let snap = |table: &Vec<i32>| snap_of(table).expect("a table");

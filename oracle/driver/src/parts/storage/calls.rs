@@ -1,4 +1,4 @@
-//! Each call on both sides: what was answered, what was set, what was left.
+//! Each call on both sides: the answer, what was set, what was unchanged.
 
 use super::oracle::Call;
 use super::oracle::Said;
@@ -86,7 +86,7 @@ const LEFT: Outputs = Outputs {
 };
 const LEFT_WARNINGS: Warnings = Warnings([LEFT_SIZE; cefdugar::WARNINGS]);
 
-/// The port's areas, lent again and again.
+/// The port's areas, lent repeatedly.
 pub struct Areas {
     area: Area<i32>,
     delta: Area<i32>,
@@ -94,10 +94,10 @@ pub struct Areas {
     out: Area<i32>,
 }
 
-/// What the port says: the number, the outputs of `add_snap` and the counts.
+/// The port's answer: the number, the outputs of `add_snap` and the counts.
 type Told = (u32, Outputs, Warnings);
 
-/// What the store tells of itself: its count and both ticks.
+/// The store's own numbers: its count and both ticks.
 pub fn rows(storage: &Storage) -> (usize, Option<i32>, Option<i32>) {
     (
         storage.num_snaps(),
@@ -106,8 +106,8 @@ pub fn rows(storage: &Storage) -> (usize, Option<i32>, Option<i32>) {
     )
 }
 
-/// The same store in other numbers: any flag but 0 says yes, and a tick that
-/// is not there can be any.
+/// The same store in other numbers: any flag but 0 means yes, and an absent
+/// tick can be any.
 pub fn disguised(mut storage: Storage, number: usize) -> Storage {
     if number % 3 > 0 {
         return storage;
@@ -165,8 +165,8 @@ impl Areas {
         };
         (number, outputs, warnings)
     }
-    /// What the areas are to hold: the store's, the delta's front, and zeros
-    /// in scratch where the call has any.
+    /// What the areas must hold: the store's, the delta's front, and zeros
+    /// in scratch if the call has any.
     fn check(&self, call: &Call, area: &[i32], delta: &[i32]) -> Compared {
         left("area", self.area.check(0, area))?;
         left("delta", self.delta.check(0, delta))?;
@@ -197,8 +197,8 @@ impl Areas {
         }
         Ok(())
     }
-    /// Whether a call that the port alone refuses leaves all: the store, the
-    /// area, and what else is lent.
+    /// Whether a call that the port alone refuses leaves everything unchanged: the
+    /// store, the area, and what else is lent.
     pub fn refused(
         &mut self,
         storage: Storage,
@@ -213,7 +213,7 @@ impl Areas {
         Shown::compare(&storage, &now)?;
         self.check(call, area, &[])
     }
-    /// Looking into a store out of form: 47, and no table.
+    /// Looking up in a store out of form: 47, and no table.
     pub fn unseen(&mut self, storage: &Storage, area: &[i32]) -> Compared {
         for i in [0, 1, usize::MAX] {
             let (mut tick, mut end, mut count) = (LEFT_INT, LEFT_FLAG, LEFT_SIZE);
@@ -227,14 +227,14 @@ impl Areas {
     }
 }
 
-/// The port's store, with the Rust's beside it.
+/// The port's store and the Rust's.
 pub struct Both {
     pub store: Store,
     pub port: Storage,
     calls: usize,
 }
 
-/// What the port is to set.
+/// What the port must set.
 fn expected(said: &Said, port: &Outputs) -> Outputs {
     match &said.added {
         Some((base, ints)) => Outputs {
@@ -242,7 +242,7 @@ fn expected(said: &Said, port: &Outputs) -> Outputs {
             count: ints.len(),
             clash: LEFT_INT,
         },
-        // Which of the keys is told is not settled.
+        // Which of the keys is returned is not determined.
         None if said.number == 10 && said.clashes.contains(&port.clash) => Outputs {
             clash: port.clash,
             ..LEFT

@@ -23,7 +23,7 @@ pub fn key(raw_type_id: i32, id: i32) -> i32 {
     raw_type_id << 16 | id
 }
 
-/// Items with sound types, distinct keys, and mostly one length a type.
+/// Items with sound types, distinct keys, and mostly one length for each type.
 pub fn items(random: &mut Random, most: usize) -> Vec<Item> {
     let mut items: Vec<Item> = vec![];
     let kinds = random.pick(&[0, 0, 0, 1, 3]);
@@ -87,7 +87,7 @@ pub fn related(table: &[i32], random: &mut Random) -> Vec<i32> {
     table_of(&items)
 }
 
-/// What sort of list: what each call is how often, and which bases.
+/// The sort of list: how often each call comes, and which bases.
 #[derive(Clone, Copy)]
 pub struct Mood {
     /// Of 20 calls: `add_delta`, `add_snap`, `set_delta_tick`; the rest is
@@ -95,7 +95,7 @@ pub struct Mood {
     parts: [usize; 3],
     /// Whether the base is mostly the oldest table, so that many stay.
     hoards: bool,
-    /// How many items a table has, about.
+    /// About how many items a table has.
     most: usize,
 }
 
@@ -155,7 +155,7 @@ fn call(random: &mut Random, store: &Store, tick: i32, mood: Mood) -> Call {
     }
 }
 
-/// A base: held, dropped, next to one that is held, negative, any.
+/// A base: held, dropped, next to a held one, negative, any.
 fn base(random: &mut Random, store: &Store, tick: i32, mood: Mood) -> i32 {
     let held = &store.held;
     let oldest = held.last().map_or(-1, |(tick, _)| *tick);
@@ -178,7 +178,7 @@ fn base(random: &mut Random, store: &Store, tick: i32, mood: Mood) -> i32 {
     }
 }
 
-/// Where a delta can be made, it is mostly one for its base; its sum is mostly
+/// If a delta can be made, it is mostly one for its base; its sum is mostly
 /// right.
 fn add_delta(random: &mut Random, store: &Store, tick: i32, mood: Mood) -> Call {
     let base = base(random, store, tick, mood);

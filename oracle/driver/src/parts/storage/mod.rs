@@ -138,7 +138,7 @@ fn out_of_form(run: &mut Run, areas: &mut Areas, storage: Storage, area: &[i32])
     )
 }
 
-/// The tables of an area with a count, where it is in form.
+/// The tables of an area with a count, if it is in form.
 fn held(count: u32, area: &[i32]) -> Option<Vec<Held>> {
     let mut list = vec![];
     let mut rest = area;
@@ -157,8 +157,8 @@ fn held(count: u32, area: &[i32]) -> Option<Vec<Held>> {
     (count <= 100 && rest.iter().all(|int| *int == 0)).then_some(list)
 }
 
-/// The area that a list of calls left, with something in it changed, or with
-/// another count: out of form mostly, and then refused by all calls.
+/// The area that a list of calls left, with a change in it, or with
+/// another count: mostly out of form, and then refused by all calls.
 fn damaged(run: &mut Run, areas: &mut Areas, random: &mut Random, both: &Both) -> Result {
     for _ in 0..4 {
         let mut area = both.store.area(both.store.len() + random.below(3));
@@ -175,7 +175,7 @@ fn damaged(run: &mut Run, areas: &mut Areas, random: &mut Random, both: &Both) -
     Ok(())
 }
 
-/// Areas that are not as they should be.
+/// Areas that are out of form.
 fn forms(run: &mut Run, areas: &mut Areas) -> Result {
     let one = Storage {
         ticks: [5, 6],
@@ -200,7 +200,7 @@ fn forms(run: &mut Run, areas: &mut Areas) -> Result {
     short_scratch(run, areas, (one, &good))
 }
 
-/// 41 comes behind 47.
+/// 41 comes after 47.
 fn short_scratch(run: &mut Run, areas: &mut Areas, store: (Storage, &[i32])) -> Result {
     for (delta, number) in [(&[0, 0, 0][..], 41), (&[0, 0, 1], 47), (&[], 47)] {
         let call = Call::AddDelta {
@@ -223,7 +223,7 @@ fn many(count: usize, ints: usize) -> Vec<tables::oracle::Item> {
         .collect()
 }
 
-/// Tables at the most items and ints, which a delta would pass.
+/// Tables with the most items and ints, which a delta would exceed.
 fn limits(run: &mut Run, areas: &mut Areas) -> Result {
     let add = |base, tick, delta: &[i32]| Call::AddDelta {
         crc: None,

@@ -1,8 +1,8 @@
-//! What the Rust says of a store, and document 01 where the Rust has no such
-//! limit: 100 tables for `add_snap`, and an area's room.
+//! The Rust's answers on a store, or those of docs/FORMAT.md if the Rust has no
+//! such limit: 100 tables for `add_snap`, and an area's room.
 //!
-//! The Rust shows only the newest table, so that the tables held are noted
-//! beside it; [`Store::probe`] asks the Rust whether it holds them.
+//! The Rust shows only the newest table, so the tables held are noted
+//! separately; [`Store::probe`] asks the Rust whether it holds them.
 
 use crate::core::oracle::Number;
 use crate::core::oracle::Tally;
@@ -40,14 +40,14 @@ pub enum Call {
     Reset,
 }
 
-/// What a call answers.
+/// The answer of a call.
 #[derive(Clone, Debug, Default, Eq, PartialEq)]
 pub struct Said {
     pub number: u32,
     pub warnings: Warnings,
-    /// Of a table that was added: the tick of its base, and its delta.
+    /// For a table that was added: the tick of its base, and its delta.
     pub added: Option<(i32, Vec<i32>)>,
-    /// Where a table is refused with 10: the keys that clash.
+    /// If a table is refused with 10: the keys that clash.
     pub clashes: Vec<i32>,
 }
 
@@ -61,11 +61,11 @@ pub struct Store {
     pub held: Vec<Held>,
 }
 
-/// The table of an area, its types not judged.
+/// The table of an area, without judging its types.
 pub fn snap_of(area: &[i32]) -> Option<Snap> {
     let raw = tables::oracle::held(area)?;
     let mut snap = Snap::empty();
-    // A table whose types are not sound is refused, and yet there.
+    // A table whose types are not sound is refused, but still held.
     let _ = snap.read_from_ints(&mut Tally::default(), &tables::oracle::written(&raw));
     Some(snap)
 }
@@ -81,8 +81,8 @@ pub fn written(snap: &Snap) -> Vec<i32> {
     out
 }
 
-/// The ints of a delta that no base makes a table of: an item of type 0 that
-/// has no data.
+/// The ints of a delta that makes no table from any base: an item of type 0
+/// that has no data.
 pub const REFUSED: [i32; 6] = [0, 1, 0, 0, 0, 0];
 
 /// The delta of some ints.
@@ -120,7 +120,7 @@ impl Store {
     pub fn len(&self) -> usize {
         ints_of(&self.held)
     }
-    /// An area of `len` ints with the tables, and zeros behind them.
+    /// An area of `len` ints with the tables, and zeros after them.
     pub fn area(&self, len: usize) -> Vec<i32> {
         let mut area = Vec::with_capacity(len);
         for (tick, table) in &self.held {
@@ -138,8 +138,8 @@ impl Store {
         let (_, table) = self.held.iter().rev().find(|(other, _)| *other == tick)?;
         Some(table)
     }
-    /// How many ints the tables take after a call that all areas have room
-    /// for, and how many its delta takes.
+    /// How many ints the tables take after a call for which all areas have room,
+    /// and how many its delta takes.
     pub fn needs(&self, call: &Call) -> [usize; 2] {
         let mut after = self.clone();
         let said = match call {
@@ -150,7 +150,7 @@ impl Store {
         [after.len(), delta]
     }
 
-    /// A call where the area has `room` ints.
+    /// A call if the area has `room` ints.
     pub fn call(&mut self, call: &Call, room: usize) -> Said {
         match call {
             Call::AddDelta {
@@ -179,8 +179,8 @@ impl Store {
         }
     }
 
-    /// Where the table has no room, the Rust's store is left as a delta leaves
-    /// it that is refused once the tables are dropped.
+    /// If the table has no room, the Rust's store is left as by a delta that
+    /// is refused after the tables are dropped.
     pub fn add_delta(
         &mut self,
         crc: Option<i32>,
@@ -196,7 +196,7 @@ impl Store {
             let said = self.rust.add_delta(&mut tally, crc, base, tick, delta);
             said.map(written).map_err(|error| error.number())
         });
-        // It panics at an update of a kept item of another length.
+        // It panics at an update of a kept item with another length.
         let mut said = match told {
             Told::Panicked => refused(10),
             _ => refused(told.number()),
@@ -220,7 +220,7 @@ impl Store {
         said
     }
 
-    /// Drops what is older than a base, and refuses what comes then.
+    /// Drops the tables older than a base, and refuses what follows.
     fn refuse(&mut self, base: i32, tick: i32) {
         let delta = delta_of(&REFUSED);
         let said = told(|| {

@@ -1,17 +1,17 @@
-//! Recorded answers of stores. A case is a call on the store that the cases
-//! before it left.
+//! Recorded answers of stores. A case is a call on the store as the cases
+//! before left it.
 //!
 //!     n ROOM                       new: a store with an area of ROOM ints
 //!     r                            reset
 //!     b TICK                       set_delta_tick
 //!     s TICK ROOM INT..            add_snap of a table, with a delta area
 //!     d HAS CRC BASE TICK INT..    add_delta
-//!     l PLACE                      the table at a place is looked at
+//!     l PLACE                      looks up the table at a place
 //!
-//! Answers: UNKNOWN EXCESS WEIRD, the three counts of warnings that a store
-//! can tell, COUNT ACK BASE, how many tables are held and the two ticks (`-`
-//! where there is none), and then `done`, `tick TICK`, `delta BASE LEN INT..`,
-//! `refused NUMBER`, or `refused 10 KEY` of a table. Of a look: `TICK INT..`,
+//! Answers: UNKNOWN EXCESS WEIRD, the three warning counts that a store can
+//! give, COUNT ACK BASE, how many tables are held and the two ticks (`-`
+//! if there is none), and then `done`, `tick TICK`, `delta BASE LEN INT..`,
+//! `refused NUMBER`, or `refused 10 KEY` for a table. For `l`: `TICK INT..`,
 //! or `end`.
 
 use super::inputs;
@@ -80,7 +80,7 @@ fn what(call: &Call, said: &Said) -> String {
     }
 }
 
-/// A look at a place.
+/// Looks up a place.
 pub fn look(record: &mut Record, store: &Store, place: usize) {
     let answer = match store.held.get(place) {
         Some((tick, table)) => format!("{tick}{}", ints(table)),
@@ -89,7 +89,7 @@ pub fn look(record: &mut Record, store: &Store, place: usize) {
     record.case(&format!("l {place}"), &answer);
 }
 
-/// The calls on one store, of which some are looked at.
+/// The calls on one store, some of which are followed by a lookup.
 struct List {
     store: Store,
     room: usize,
@@ -102,8 +102,8 @@ impl List {
         record.case(&format!("n {room}"), &answer);
         List { store, room }
     }
-    /// Where several keys clash, the answer is not settled, and is not
-    /// recorded; what is too long is not, either.
+    /// If several keys clash, the answer is not determined, and is not
+    /// recorded; neither is one that is too long.
     fn call(&mut self, record: &mut Record, call: &Call) {
         let [_, delta] = self.store.needs(call);
         let delta = match call {

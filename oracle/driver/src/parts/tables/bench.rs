@@ -105,7 +105,7 @@ fn read(rows: &mut Table, shape: &Shape) {
     assert!(oracle::written(&snap) == ints && out[..ints.len()] == ints);
 }
 
-/// A table whose items come in some order.
+/// Reads a table whose items come in some order.
 fn race_read_ints(rows: &mut Table, shape: &Shape, operation: &str, items: &[Item]) {
     let (ints, written) = (inputs::listed(items), shape.ints());
     let mut snap = RawSnap::empty();
@@ -201,7 +201,7 @@ fn crc(rows: &mut Table, shape: &Shape) {
     assert!(table::crc(&ints) == Ok(snap.crc()));
 }
 
-/// One item in the middle of the table.
+/// Looks up one item in the middle of the table.
 fn lookup(rows: &mut Table, shape: &Shape) {
     let (ints, snap) = shape.tables();
     let (raw_type_id, id) = parts(shape.middle());
@@ -220,7 +220,7 @@ fn lookup(rows: &mut Table, shape: &Shape) {
     assert!(snap.item(raw_type_id, id) == Some(&out));
 }
 
-/// The first item of the walk.
+/// Reads the first item of the walk.
 fn step(rows: &mut Table, shape: &Shape) {
     let (ints, snap) = shape.tables();
     let mut out = vec![0; table::INTS];
@@ -238,7 +238,7 @@ fn step(rows: &mut Table, shape: &Shape) {
     );
 }
 
-/// All items in signed order; their data are added up.
+/// Walks all items in signed order and adds up their data.
 fn walk(rows: &mut Table, shape: &Shape) {
     let (ints, snap) = shape.tables();
     let mut out = vec![0; table::INTS];

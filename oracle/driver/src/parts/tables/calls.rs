@@ -1,4 +1,4 @@
-//! Each call on both sides: what was answered, what was set, what was left.
+//! Each call on both sides: the answer, what was set, what was unchanged.
 
 use super::inputs::List;
 use super::oracle;
@@ -25,14 +25,14 @@ use libtw2_snapshot::snap::RawSnap;
 
 const LEFT_WARNINGS: Warnings = Warnings([LEFT_SIZE; cefdugar::WARNINGS]);
 
-/// What the caller holds after a question.
+/// What the caller holds after a query.
 #[derive(Clone, Copy, Debug, PartialEq)]
 struct Asked<T> {
     number: u32,
     value: T,
 }
 
-/// The written form of the Rust's table; nothing where it refused.
+/// The written form of the Rust's table; nothing if it refused.
 fn written(said: &Told<RawSnap>) -> Vec<i32> {
     match said {
         Told::Value(snap) => oracle::written(snap),
@@ -40,14 +40,14 @@ fn written(said: &Told<RawSnap>) -> Vec<i32> {
     }
 }
 
-/// The port's areas, lent again and again.
+/// The port's areas, lent repeatedly.
 pub struct Calls {
     src: Area<u8>,
     ints: Area<i32>,
     out: Area<i32>,
     bytes: Area<u8>,
     scratch: Vec<i32>,
-    /// How many items of a table are looked up and walked at most.
+    /// The most items of a table that are looked up and walked.
     most: usize,
 }
 
@@ -63,7 +63,7 @@ impl Calls {
         }
     }
 
-    /// Reads ints into an area of as much room as the table needs and `spare`
+    /// Reads ints into an area with as much room as the table needs and `spare`
     /// more.
     pub fn read_ints(
         &mut self,
@@ -105,7 +105,7 @@ impl Calls {
         )
     }
 
-    /// Asks everything of an area.
+    /// Makes all queries of an area.
     pub fn area(&mut self, run: &mut Run, area: &[i32]) -> Result<(), Difference> {
         let compared = self.compare_area(area);
         run.case(
@@ -140,7 +140,7 @@ impl Calls {
         )
     }
 
-    /// What both sides say of a table that was read into `self.out`.
+    /// The answers of both sides on a table that was read into `self.out`.
     fn compare_result(
         &mut self,
         said: &Told<RawSnap>,
@@ -288,7 +288,7 @@ impl Calls {
         Shown::compare(&oracle.answer(), &safe)
     }
 
-    /// An item of the walk, or its end.
+    /// An item of the walk, or the end of the walk.
     fn compare_step(
         &mut self,
         area: &[i32],
@@ -402,7 +402,7 @@ impl Calls {
         left("area", self.ints.check(0, &expected))
     }
 
-    /// The empty table into `len` ints.
+    /// Writes the empty table into `len` ints.
     pub fn empty(&mut self, run: &mut Run, len: usize) -> Result<(), Difference> {
         let compared = self.compare_empty(len);
         run.case(

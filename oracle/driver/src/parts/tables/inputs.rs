@@ -5,13 +5,13 @@ use crate::core::damage::Entry;
 use crate::core::random::Random;
 use crate::core::shrink::Shrink;
 
-/// Ints that make each branch of reading, for short lists.
+/// Ints that reach each branch of reading, for short lists.
 pub const TELLING: [i32; 7] = [0, 1, 2, 4, 8, -1, 65_536];
 
 /// Keys at the ends of both orders.
 pub const KEYS: [i32; 6] = [0, 1, 65_538, i32::MAX, i32::MIN, -1];
 
-/// The ints of items as they come, in no order and with no check.
+/// The ints of items in the given order, without a check.
 pub fn listed(items: &[Item]) -> Vec<i32> {
     let mut ints = vec![0, items.len() as i32];
     let mut size = 0;
@@ -80,11 +80,11 @@ pub fn misread(ints: &mut [i32], items: &[Item], random: &mut Random) {
     ints[to] = ints[from];
 }
 
-/// Ints that are made smaller item by item where they are a table's.
+/// Ints that are shrunk item by item if they form a table.
 #[derive(Clone)]
 pub struct List(pub Vec<i32>);
 
-/// The items of a table's ints, in their order, and the ints behind it.
+/// The items of a table's ints, in their order, and the ints after it.
 fn taken_apart(ints: &[i32]) -> Option<(Vec<Item>, Vec<i32>)> {
     let size = usize::try_from(*ints.first()?).ok()? / 4;
     let count = usize::try_from(*ints.get(1)?).ok()?;

@@ -1,4 +1,4 @@
-//! Tables of keyed items: reading, writing, questions, walks, adding.
+//! Tables of keyed items: reading, writing, queries, walks, adding.
 
 mod bench;
 mod calls;
@@ -62,8 +62,8 @@ fn scratch(src: &[u8]) -> usize {
     src.len().max(table::SCRATCH)
 }
 
-/// Reads ints in rooms of exactly enough, one less, one more and none; then
-/// asks everything of them as an area.
+/// Reads ints into exactly enough room, one less, one more and none; then
+/// makes all queries of them as an area.
 fn everything(run: &mut Run, calls: &mut Calls, ints: &[i32]) -> Result {
     for spare in [0, -1, 1, isize::MIN] {
         calls.read_ints(run, ints, spare)?;
@@ -71,7 +71,7 @@ fn everything(run: &mut Run, calls: &mut Calls, ints: &[i32]) -> Result {
     calls.area(run, ints)
 }
 
-/// All lists of up to six ints over a small alphabet, in a full run of seven.
+/// All lists of up to six ints over a small alphabet; seven in a full run.
 fn short_lists(run: &mut Run, calls: &mut Calls) -> Result {
     let most = match run.length {
         Length::Quick => 6,
@@ -87,7 +87,7 @@ fn short_lists(run: &mut Run, calls: &mut Calls) -> Result {
     Ok(())
 }
 
-/// All tables of up to three items over a few keys, with up to two ints each:
+/// All tables of up to three items with a few keys, with up to two ints each:
 /// in every order, keys doubled.
 fn few_items(run: &mut Run, calls: &mut Calls) -> Result {
     for count in 0..=3 {
@@ -142,7 +142,7 @@ fn short_strings(run: &mut Run, calls: &mut Calls) -> Result {
     Ok(())
 }
 
-/// Tables around the most items and the most ints.
+/// Tables with about the most items and the most ints.
 fn limits(run: &mut Run, calls: &mut Calls) -> Result {
     let mut tables = vec![];
     for count in [1_023, 1_024, 1_025, 1_026] {
@@ -162,7 +162,7 @@ fn limits(run: &mut Run, calls: &mut Calls) -> Result {
             calls.read(run, &src, spare, scratch(&src))?;
         }
     }
-    // A key that comes twice, at the end of a table that is full or more.
+    // A key that comes twice, at the end of a table that is full or more than full.
     for (count, ints) in [(1_023, 0), (1_024, 0), (1_025, 0), (1_000, 14_382)] {
         let mut items = inputs::many(count, ints);
         items.push(items[3].clone());
@@ -210,14 +210,14 @@ fn limits(run: &mut Run, calls: &mut Calls) -> Result {
     Ok(())
 }
 
-/// Items in the order of a table.
+/// Items in the order of a written table.
 pub fn sorted(items: &[Item]) -> Vec<Item> {
     let mut items = items.to_vec();
     items.sort_by_key(|(key, _)| *key as u32);
     items
 }
 
-/// Inputs and scratch around the lengths that are judged.
+/// Inputs and scratch of about the lengths that are judged.
 fn lengths(run: &mut Run, calls: &mut Calls) -> Result {
     const MOST: usize = table::INPUT;
     for len in [MOST - 1, MOST, MOST + 1] {
@@ -289,7 +289,7 @@ fn random_adds(run: &mut Run, calls: &mut Calls, random: &mut Random) -> Result 
         }
         let needed = inputs::listed(&items).len();
         adds(run, calls, &items, needed)?;
-        // To areas that hold no table.
+        // The same for areas that hold no table.
         let mut area = inputs::listed(&sorted(&items));
         damage(&mut area, random);
         calls.add(run, &mut area, random.pick(&inputs::KEYS), &[1, 2])?;

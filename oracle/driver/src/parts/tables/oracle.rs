@@ -1,6 +1,6 @@
-//! What the Rust says of tables, and document 01 where the Rust has no such
-//! call: an area in form is one that the Rust reads and would write as it
-//! stands.
+//! The Rust's answers on tables, or those of docs/FORMAT.md if the Rust has no
+//! such call: an area in form is one that the Rust reads and would write
+//! unchanged.
 
 use crate::core::oracle::Number;
 use crate::core::oracle::Tally;
@@ -54,7 +54,7 @@ pub fn read(src: &[u8], scratch: usize) -> (Told<RawSnap>, Warnings) {
     (said, tally.0)
 }
 
-/// All ints that `write` writes of a table.
+/// All ints that `write` writes for a table.
 pub fn all_ints(write: impl FnOnce(&mut [i32]) -> Result<usize, CapacityError>) -> Vec<i32> {
     let mut out = vec![0; table::INTS];
     let len = match write(&mut out) {
@@ -91,7 +91,7 @@ pub fn held(area: &[i32]) -> Option<RawSnap> {
     area.starts_with(&written).then_some(snap)
 }
 
-/// The table with an item more.
+/// The table with one more item.
 pub fn added(snap: &RawSnap, key: i32, data: &[i32]) -> Told<RawSnap> {
     told(|| {
         let mut builder = RawBuilder::new();

@@ -39,7 +39,7 @@ fn counts(warnings: &Warnings) -> String {
     format!("{overlong} {padding} {excess}")
 }
 
-/// The room, and what reading comes to in it.
+/// The room, and the result of reading into it.
 fn stored(said: &Told<RawSnap>, spare: isize, counts: &str) -> (usize, String) {
     let written = match said {
         Told::Value(snap) => oracle::written(snap),
@@ -131,7 +131,7 @@ fn add(record: &mut Record, area: &[i32], key: i32, data: &[i32]) {
     record.case(&question, &answer);
 }
 
-/// Document 01's marked cases, each refusal, then random ones.
+/// The marked cases of docs/FORMAT.md, each refusal, then random ones.
 pub fn fill(record: &mut Record, random: &mut Random) {
     marked(record);
     refusals(record);
@@ -157,7 +157,7 @@ fn refusals(record: &mut Record) {
         read_ints(record, &whole, spare);
         read(record, &packed(&whole), spare);
     }
-    // Each int of header and offsets one off, four off, negative, great.
+    // Each int of header and offsets off by one, off by four, negative, large.
     for at in 0..4 {
         for change in [1, -1, 4, -4, -100, i32::MAX] {
             let mut changed = whole;
@@ -166,7 +166,7 @@ fn refusals(record: &mut Record) {
             area(record, &changed, &[]);
         }
     }
-    // Ints behind the table, bytes behind it, and an int that is cut.
+    // Ints after the table, bytes after it, and an int that is cut off.
     let more = [12, 2, 0, 8, 3, 40, -1, 5, 6];
     read_ints(record, &more, 0);
     area(record, &more, &[3, -1, 5]);
@@ -181,7 +181,7 @@ fn refusals(record: &mut Record) {
         src.extend(rest);
         read(record, &src, 0);
     }
-    // Keys that come twice, and an order that is none.
+    // Keys that come twice, and keys out of order.
     for keys in [[3, 3], [-1, 3], [i32::MIN, i32::MAX], [i32::MAX, i32::MIN]] {
         let items: Vec<Item> = keys.map(|key| (key, vec![9])).to_vec();
         read_ints(record, &inputs::listed(&items), 0);
