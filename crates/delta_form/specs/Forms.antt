@@ -1,4 +1,4 @@
--- What a known size as a count means, and what the answer of the form test means. Assumes nothing.
+-- What a known size as a count and the answer of the form test mean. Assumes nothing.
 use Prim.Native.Nat.{ℕ, _+_, _<_, _≤_, _^_}
 use native.Mathlib.Omega.{arith}
 use mathlib.Core.Path.{_≡_, refl, sym, ap, _∙_}

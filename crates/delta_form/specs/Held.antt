@@ -41,7 +41,7 @@ pub record HeldDelta (sizes a : List ℤ) (k u : ℕ) : Type 0 where
   pub updated-is : u ≡ numUpdated a
   pub in-form : deltaForm sizes a ≡ true
   pub shape : DeltaShape sizes a
-  -- room for the header and the deleted keys, and each key fits
+  -- room for header and deleted keys, and the keys fit
   pub room : 3 + k ≤ length a
   pub deleted : (i : ℕ) → i < k → DeletedKey a i
   -- the updates, one after the other

@@ -22,7 +22,7 @@ deletedInts t b = map fromBits (keys (lacking t b))
 abbrev pub changed : Table → Item → Item
 changed b x = record { key = x .key; values = differences (find (x .key) b) (x .values) }
 
--- the ints of one update, and of the updates of some items
+-- the ints of one update, and of several
 abbrev pub changeInts : Table → Item → List ℤ
 changeInts b x = updateInts [] (changed b x)
 

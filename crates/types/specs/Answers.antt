@@ -8,7 +8,7 @@ use Rattle.types.specs.declared.checked.Types.{Types}
 use Rattle.types.specs.declared.checked.Types.the-variants as types
 use Rattle.types.specs.declared.checked.Judged.{Judged}
 
--- that many items of type 0 have more than four ints
+-- n items of type 0 with more than four ints
 abbrev pub uuidExcess : ℕ → Counts
 uuidExcess n =
     record {

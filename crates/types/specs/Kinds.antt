@@ -70,6 +70,6 @@ pub record Leader (f : ℕ → ℕ) (m q v : ℕ) : Type 0 where
   pub same : key (f at) ≡ key (f q)
   pub least : (p : ℕ) → p < m → key (f p) ≡ key (f q) → v ≤ place (f p)
 
--- the leader of each of the first k pairs, at the pair's place
+-- the leaders of the first k pairs, at their places
 abbrev pub Leaders : (ℕ → ℕ) → ℕ → ℕ → List ℕ → Type 0
 Leaders f m k c = (q : ℕ) → q < k → Leader f m q (getD c (place (f q)) 0)

@@ -124,7 +124,7 @@ pub fn half(data: &[i32], i: usize) -> usize
     bits % 65536
 }
 
-// Lists the class and the i-th half of each of the first m items, as one key, with the item's number, as pairs.
+// Lists class and i-th half of each of the first m items, as one key with the item's number, as pairs.
 pub fn list_halves(
     src: &[i32],
     n: usize,
@@ -220,7 +220,7 @@ pub fn all_first(classes: &[u16], m: usize) -> bool
     true
 }
 
-// Writes the number of the first item with the same kind, for each of the first m items, into classes, which holds zeros before.
+// For each of the first m items, writes the first one of the same kind into classes, which holds zeros.
 pub fn classify(src: &[i32], n: usize, index: &[u16], m: usize, classes: &mut [u16])
     requires { ⌜ Picks (now src) n (now index) × Whole (now src) (now index) n m × (length (now classes) ≡ 1024) × Firsts (halves (now src) (now index)) 0 m (now classes) ⌝ }
     ensures { λ _. ⌜ Firsts (halves (now (src .entry)) (now (index .entry))) 8 m (now (classes .exit)) ⌝ }

@@ -1,4 +1,4 @@
--- `checked::count_deleted` meets its contract. The loop's invariant: what was counted and what the target lacks of the other items is what it lacks of all. Assumes nothing.
+-- `checked::count_deleted` meets its contract. The loop's invariant: the count plus the missing keys of the remaining items is the total. Assumes nothing.
 use Prim.Native.Nat.{ℕ, _+_, _-_, _≤_}
 use mathlib.Core.Path.{_≡_, ap, _∙_, subst}
 use native.Mathlib.Nat.{zero-add}
