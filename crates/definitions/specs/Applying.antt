@@ -61,7 +61,7 @@ applyDelta b d = do
 
 -- ---- the call
 
--- a base and a delta of lent areas; scratch, of a length, is judged behind their forms
+-- the base and the delta of two areas; the length of scratch is judged after their forms
 unfoldable pub applying : List ℤ → List ℤ → ℕ → Outcome Table
 applying base delta scratch = do
   b ← held base

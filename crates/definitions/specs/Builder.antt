@@ -42,12 +42,12 @@ heldBuilder area = do
 
 -- ---- adding
 
--- a table with an item more, laid over the front of its area
+-- a table with one more item, laid over the front of its area
 abbrev pub addTo : List ℤ → Table → ℕ → ℕ → List ℤ → Wrote ℕ ℤ
 addTo area t type id values =
     storedTable area (addItem (record { key = keyOf type id; values = values }) t)
 
--- what a second call makes of the area that a first one left, unless the first one's item is refused
+-- a second call on the area that a first one left, unless the first one's item is refused
 abbrev pub stepOn : Outcome Table → Wrote ℕ ℤ → (List ℤ → Wrote ℕ ℤ) → Wrote ℕ ℤ
 stepOn (ok t c) w f = f (w .out)
 stepOn (err n c) w f = w
@@ -60,7 +60,7 @@ nextKind t = 16384 + numKinds t
 abbrev pub withKind : Table → ℕ → List ℤ → Table
 withKind t n kind = insert (record { key = keyOf 0 n; values = kind }) t
 
--- an item of a kind that has a number, or of a new kind: the item that names it goes first, stays where it fits, and counts where it does not
+-- an item of a kind that has a number, or of a new kind: the item that names it comes first, stays if it fits, and counts even if it does not
 abbrev pub addOfKind : List ℤ → Table → Option ℕ → List ℤ → ℕ → List ℤ → Wrote ℕ ℤ
 addOfKind area t (some n) kind id values = addTo area t n id values
 addOfKind area t none kind id values =
@@ -72,7 +72,7 @@ unfoldable pub addTyped : List ℤ → Table → TypeId → ℕ → List ℤ →
 addTyped area t (Ordinal n) id values = addTo area t n id values
 addTyped area t (Uuid k) id values = addOfKind area t (kindNumber k t) k id values
 
--- where the builder's table or the type is refused, the area is left as it was
+-- if the builder's table or the type is refused, the area is left as it was
 unfoldable pub addWhere : List ℤ → TypeId → ℕ → List ℤ → Outcome Table → Wrote ℕ ℤ
 addWhere area type id values (ok t w) = addTyped area t type id values
 addWhere area type id values (err n w) = record { answer = err n w; out = area }

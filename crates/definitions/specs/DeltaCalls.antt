@@ -39,7 +39,7 @@ writing area sizes = do
   require (sizesMatch sizes (d .updated)) knownSizeDiffers
   return (deltaInts sizes d)
 
--- a delta that was read, laid over the front of an area; what was repeated counts towards the room
+-- a delta that was read, laid over the front of an area; repeated entries count towards the room
 unfoldable pub storedDelta : List ℤ → Outcome DeltaRead → Wrote ℕ ℤ
 storedDelta out o =
     stored out do
@@ -66,7 +66,7 @@ writeToIntsCall area sizes out = stored out (writing area sizes)
 abbrev pub writeCall : List ℤ → List ℤ → List ℕ → Wrote ℕ ℕ
 writeCall area sizes out = stored out (writing area sizes >>= λ l. return (packInts l))
 
--- scratch, of a length, is judged first
+-- the length of scratch is judged first
 abbrev pub readFromIntsCall : List ℤ → List ℤ → List ℤ → ℕ → Wrote ℕ ℤ
 readFromIntsCall src sizes out scratch =
     storedDelta out do

@@ -18,7 +18,7 @@ zipWith f [] ws = []
 zipWith f (v ∷ vs) [] = []
 zipWith f (v ∷ vs) (w ∷ ws) = f v w ∷ zipWith f vs ws
 
--- the base's data, where there is any, is as long
+-- the base's data, if there is any, is as long
 abbrev pub agree : Option (List ℤ) → List ℤ → Bool
 agree none v = true
 agree (some w) v = eqb (length w) (length v)
@@ -59,10 +59,10 @@ unfoldable pub alike : Table → Table → Bool
 alike b [] = true
 alike b (x ∷ t) = agree (find (x .key) b) (x .values) && alike b t
 
--- the delta from a base to a target: what goes, and every item of the target
+-- the delta from a base to a target: the keys deleted, and every item of the target
 unfoldable pub deltaFrom : Table → Table → Delta
 deltaFrom b t = record { deleted = keys (walk (lacking t b)); updated = walk (changes b t) }
 
--- the same where items of one key are of one length
+-- the same, if items with the same key have the same length
 unfoldable pub createDelta : Table → Table → Outcome Delta
 createDelta b t = require (alike b t) deltaDifferingSizes >> return (deltaFrom b t)

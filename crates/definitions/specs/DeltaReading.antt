@@ -96,7 +96,7 @@ abbrev pub elem : ℕ → List ℕ → Bool
 elem k [] = false
 elem k (x ∷ l) = eqb k x || elem k l
 
--- the updates up to the end of the stream, behind those before; at most n more
+-- the updates up to the end of the stream, after those before; at most n more
 unfoldable pub readUpdates : List ℤ → List ℕ → ℕ → List Item → Stream → Outcome (List Item)
 readUpdates sizes deleted zero before s = return before
 readUpdates sizes deleted (suc n) before s =
@@ -116,7 +116,7 @@ module _ {A : Type 0} (key : A → ℕ) where
       cond (ltb (rank (key x)) (rank (key y))) (x ∷ y ∷ l)
       (cond (eqb (rank (key x)) (rank (key y))) (y ∷ l) (y ∷ put x l))
 
-  -- all in order; of several with one key the last
+  -- all in order; of several with the same key, the last
   unfoldable pub ordered : List A → List A
   ordered [] = []
   ordered (x ∷ l) = put x (ordered l)
@@ -131,7 +131,7 @@ orderedUpdates l = ordered (λ (x : Item). x .key) l
 
 -- ---- a delta
 
--- a delta, and how many ints it would take with what was repeated
+-- a delta, and how many ints it would take with repeated entries
 pub record DeltaRead : Type 0 where
   pub delta : Delta
   pub room : ℕ
@@ -144,7 +144,7 @@ deltaRead deleted updated =
       room = 3 + length deleted + length (updatesInts [] updated);
     }
 
--- how many deleted keys and updates a delta says to have
+-- how many deleted keys and updates a delta claims to have
 pub record DeltaHeader : Type 0 where
   pub deleted : ℕ
   pub updated : ℕ

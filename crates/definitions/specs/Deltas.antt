@@ -10,12 +10,12 @@ use lib.Signed.{mag}
 use Rattle.definitions.specs.Ints.{bits, fromBits}
 use Rattle.definitions.specs.Tables.{Item, keyOf, nat, list, all}
 
--- the keys that go, and the updates, each with its key and its differences
+-- the deleted keys, and the updates, each with its key and its differences
 pub record Delta : Type 0 where
   pub deleted : List ℕ
   pub updated : List Item
 
--- whether nothing goes and nothing is updated
+-- whether nothing is deleted and nothing is updated
 abbrev pub isEmptyDelta : Delta → Bool
 isEmptyDelta d = eqb (length (d .deleted)) 0 && eqb (length (d .updated)) 0
 
@@ -43,13 +43,13 @@ abbrev pub known : ℤ → Option ℕ
 known (pos n) = some n
 known (negsuc n) = none
 
--- the size that is known of a type, unless it is absent
+-- the known size of a type, unless it is absent
 unfoldable pub knownSize : List ℤ → ℕ → Option ℕ
 knownSize sizes type = cond (ltb type (length sizes)) (known (getD sizes type (pos 0))) none
 
 -- ---- the written form
 
--- a size is written where none is known
+-- a size is written if none is known
 abbrev pub sizeInts : Option ℕ → ℕ → List ℤ
 sizeInts (some m) n = []
 sizeInts none n = pos n ∷ []
@@ -90,7 +90,7 @@ deletedAt a i = bits (getD a (3 + i) (pos 0))
 unfoldable pub updateKey : List ℤ → ℕ → ℕ
 updateKey a p = keyOf (nat a p) (nat a (p + 1))
 
--- how many ints of the update at place p come before its differences, where so much is known of its size
+-- how many ints of an update come before its differences, by what is known of its size
 abbrev pub headLength : Option ℕ → ℕ
 headLength (some m) = 2
 headLength none = 3
@@ -108,7 +108,7 @@ sizeOr a p none = nat a p
 unfoldable pub sizeAt : List ℤ → List ℤ → ℕ → ℕ
 sizeAt sizes a p = sizeOr a (p + 2) (knownSize sizes (nat a p))
 
--- the place behind the update at place p
+-- the place after the update at place p
 unfoldable pub updateEnd : List ℤ → List ℤ → ℕ → ℕ
 updateEnd sizes a p = dataAt sizes a p + sizeAt sizes a p
 
@@ -157,7 +157,7 @@ updatesFit sizes a p low (suc n) =
     updateFits sizes a p low
     && updatesFit sizes a (updateEnd sizes a p) (suc (rank (updateKey a p))) n
 
--- whether some ints begin with a delta whose keys rise; what stands behind it is not judged
+-- whether some ints begin with a delta whose keys rise; what follows it is not judged
 unfoldable pub deltaForm : List ℤ → List ℤ → Bool
 deltaForm sizes a =
     leb 3 (length a)

@@ -1,4 +1,4 @@
--- What every word of the library means. Assumes nothing.
+-- The meaning of every term of the library. Assumes nothing.
 pub mod Ints
 pub mod Areas
 pub mod Refusals

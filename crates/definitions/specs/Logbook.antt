@@ -1,4 +1,4 @@
--- The logbook: what a printer's messages alone, without their bytes, lead to. Assumes nothing.
+-- The logbook: what follows from a printer's messages alone, without their bytes. Assumes nothing.
 use mathlib.Core.Bool.{Bool, true, false, cond, _&&_, _||_}
 use mathlib.Core.List.{List, [], _∷_}
 use mathlib.Core.Option.{Option, some, none}
@@ -24,7 +24,7 @@ pub record Logbook : Type 0 where
 abbrev pub freshLogbook : Logbook
 freshLogbook = record { newest = none; came = []; held = []; acknowledged = none }
 
--- what a call is answered: a refusal's number, not yet, or a tick
+-- the answer to a call: a refusal's number, not yet, or a tick
 pub data Answer : Type 0 where
   refused : ℕ → Answer
   notYet : Answer
@@ -60,7 +60,7 @@ unfoldable pub without : ℤ → List ℤ → List ℤ
 without t [] = []
 without t (x ∷ l) = cond (same x t) (without t l) (x ∷ without t l)
 
--- a tick more; of 101 the lowest goes
+-- one more tick; of 101 the lowest is dropped
 abbrev pub holding : ℤ → List ℤ → List ℤ
 holding t l = cond (ltb 100 (length (t ∷ l))) (without (lowest t l) (t ∷ l)) (t ∷ l)
 
@@ -69,7 +69,7 @@ abbrev pub late : Option ℤ → List ℕ → ℤ → ℕ → Bool
 late none came t n = false
 late (some newest) came t n = signedLess t newest || (same t newest && allCame n came)
 
--- the parts of a tick that came: none of one above the newest
+-- the parts of a tick that came; a tick above the newest has none
 abbrev pub cameOf : Option ℤ → List ℕ → ℤ → List ℕ
 cameOf none came t = []
 cameOf (some newest) came t = cond (same t newest) came []

@@ -23,7 +23,7 @@ pub record Manager : Type 0 where
   pub receiver : Receiver
   pub storage : Storage
 
--- what a message leaves: its answer is the tick acknowledged, or that parts are missing
+-- the result of a message; its answer is the tick acknowledged, or that parts are missing
 pub record Handled : Type 0 where
   pub answer : Outcome (Option ℤ)
   pub manager : Manager
@@ -40,12 +40,12 @@ emptyDelta = record { deleted = []; updated = [] }
 abbrev pub emptyRead : DeltaRead
 emptyRead = record { delta = emptyDelta; room = 3 }
 
--- the delta that was received: of the bytes joined, or empty where the message was
+-- the received delta: from the joined bytes, or empty if the message was
 abbrev pub receivedDelta : List ℤ → List ℕ → Option DataAndCrc → Outcome DeltaRead
 receivedDelta sizes bytes (some x) = readDelta sizes (stream (take (x .length) bytes))
 receivedDelta sizes bytes none = return emptyRead
 
--- it must fit the delta area; what was repeated counts
+-- it must fit the delta area; repeated entries count
 unfoldable pub fittingDelta : List ℤ → List ℕ → ℕ → Option DataAndCrc → Outcome Delta
 fittingDelta sizes bytes n x = do
   r ← receivedDelta sizes bytes x
@@ -77,7 +77,7 @@ stopped o r s delta =
       delta = delta;
     }
 
--- the store took a delta, or refused it, with these warnings before; the delta area keeps it
+-- the store took or refused a delta, after these warnings; the delta area keeps it
 abbrev pub went : Counts → Receives → Delta → List ℤ → Keeps ℤ → Handled
 went w r d delta k =
     record {
@@ -127,7 +127,7 @@ judgeManager r s area parts joined scratch = do
   require (leb 28800 scratch && (leb 28800 parts && leb 28800 joined)) scratchTooShort
   return (record { receiver = r; storage = h })
 
--- where that is refused, all is left as it was
+-- if that is refused, all is left as it was
 unfoldable pub managed : List ℤ → Receiver → Store → Message → List ℕ → List ℕ → List ℤ → List ℤ → Outcome Manager → ManagerStep
 managed sizes r s m parts joined delta area (ok g w) =
     let x : Handled = handle sizes (length area) g m parts joined delta in

@@ -17,7 +17,7 @@ pub data SnapMsg : Type 0 where
   SnapEmpty : (tick deltaTick : ℤ) → SnapMsg
   SnapSingle : (tick deltaTick crc : ℤ) → SnapMsg
 
--- a message: its numbers beside its bytes
+-- a message: its numbers and its bytes
 pub record Message : Type 0 where
   pub numbers : SnapMsg
   pub bytes : List ℕ

@@ -1,4 +1,4 @@
--- What a call comes to: a value or a refusal, each with the warnings counted up to there. Assumes nothing.
+-- The outcome of a call: a value or a refusal, each with the warnings counted so far. Assumes nothing.
 use mathlib.Core.Bool.{Bool, cond}
 use mathlib.Core.List.{List}
 use Prim.Native.Nat.{ℕ}
@@ -23,7 +23,7 @@ module _ {A : Type 0} where
   after w (err n v) = err n (plus w v)
 
 infixl 10 _>>=_ _>>_
--- one step and then the next, which the first one's value goes into; a refusal ends both
+-- one step and then the next, which takes the first one's value; a refusal ends both
 abbrev pub _>>=_ : {A B : Type 0} → Outcome A → (A → Outcome B) → Outcome B
 ok a w >>= f = after w (f a)
 err n w >>= f = err n w
@@ -41,11 +41,11 @@ require b n = cond b (return tt) (refuse n)
 abbrev pub warn : Counts → Outcome (Unit {0})
 warn w = ok tt w
 
--- a warning of a kind, where there is cause
+-- a warning of a kind, if the test holds
 abbrev pub warnIf : Bool → Warning → Outcome (Unit {0})
 warnIf b k = cond b (warn (one k)) (warn none)
 
--- what a call comes to, and what the area that it writes then holds
+-- the outcome of a call, and what the area that it writes holds afterwards
 pub record Wrote (A E : Type 0) : Type 0 where
   pub answer : Outcome A
   pub out : List E

@@ -30,13 +30,13 @@ extend b = leb 128 b
 abbrev pub sign : ℕ → Bool
 sign b = eqb (b / 64 % 2) 1
 
--- the int with these digits; the sign turns all 32 bits over
+-- the int with these digits; the sign inverts all 32 bits
 unfoldable pub signed : Bool → ℕ → ℤ
 signed false d = fromBits d
 signed true d = fromBits (2 ^ 32 - 1 - d)
 
 -- the bytes after the first, at most n + 1 of them: d are the digits so far, and w is the weight of the next.
--- A last byte 0 is overlong. Of the fifth byte bit 4 lands in bit 31, and the bits above vanish.
+-- A last byte of 0 is overlong. Bit 4 of the fifth byte lands in bit 31, and the bits above are ignored.
 unfoldable pub more : ℕ → ℕ → ℕ → Bool → List ℕ → Outcome Read
 more n w d s [] = refuse unexpectedEnd
 more zero w d s (b ∷ bs) =
@@ -46,7 +46,7 @@ more (suc n) w d s (b ∷ bs) =
     (more n (w * 128) (d + b % 128 * w) s bs)
     (ok (record { value = signed s (d + b * w); rest = bs }) (warned (eqb b 0) false))
 
--- the integer at the front of some bytes, or the end inside it
+-- the integer at the front of some bytes, refused if they end inside it
 unfoldable pub readInt : List ℕ → Outcome Read
 readInt [] = refuse unexpectedEnd
 readInt (b ∷ bs) =
@@ -66,7 +66,7 @@ abbrev pub signBit : ℤ → ℕ
 signBit (pos n) = 0
 signBit (negsuc n) = 64
 
--- the shortest form of an int; its digits, `mag x`, are x, or -1 - x of a negative x
+-- the shortest form of an int; its digits, `mag x`, are x, or -1 - x if x is negative
 unfoldable pub writeInt : ℤ → List ℕ
 writeInt x =
     cond (ltb (mag x) 64)

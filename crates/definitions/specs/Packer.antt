@@ -32,7 +32,7 @@ writeIntAt out at x =
     (record { answer = return (at + length (writeInt x)); out = layAt at (writeInt x) out })
     (record { answer = refuse capacityError; out = out })
 
--- how many integers stand in an area, and whether the last one of the bytes was cut
+-- how many integers were unpacked, and whether the last one of the bytes was cut
 pub record Unpacked : Type 0 where
   pub count : ℕ
   pub cut : Bool

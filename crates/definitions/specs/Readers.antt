@@ -1,4 +1,4 @@
--- A reader, which stands at a place of some entries: the int that it reads from ints, and where it then stands. Assumes nothing.
+-- A reader at a place of some entries: the int that it reads from ints, and its place afterwards. Assumes nothing.
 use mathlib.Core.List.{List}
 use Prim.Native.Nat.{ℕ, _-_}
 use lib.IntN.{ℤ}
@@ -18,7 +18,7 @@ placedInt n (err e w) = err e w
 unfoldable pub plainIntAt : List ℤ → ℕ → Outcome IntAt
 plainIntAt xs at = placedInt (length xs) (next unexpectedEnd (intStream (drop at xs)))
 
--- where a reader of n entries stands after what it read: behind the integer, or at the end
+-- the place of a reader of n entries after reading: after the integer, or at the end
 abbrev pub placeAfter : ℕ → Outcome IntAt → ℕ
 placeAfter n (ok x w) = x .next
 placeAfter n (err e w) = n

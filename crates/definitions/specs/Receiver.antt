@@ -1,4 +1,4 @@
--- The receiver of a delta's parts: its state, and what each message makes of it. Assumes nothing.
+-- The receiver of a delta's parts: its state, and what each message does to it. Assumes nothing.
 use mathlib.Core.Bool.{Bool, true, false, cond, not, _&&_, _||_}
 use mathlib.Core.List.{List, [], _∷_, _++_}
 use mathlib.Core.Option.{Option, some, none}
@@ -21,7 +21,7 @@ pub record Current : Type 0 where
   pub numParts : ℕ
   pub crc : ℤ
 
--- the last finished tick, the unfinished one, and the length of each of its 32 parts, above 900 where a part is not in
+-- the last finished tick, the unfinished one, and the length of each of its 32 parts, above 900 if a part is not in
 pub record Receiver : Type 0 where
   pub previousTick : Option ℤ
   pub current : Option Current
@@ -66,7 +66,7 @@ abbrev pub abovePrevious : Option ℤ → ℤ → Bool
 abovePrevious none tick = true
 abovePrevious (some t) tick = signedLess t tick
 
--- an unfinished tick is above the last finished, of 1 to 32 parts, of which some are in and some are missing; else no part is in
+-- an unfinished tick is above the last finished one and has 1 to 32 parts, some in and some missing; else no part is in
 abbrev pub currentForm : Receiver → Option Current → Bool
 currentForm r none = eqb (countIn (r .parts) 32) 0
 currentForm r (some c) =
@@ -99,7 +99,7 @@ isTickOf (some c) tick = same (c .tick) tick
 unfoldable pub isCurrent : Receiver → ℤ → Bool
 isCurrent r tick = isTickOf (r .current) tick
 
--- what a delta that is received comes to: its base, its tick, and how many bytes stand in the second part area with which sum, unless its message was empty
+-- a received delta: its base, its tick and, unless its message was empty, its byte count in the second part area and its sum
 pub record DataAndCrc : Type 0 where
   pub length : ℕ
   pub crc : ℤ
@@ -149,13 +149,13 @@ openedFor (some c) lengths m =
 unfoldable pub opened : Receiver → Part → Opened
 opened r m = openedFor (r .current) (r .parts) m
 
--- whether a part's count, sum or distance is not what was fixed; the distance is held against the base
+-- whether a part's count or sum differs from the fixed one, or its distance from the fixed base
 unfoldable pub differs : Current → Part → Bool
 differs c m =
     not (same (m .deltaTick) (c .deltaTick))
     || (not (eqb (num (m .numParts)) (c .numParts)) || not (same (m .crc) (c .crc)))
 
--- the last part missing came: the tick is finished, and its parts are joined
+-- the last missing part came: the tick is finished, and its parts are joined
 abbrev pub finish : Opened → List ℕ → List ℕ → Taken
 finish o area second =
     record {
@@ -180,7 +180,7 @@ wait previous o area second =
       joined = second;
     }
 
--- the tick with one part more
+-- the tick with one more part
 abbrev pub withPart : Opened → ℕ → ℕ → Opened
 withPart o p n = record { current = o .current; parts = set (o .parts) p n }
 
@@ -189,7 +189,7 @@ unfoldable pub putPart : Option ℤ → Opened → List ℕ → List ℕ → Tak
 putPart previous o area second =
     cond (eqb (countIn (o .parts) 32) (o .current .numParts)) (finish o area second) (wait previous o area second)
 
--- a part of a delta, in document 01's order
+-- a part of a delta, in the order of docs/FORMAT.md
 unfoldable pub takeSnap : Receiver → Part → List ℕ → List ℕ → List ℕ → Outcome Taken
 takeSnap r m bytes area second = do
   require (receiverForm r) notInForm

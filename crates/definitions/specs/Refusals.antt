@@ -1,4 +1,4 @@
--- The numbers of the refusals, by document 01's table of causes. Assumes nothing.
+-- The numbers of the refusals, as listed in docs/FORMAT.md. Assumes nothing.
 use Prim.Native.Nat.{ℕ}
 
 -- reading and making tables and deltas: the Rust's `snap::Error`
@@ -76,7 +76,7 @@ unknownSnap = 31
 abbrev pub invalidCrc : ℕ
 invalidCrc = 32
 
--- a result longer than its lent area, and nothing else wrong
+-- a result longer than its area, and nothing else wrong
 abbrev pub capacityError : ℕ
 capacityError = 40
 

@@ -41,11 +41,11 @@ unfoldable pub storeInts : List StoredSnap → List ℤ
 storeInts [] = []
 storeInts (x ∷ l) = x .tick ∷ pos (length (written (x .snap))) ∷ written (x .snap) ++ storeInts l
 
--- an area of n ints with these tables, and zeros behind them
+-- an area of n ints with these tables, followed by zeros
 abbrev pub storeArea : ℕ → List StoredSnap → List ℤ
 storeArea n l = storeInts l ++ replicate (n - length (storeInts l)) (pos 0)
 
--- what stands beside a store area: how many tables it holds, and two ticks
+-- what goes with a store area: how many tables it holds, and two ticks
 pub record Store : Type 0 where
   pub count : ℕ
   pub ackTick : Option ℤ
@@ -64,7 +64,7 @@ abbrev pub exactly : ℕ → Option Table → Option Table
 exactly n (some t) = cond (eqb (length (written t)) n) (some t) none
 exactly n none = none
 
--- a table with its tick before others, where all are there
+-- a table with its tick before others, if all are there
 abbrev pub consSnap : ℤ → Option Table → Option (List StoredSnap) → Option (List StoredSnap)
 consSnap tick (some t) (some l) = some (record { tick = tick; snap = t } ∷ l)
 consSnap tick (some t) none = none
@@ -93,17 +93,17 @@ abbrev pub newestTick : List StoredSnap → ℤ
 newestTick [] = negsuc 0
 newestTick (x ∷ l) = x .tick
 
--- the first table older than a tick, from the newest side, and all behind it are dropped
+-- drops the first table older than a tick, from the newest side, and all after it
 unfoldable pub dropOlder : ℤ → List StoredSnap → List StoredSnap
 dropOlder tick [] = []
 dropOlder tick (x ∷ l) = cond (signedLess (x .tick) tick) [] (x ∷ dropOlder tick l)
 
--- the oldest of some tables, or another where there are none
+-- the oldest of some tables, or the given one if there are none
 unfoldable pub oldestOr : StoredSnap → List StoredSnap → StoredSnap
 oldestOr x [] = x
 oldestOr x (y ∷ l) = oldestOr y l
 
--- the table of the oldest, if it is of a tick
+-- the oldest table, if it has the given tick
 unfoldable pub oldestAt : ℤ → List StoredSnap → Option Table
 oldestAt tick [] = none
 oldestAt tick (x ∷ l) =
@@ -146,7 +146,7 @@ abbrev pub sumFits : Option ℤ → Table → Bool
 sumFits none t = true
 sumFits (some sum) t = same sum (crc t)
 
--- a table more, the newest; the 101st pushes out the oldest
+-- one more table, the newest; the 101st pushes out the oldest
 abbrev pub pushSnap : ℤ → Table → List StoredSnap → List StoredSnap
 pushSnap tick t l = take 100 (record { tick = tick; snap = t } ∷ l)
 
@@ -174,7 +174,7 @@ addDelta n sum base tick d s =
 
 -- ---- a table is added
 
--- the base of the next table: the oldest then held, that table included, where a base tick is set; else the empty table, of tick -1
+-- the base of the next table: if a base tick is set, the oldest table then held, that one included; else the empty table, with tick -1
 abbrev pub chosenBase : Option ℤ → StoredSnap → List StoredSnap → StoredSnap
 chosenBase none x l = record { tick = negsuc 0; snap = [] }
 chosenBase (some tick) x l = oldestOr x l

@@ -25,12 +25,12 @@ pub record StoreStep (A : Type 0) : Type 0 where
   pub area : List ℤ
 
 module _ {A : Type 0} where
-  -- a store that was left, in its area
+  -- the resulting store, laid out in its area
   abbrev pub laidOut : List ℤ → Keeps A → StoreStep A
   laidOut area k =
       record { answer = k .answer; store = beside (k .storage); area = storeArea (length area) (k .storage .snaps) }
 
-  -- a call on what was judged; where it was refused, all is left as it was
+  -- a call on what was judged; if that was refused, all is left as it was
   unfoldable pub afterJudging : {B : Type 0} → Store → List ℤ → Outcome B → (B → Keeps A) → StoreStep A
   afterJudging s area (ok x w) f = laidOut area (f x)
   afterJudging s area (err n w) f = record { answer = err n w; store = s; area = area }

@@ -1,4 +1,4 @@
--- A result laid into a lent area. Assumes nothing.
+-- A result laid into an area. Assumes nothing.
 use mathlib.Core.Bool.{cond}
 use mathlib.Core.List.{List}
 use Prim.Native.Nat.{ℕ}
@@ -8,7 +8,7 @@ use Rattle.definitions.specs.Areas.{lay}
 use Rattle.definitions.specs.Refusals.{capacityError}
 use Rattle.definitions.specs.Outcome.{Outcome, ok, err, Wrote}
 
--- entries laid over the front of an area, and how many they are; where they do not fit, 40
+-- entries laid over the front of an area, and how many there are; 40 if they do not fit
 unfoldable pub stored : {E : Type 0} → List E → Outcome (List E) → Wrote ℕ E
 stored out (ok xs w) =
     cond (leb (length xs) (length out))

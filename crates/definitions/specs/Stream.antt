@@ -14,7 +14,7 @@ pub data Stream : Type 0 where
   end : Stream
   cut : Stream
 
--- what was read, and then what k makes of the rest
+-- what was read, and then k of the rest
 abbrev pub andThen : Outcome Read → (List ℕ → Stream) → Stream
 andThen (ok r w) k = int (r .value) w (k (r .rest))
 andThen (err n w) k = cut

@@ -39,7 +39,7 @@ readFromIntsCall src out =
       require (leb (length src) 1048576) inputTooLong
       readTable src
 
--- scratch, of a length, is judged first
+-- the length of scratch is judged first
 abbrev pub readCall : List ℕ → List ℤ → ℕ → Wrote ℕ ℤ
 readCall src out scratch =
     storedTable out do
@@ -65,7 +65,7 @@ numItemsCall area = held area >>= λ t. return (length t)
 abbrev pub crcCall : List ℤ → Outcome ℤ
 crcCall area = held area >>= λ t. return (crc t)
 
--- a part that is handed out: empty where there is none, or the call is refused
+-- the part of the area that a call returns: empty if there is none, or on a refusal
 abbrev pub orEmpty : Option (List ℤ) → List ℤ
 orEmpty (some v) = v
 orEmpty none = []

@@ -11,7 +11,7 @@ use Rattle.definitions.specs.Outcome.{Outcome, return, refuse, require, 
 use Rattle.definitions.specs.Stream.{stream, ints, warnings, isCut}
 use Rattle.definitions.specs.Tables.{Item, Table, written, edge, ends, itemAt, find, isSome, insert}
 
--- a table with one item more, which must be new, not too many and not too long
+-- a table with one more item, which must be new, not one too many and not too long
 unfoldable pub addItem : Item → Table → Outcome Table
 addItem i t = do
   require (not (isSome (find (i .key) t))) duplicateKey
@@ -38,7 +38,7 @@ readItems a (suc n) = do
   require (ends a n) invalidOffset
   addItem (itemAt a n) t
 
--- a table of ints; what stands behind it counts a warning
+-- a table of ints; ints after it count a warning
 unfoldable pub readTable : List ℤ → Outcome Table
 readTable a = do
   bytes ← headerInt a 0

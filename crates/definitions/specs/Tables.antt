@@ -97,7 +97,7 @@ all p (suc k) = all p k && p k
 unfoldable pub items : List ℤ → Table
 items a = list (itemAt a) (count a)
 
--- item i ends at a whole int, behind its beginning and within the data
+-- item i ends at a whole int, after its beginning and within the data
 unfoldable pub ends : List ℤ → ℕ → Bool
 ends a i =
     eqb (edge a (i + 1) % 4) 0 && (ltb (edge a i) (edge a (i + 1)) && leb (edge a (i + 1)) (size a))
@@ -107,12 +107,12 @@ unfoldable pub lowest : List ℤ → ℕ → ℕ
 lowest a zero = 0
 lowest a (suc i) = suc (keyAt a i)
 
--- item i ends well, and its key is an int above the one before
+-- item i ends correctly, and its key is an int above the one before
 unfoldable pub fits : List ℤ → ℕ → Bool
 fits a i =
     ends a i && (leb (lowest a i) (keyAt a i) && ltb (mag (getD a (start a i) (pos 0))) (2 ^ 31))
 
--- whether an area begins with the written form of a sound table; entries behind it are not judged
+-- whether an area begins with the written form of a sound table; entries past it are not judged
 unfoldable pub inForm : List ℤ → Bool
 inForm a =
     leb 2 (length a)
@@ -137,7 +137,7 @@ abbrev pub isSome : Option (List ℤ) → Bool
 isSome (some v) = true
 isSome none = false
 
--- the table with one item more, in its place by key
+-- the table with one more item, in its place by key
 unfoldable pub insert : Item → Table → Table
 insert i [] = i ∷ []
 insert i (x ∷ t) = cond (ltb (i .key) (x .key)) (i ∷ x ∷ t) (x ∷ insert i t)

@@ -43,7 +43,7 @@ kindNamed values = do
   require (leb 4 (length values)) invalidUuidType
   return (take 4 values)
 
--- items one after the other, behind those that named some kinds: a kind is named once, and a type from 4000 hex up has its item of type 0
+-- items one after the other, after those that named some kinds: a kind is named once, and a type from 4000 hex up has its item of type 0
 unfoldable pub judgeTypes : Table → List (List ℤ) → List Item → Outcome (Unit {0})
 judgeTypes t kinds [] = return tt
 judgeTypes t kinds (x ∷ l) =

@@ -11,7 +11,7 @@ pub data Warning : Type 0 where
   DuplicateSnap DifferingAttributes : Warning
   WeirdNegativeDeltaTick : Warning
 
--- the place of a kind where the counts stand in a row
+-- the place of a kind in a row of counts
 abbrev pub index : Warning → ℕ
 index OverlongIntEncoding = 0
 index NonZeroIntPadding = 1
@@ -43,7 +43,7 @@ pub record Counts : Type 0 where
   pub differingAttributes : ℕ
   pub weirdNegativeDeltaTick : ℕ
 
--- what a number for each kind makes
+-- the counts with a number for each kind
 abbrev pub counted : (Warning → ℕ) → Counts
 counted f =
     record {

@@ -1,1 +1,1 @@
-// The definitions stand in specs/. This crate has no code.
+// The definitions are in specs/. This crate has no code.

@@ -26,7 +26,7 @@ module _ (sizes : List ℤ) (t : ℕ) where
   unfolding knownSize
   not-listed l = rw (le-ltb t (length sizes) l)
 
--- the count r is what is known of the type of the update at place p
+-- the count r is the known size of the type of the update at place p
 module _ (sizes a : List ℤ) (p t r : ℕ) (e : t ≡ nat a p) (k : knownSize sizes t ≡ sizeFrom r) where
   pub data-known : r < 2 ^ 32 → p + 2 ≡ dataAt sizes a p
   unfolding dataAt

@@ -22,7 +22,7 @@ module _ (sizes a : List ℤ) (p : ℕ) where
   unfolding endOf
   end-is u = rw (update-fits sizes a p 0 u (omega arith))
 
-  -- what the answer tells
+  -- what the answer means
   pub end-found : (r : ℕ) → r ≡ endOf sizes a p → (r ≡ 0 → ⊥) → Update sizes a p × (r ≡ updateEnd sizes a p)
   end-found r e h = go (updateFits sizes a p 0) refl
     where
@@ -54,7 +54,7 @@ module _ (sizes a : List ℤ) (p low : ℕ) where
       let m : low ≤ rank (updateKey a p) = omega arith in
       rw (d, e, add-one r, f, update-fits sizes a p low u m)
 
-  -- what the answer tells
+  -- what the answer means
   pub ended : (n e : ℕ) → ups.End e ≡ updatesFormOf sizes a p low n → (updatesFit sizes a p low n ≡ true) × (e ≡ updatesEnd sizes a p n)
   unfolding updatesFormOf
   ended n e q = go (updatesFit sizes a p low n) q
@@ -71,7 +71,7 @@ module _ (sizes a : List ℤ) (p low : ℕ) where
       go true d = let z : _≡_ {A = ℕ} 0 1 = cc in absurd (omega arith)
       go false d = refl
 
--- ---- both, of ints with k deleted keys and u updates
+-- ---- both, for ints with k deleted keys and u updates
 
 module _ (sizes a : List ℤ) (k u : ℕ) (dk : k ≡ numDeleted a) (du : u ≡ numUpdated a) where
   pub no-keys : false ≡ all (deletedFits a) k → DeltaShape sizes a → ⊥

@@ -1,4 +1,4 @@
--- What a known size as a count, and the test of a form, tell. Assumes nothing.
+-- What a known size as a count and the answer of the form test mean. Assumes nothing.
 use Prim.Native.Nat.{ℕ, _+_, _<_, _≤_, _^_}
 use native.Mathlib.Omega.{arith}
 use mathlib.Core.Path.{_≡_, refl, sym, ap, _∙_}
@@ -17,7 +17,7 @@ use Rattle.delta_form.specs.declared.checked.DeltaForm.the-variants as f
 
 -- ---- known sizes
 
--- the count r is what is known of the type t, which is that of some update
+-- the count r is the known size of the type t of some update
 module _ (sizes : List ℤ) {t type : ℕ} (r : ℕ) (e : t ≡ type) (k : knownSize sizes t ≡ sizeFrom r) where
   pub is-known : r < 2 ^ 32 → knownSize sizes type ≡ some r
   is-known l = ap (knownSize sizes) (sym e) ∙ (k ∙ rw (lt-ltb r (2 ^ 32) l))
@@ -25,7 +25,7 @@ module _ (sizes : List ℤ) {t type : ℕ} (r : ℕ) (e : t ≡ type) (k : known
   pub is-unknown : 2 ^ 32 ≤ r → knownSize sizes type ≡ none
   is-unknown l = ap (knownSize sizes) (sym e) ∙ (k ∙ rw (le-ltb r (2 ^ 32) l))
 
--- ---- the test of a form
+-- ---- the form test
 
 module _ (sizes a : List ℤ) where
   pub bad : (DeltaShape sizes a → ⊥) → form.Bad ≡ formOf sizes a
@@ -34,7 +34,7 @@ module _ (sizes a : List ℤ) where
   pub good : (k u n : ℕ) → DeltaShape sizes a → k ≡ numDeleted a → u ≡ numUpdated a → n ≡ updatesEnd sizes a (3 + k) u → form.Delta k u n ≡ formOf sizes a
   good k u n h p q r = rw (shape-form sizes a h, r, p, q)
 
-  -- what `form`'s answer tells
+  -- what the answer of `form` means
   pub formed : (k u n : ℕ) → form.Delta k u n ≡ formOf sizes a → HeldDelta sizes a k u × (n ≡ updatesEnd sizes a (3 + numDeleted a) (numUpdated a))
   formed k u n e = go (deltaForm sizes a) refl
     where
@@ -58,7 +58,7 @@ module _ (sizes a : List ℤ) where
           let z : _≡_ {A = ℕ} 0 1 = cc in absurd (omega arith)
       go false q = q
 
--- ---- what an area that was tested comes to
+-- ---- what the form test says about an area
 
 module _ (a : List ℤ) where
   -- it holds no delta

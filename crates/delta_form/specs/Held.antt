@@ -1,4 +1,4 @@
--- What is known of ints whose form was tested. Assumes nothing.
+-- What is known about ints whose form was tested. Assumes nothing.
 use mathlib.Core.Path.{_≡_}
 use mathlib.Core.Bool.{true, cond}
 use mathlib.Core.List.{List}
@@ -19,18 +19,18 @@ use Rattle.delta_form.specs.declared.checked.UpdatesForm.the-variants as
 abbrev pub sizeFrom : ℕ → Option ℕ
 sizeFrom r = cond (ltb r (2 ^ 32)) (some r) none
 
--- what the test of a form answers
+-- the answer of the form test
 abbrev pub formOf : List ℤ → List ℤ → DeltaForm
 formOf sizes a =
     cond (deltaForm sizes a)
     (form.Delta (numDeleted a) (numUpdated a) (updatesEnd sizes a (3 + numDeleted a) (numUpdated a)))
     form.Bad
 
--- the place behind the update at place p, or 0 where that does not lie within the ints
+-- the place after the update at place p, or 0 if the update is not within the ints
 unfoldable pub endOf : List ℤ → List ℤ → ℕ → ℕ
 endOf sizes a p = cond (updateFits sizes a p 0) (updateEnd sizes a p) 0
 
--- what the test of n updates from place p on answers
+-- the answer of the test of n updates from place p on
 unfoldable pub updatesFormOf : List ℤ → List ℤ → ℕ → ℕ → ℕ → UpdatesForm
 updatesFormOf sizes a p low n =
     cond (updatesFit sizes a p low n) (ups.End (updatesEnd sizes a p n)) ups.Bad
@@ -41,10 +41,10 @@ pub record HeldDelta (sizes a : List ℤ) (k u : ℕ) : Type 0 where
   pub updated-is : u ≡ numUpdated a
   pub in-form : deltaForm sizes a ≡ true
   pub shape : DeltaShape sizes a
-  -- header and deleted keys, and each of the keys
+  -- room for header and deleted keys, and the keys fit
   pub room : 3 + k ≤ length a
   pub deleted : (i : ℕ) → i < k → DeletedKey a i
-  -- the updates one behind the other
+  -- the updates, one after the other
   pub updates : Updates sizes a (3 + k) u
 
 pub held : (sizes a : List ℤ) (k u : ℕ) → k ≡ numDeleted a → u ≡ numUpdated a → deltaForm sizes a ≡ true → HeldDelta sizes a k u

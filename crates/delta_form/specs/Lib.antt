@@ -1,3 +1,3 @@
--- What the functions of `delta_form` are given, and what the test of a form tells. Assumes nothing.
+-- What the functions of `delta_form` require, and what the answer of the form test means. Assumes nothing.
 pub mod Held
 pub mod Forms

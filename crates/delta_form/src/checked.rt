@@ -1,4 +1,4 @@
-// Ints that begin with a delta under known sizes: the test of their form, and what may be asked of ints that passed it.
+// Ints that begin with a delta under known sizes: the test of their form, and functions on ints that passed it.
 ghost use mathlib.Core.Path.{_≡_};
 ghost use mathlib.Core.List.{[]};
 ghost use Prim.Native.Nat.{_+_, _<_, _≤_, _^_};
@@ -13,7 +13,7 @@ use table::checked::bits_at;
 use table::checked::count_at;
 use table::checked::nat_at;
 
-// Whether some ints begin with a delta under known sizes: how many deleted keys and updates, and how many ints it takes.
+// Whether some ints begin with a delta under known sizes; if so, its numbers of deleted keys, of updates and of ints.
 pub enum DeltaForm {
     Delta {
         deleted: usize,
@@ -23,13 +23,13 @@ pub enum DeltaForm {
     Bad,
 }
 
-// Whether updates lie one behind the other: the place behind the last.
+// Whether some updates follow one another; if so, the place after the last.
 pub enum UpdatesForm {
     End(usize),
     Bad,
 }
 
-// The size that is known of a type; 2^32 where none is.
+// The known size of a type, or 2^32 if none is known.
 pub fn known_size(sizes: &[i32], raw_type_id: usize) -> usize
     ensures { λ r. ⌜ (knownSize (now (sizes .entry)) «raw_type_id» ≡ sizeFrom r) × (r ≤ 2 ^ 32) ⌝ }
 {
@@ -39,7 +39,7 @@ pub fn known_size(sizes: &[i32], raw_type_id: usize) -> usize
     4294967296
 }
 
-// The place of the differences of the update at a place.
+// The place of the differences of the update at place p.
 pub fn data_at(area: &[i32], sizes: &[i32], p: usize) -> usize
     requires { ⌜ p < length (now area) ⌝ }
     ensures { λ r. ⌜ (r ≡ dataAt (now (sizes .entry)) (now (area .entry)) p) × (p + 2 ≤ r) × (r ≤ p + 3) ⌝ }
@@ -50,7 +50,7 @@ pub fn data_at(area: &[i32], sizes: &[i32], p: usize) -> usize
     p + 3
 }
 
-// How many differences the update at a place has.
+// How many differences the update at place p has.
 pub fn size_at(area: &[i32], sizes: &[i32], p: usize) -> usize
     requires { ⌜ (p < length (now area)) × (dataAt (now sizes) (now area) p ≤ length (now area)) ⌝ }
     ensures { λ r. ⌜ (r ≡ sizeAt (now (sizes .entry)) (now (area .entry)) p) × (r ≤ 2 ^ 32) ⌝ }
@@ -62,7 +62,7 @@ pub fn size_at(area: &[i32], sizes: &[i32], p: usize) -> usize
     nat_at(area, p + 2)
 }
 
-// The place behind the update at a place.
+// The place after the update at place p.
 pub fn update_end(area: &[i32], sizes: &[i32], p: usize) -> usize
     requires { ⌜ (p < length (now area)) × (dataAt (now sizes) (now area) p ≤ length (now area)) ⌝ }
     ensures { λ r. ⌜ r ≡ updateEnd (now (sizes .entry)) (now (area .entry)) p ⌝ }
@@ -70,7 +70,7 @@ pub fn update_end(area: &[i32], sizes: &[i32], p: usize) -> usize
     data_at(area, sizes, p) + size_at(area, sizes, p)
 }
 
-// How many differences the update at a place of a delta area has, where every size is written.
+// How many differences the update at place p of a delta area has, where all sizes are written.
 pub fn update_size(area: &[i32], p: usize) -> usize
     requires { ⌜ Update [] (now area) p ⌝ }
     ensures { λ r. ⌜ (r ≡ sizeAt [] (now (area .entry)) p) × (r < 2 ^ 32) ⌝ }
@@ -78,7 +78,7 @@ pub fn update_size(area: &[i32], p: usize) -> usize
     count_at(area, p + 2)
 }
 
-// The place behind the update at a place of a delta area.
+// The place after the update at place p of a delta area.
 pub fn next_update(area: &[i32], p: usize) -> usize
     requires { ⌜ Update [] (now area) p ⌝ }
     ensures { λ r. ⌜ r ≡ updateEnd [] (now (area .entry)) p ⌝ }
@@ -86,7 +86,7 @@ pub fn next_update(area: &[i32], p: usize) -> usize
     p + 3 + update_size(area, p)
 }
 
-// The differences of the update at a place, as a part of the area.
+// The differences of the update at place p, as a part of the area.
 pub fn update_data<'a>(area: &'a [i32], sizes: &[i32], p: usize) -> &'a [i32]
     requires { ⌜ Update (now sizes) (now area) p ⌝ }
     ensures { λ r. ⌜ now r ≡ take (sizeAt (now (sizes .entry)) (now (area .entry)) p) (drop (dataAt (now (sizes .entry)) (now (area .entry)) p) (now (area .entry))) ⌝ }
@@ -96,7 +96,7 @@ pub fn update_data<'a>(area: &'a [i32], sizes: &[i32], p: usize) -> &'a [i32]
     &area[from..to]
 }
 
-// The bits of the key of the update at a place.
+// The bits of the key of the update at place p.
 fn update_bits(area: &[i32], p: usize) -> usize
     requires { ⌜ (p + 2 ≤ length (now area)) × (nat (now area) p < 65536) × (nat (now area) (p + 1) < 65536) ⌝ }
     ensures { λ r. ⌜ (r ≡ updateKey (now (area .entry)) p) × (r < 2 ^ 32) ⌝ }
@@ -104,7 +104,7 @@ fn update_bits(area: &[i32], p: usize) -> usize
     count_at(area, p) * 65536 + count_at(area, p + 1)
 }
 
-// The key of the update at a place.
+// The key of the update at place p.
 pub fn update_key(area: &[i32], p: usize) -> i32
     requires { ⌜ (p + 2 ≤ length (now area)) × (nat (now area) p < 65536) × (nat (now area) (p + 1) < 65536) ⌝ }
     ensures { λ r. ⌜ bits r ≡ updateKey (now (area .entry)) p ⌝ }
@@ -112,7 +112,7 @@ pub fn update_key(area: &[i32], p: usize) -> i32
     ints::from_bits(update_bits(area, p) as u32)
 }
 
-// The place of a key, given by its bits, among all keys read as signed.
+// The place of a key, given by its bits, among all keys in signed order.
 pub fn rank(key: usize) -> usize
     requires { ⌜ key < 2 ^ 32 ⌝ }
     ensures { λ r. ⌜ (r ≡ Deltas.rank key) × (r < 2 ^ 32) ⌝ }
@@ -120,7 +120,7 @@ pub fn rank(key: usize) -> usize
     (key + 2147483648) % 4294967296
 }
 
-// Whether the n deleted keys rise as signed.
+// Whether the n deleted keys rise in signed order.
 pub fn deleted_fit(area: &[i32], n: usize) -> bool
     requires { ⌜ 3 + n ≤ length (now area) ⌝ }
     ensures { λ r. ⌜ r ≡ all (deletedFits (now (area .entry))) n ⌝ }
@@ -141,7 +141,7 @@ pub fn deleted_fit(area: &[i32], n: usize) -> bool
     true
 }
 
-// The place behind the update at a place, where it lies within the area and its type and id are of 16 bits; else 0.
+// The place after the update at place p if the update is within the area and its type and id have 16 bits, else 0.
 pub fn update_fits(area: &[i32], sizes: &[i32], p: usize) -> usize
     requires { ⌜ p ≤ length (now area) ⌝ }
     ensures { λ r. ⌜ r ≡ endOf (now (sizes .entry)) (now (area .entry)) p ⌝ }
@@ -169,7 +169,7 @@ pub fn update_fits(area: &[i32], sizes: &[i32], p: usize) -> usize
     from + size
 }
 
-// Whether n updates lie one behind the other from a place on, with keys that rise as signed, all above the key of the update before.
+// Whether n updates follow one another from a place on, with keys that rise in signed order, all above the key of the update before.
 fn updates_fit_above(
     area: &[i32],
     sizes: &[i32],
@@ -199,7 +199,7 @@ fn updates_fit_above(
     UpdatesForm::End(p)
 }
 
-// Whether n updates lie one behind the other from a place on, with keys that rise as signed.
+// Whether n updates follow one another from a place on, with keys that rise in signed order.
 pub fn updates_fit(area: &[i32], sizes: &[i32], start: usize, n: usize) -> UpdatesForm
     requires { ⌜ start ≤ length (now area) ⌝ }
     ensures { λ r. ⌜ r ≡ updatesFormOf (now (sizes .entry)) (now (area .entry)) start 0 n ⌝ }

@@ -1,4 +1,4 @@
--- The walk over sorted entries: what was told, and what is left to tell. Assumes nothing.
+-- The walk over sorted entries: results so far, and what remains. Assumes nothing.
 use mathlib.Core.Path.{_≡_, refl, sym, ap, _∙_}
 use mathlib.Core.Bool.{Bool, true, false, cond, not}
 use mathlib.Core.List.{List, [], _∷_, map}
@@ -19,7 +19,7 @@ use Rattle.delta_index.specs.Entries.{isDeleted, deletedOnce, firstHas, 
 use Rattle.delta_index.specs.Walks.{next-entry, none-left}
 use Rattle.delta_index.specs.Steps.{test, once-nil, once-update, once-again, once-new, last-nil, last-deleted, last-update, cross-nil, cross-deleted, cross-update}
 
--- ---- the pair behind
+-- ---- the next pair
 
 pub last-end : (f : ℕ → ℕ) (n k i : ℕ) → n ≤ i → true ≡ not (firstHas k (drop i (list f n)))
 last-end f n k i h = rw (none-left f n i h)
@@ -29,7 +29,7 @@ last-inner f n k i h = rw (next-entry f n i h)
 
 -- ---- counts
 
--- what was counted of the entries before i, and what those from i on add to it
+-- the counts of the entries before i, and what those from i on add
 pub record Telling (l : List ℕ) (i deleted updated across d : ℕ) : Type 0 where
   pub deleted-few : deleted ≤ i
   pub updated-few : updated ≤ i
@@ -49,7 +49,7 @@ telling-start l =
       across-is = omega arith;
     }
 
--- a deleted key counts where it is not the last one again
+-- a deleted key counts if it differs from the last one
 once-counts : (d x next r : ℕ) (l : List ℕ) → isDeleted x ≡ true → next ≡ suc (key x) → r ≡ cond (not (eqb d next)) 1 0 → length (deletedOnce d (x ∷ l)) ≡ r + length (deletedOnce next l)
 once-counts d x next r l e q c =
     test (eqb d next)
@@ -62,7 +62,7 @@ once-counts d x next r l e q c =
     let n : d ≡ suc (key x) → ⊥ = λ (s : d ≡ suc (key x)). eqb-false d next t (s ∙ sym q) in
     ap length (once-new d x l e n) ∙ rw (z, q) (omega arith))
 
--- an update counts where it is the last of its key
+-- an update counts if it is the last with its key
 last-counts : (x r : ℕ) (l : List ℕ) → isDeleted x ≡ false → r ≡ cond (not (firstHas (key x) l)) 1 0 → length (lastUpdates (x ∷ l)) ≡ r + length (lastUpdates l)
 last-counts x r l e c =
     ap length (last-update x l e)
@@ -107,14 +107,14 @@ module _ (l : List ℕ) (i deleted updated across d x next : ℕ) (s : Telling l
         across-is = omega (arith, rw (h, cross-update d x (drop (i + 1) l) e, ← b) at (s .across-is));
       }
 
--- all was told
+-- all is counted
 pub told-all : (l : List ℕ) (i deleted updated across d : ℕ) → Telling l i deleted updated across d → drop i l ≡ [] → (deleted ≡ length (deletedOnce 0 l)) × (updated ≡ length (lastUpdates l)) × (across ≡ crossing 0 l)
 told-all l i deleted updated across d s h =
     (omega (arith, rw (h, once-nil d) at (s .deleted-is)), omega (arith, rw (h, last-nil) at (s .updated-is)), omega (arith, rw (h, cross-nil d) at (s .across-is)))
 
--- ---- keys that are written
+-- ---- the written keys
 
--- the deleted keys from entry i on are still to be laid, from w on
+-- the deleted keys from entry i on remain to be laid, from w on
 pub record Putting (l : List ℕ) (at : ℕ) (out₀ : List ℤ) (i w d : ℕ) (out : List ℤ) : Type 0 where
   pub few : w ≤ at + i
   pub long : length out ≡ length out₀
@@ -125,7 +125,7 @@ pub putting-start : (l : List ℕ) (at : ℕ) (out₀ : List ℤ) → Putting l 
 putting-start l at out₀ = record { few = omega arith; long = refl; place-is = refl; same = refl }
 
 module _ (l : List ℕ) (at : ℕ) (out₀ : List ℤ) (i w d : ℕ) (out : List ℤ) (x : ℕ) (s : Putting l at out₀ i w d out) (h : drop i l ≡ x ∷ drop (i + 1) l) where
-  -- nothing is told of the next entry
+  -- the next entry gives no key
   passed : deletedOnce d (x ∷ drop (i + 1) l) ≡ deletedOnce d (drop (i + 1) l) → Putting l at out₀ (i + 1) w d out
   passed e = record { few = omega (arith, s .few); long = s .long; place-is = rw (h, e) at (s .place-is); same = rw (h, e) at (s .same) }
 
@@ -154,7 +154,7 @@ module _ (l : List ℕ) (at : ℕ) (out₀ : List ℤ) (i w d : ℕ) (out : List
           same = sym (layAt-set w (keyInt x) (map keyInt (deletedOnce (key x + 1) (drop (i + 1) l))) out (has-room r)) ∙ (rw new-key at (s .same));
         })
 
--- all were written
+-- all are written
 pub put-all : (l : List ℕ) (at : ℕ) (out₀ : List ℤ) (i w d : ℕ) (out : List ℤ) → Putting l at out₀ i w d out → drop i l ≡ [] → (w ≡ at + length (deletedOnce 0 l)) × (out ≡ layAt at (map keyInt (deletedOnce 0 l)) out₀)
 put-all l at out₀ i w d out s h =
     (omega (arith, rw (h, once-nil d) at (s .place-is)), sym (layAt-nothing w out) ∙ (rw (h, once-nil d) at (s .same)))

@@ -1,4 +1,4 @@
--- The deleted keys and the updates of a delta as pairs of a rank and a place, and what they tell once they are sorted.
+-- The deleted keys and the updates of a delta as pairs of a rank and a place, and what follows from them once sorted.
 pub mod Entries
 pub mod Steps
 pub mod Walks

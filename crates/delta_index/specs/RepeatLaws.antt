@@ -1,4 +1,4 @@
--- How many updates repeat the key of one before. Assumes nothing.
+-- How many updates repeat an earlier key. Assumes nothing.
 use mathlib.Core.Path.{_≡_, refl, sym, ap, _∙_}
 use mathlib.Core.Bool.{Bool, true, false, cond, _&&_, _||_}
 use mathlib.Core.List.{List, [], _∷_, _++_, map, append-nil, append-assoc}
@@ -19,12 +19,12 @@ use Rattle.delta_index.specs.Placing.{keysFit, fit-snoc, updateKey, Ente
 use Rattle.delta_index.specs.UpdateLaws.{items-ordered}
 use Rattle.delta_index.specs.CrossingLaws.{eqb-rank, fit-first, fit-rest}
 
--- how many updates have the key of one before them, or of one of those before all
+-- how many updates have the key of an earlier one, or of one in the first list
 unfoldable pub repeated : List Item → List Item → ℕ
 repeated before [] = 0
 repeated before (u ∷ l) = cond (isSome (find (u .key) before)) 1 0 + repeated (before ++ u ∷ []) l
 
--- ---- items in order of their ranks
+-- ---- items in rank order
 
 -- whether an item has the rank r
 unfoldable hasRank : ℕ → List Item → Bool
@@ -36,7 +36,7 @@ unfoldable ranksRise : ℕ → List Item → Bool
 ranksRise low [] = true
 ranksRise low (x ∷ l) = leb low (rank (x .key)) && ranksRise (suc (rank (x .key))) l
 
--- an item put among others
+-- an item inserted among others
 abbrev putItem : Item → List Item → List Item
 putItem x l = put (λ (y : Item). y .key) x l
 
@@ -64,7 +64,7 @@ has-below low r (x ∷ l) e h =
     let d : rank (x .key) ≡ r → ⊥ = λ q. omega arith in
     rw (ne-eqb (rank (x .key)) r d) (has-below (suc (rank (x .key))) r l (and-right (leb low (rank (x .key))) (ranksRise (suc (rank (x .key))) l) e) (omega arith))
 
--- put among items that rise, they still do
+-- items that rise still rise with one more inserted
 rise-put : (low : ℕ) (x : Item) (l : List Item) → low ≤ rank (x .key) → ranksRise low l ≡ true → ranksRise low (putItem x l) ≡ true
 unfolding ranksRise
 rise-put low x [] h e = unfold put in rw (le-leb low (rank (x .key)) h)
@@ -87,7 +87,7 @@ or-again : (a c : Bool) → (a || c) ≡ (a || (a || c))
 or-again true c = refl
 or-again false c = refl
 
--- one rank more to look at
+-- one more rank to search
 has-put : (r : ℕ) (x : Item) (l : List Item) → hasRank r (putItem x l) ≡ hasRank r (x ∷ l)
 unfolding hasRank
 has-put r x [] = unfold put in refl
@@ -110,7 +110,7 @@ unfolding hasRank
 has-snoc r [] u = test (eqb (rank (u .key)) r) (λ q. rw q) (λ q. rw q)
 has-snoc r (x ∷ l) u = rw (has-snoc r l u) (test (eqb (rank (x .key)) r) (λ q. rw q) (λ q. rw q))
 
--- one more, unless its rank is there
+-- one more, unless its rank is there already
 length-put : (low : ℕ) (x : Item) (l : List Item) → ranksRise low l ≡ true → length (putItem x l) + cond (hasRank (rank (x .key)) l) 1 0 ≡ suc (length l)
 unfolding hasRank ranksRise
 length-put low x [] e = unfold put in refl
@@ -127,7 +127,7 @@ length-put low x (y ∷ l) e =
     rw (put-gt x y l m, ne-eqb (rank (y .key)) (rank (x .key)) d) (omega (arith, length-put (suc (rank (y .key))) x l e2))))
     (order (rank (x .key)) (rank (y .key)))
 
--- ---- one update more at the end
+-- ---- one more update at the end
 
 eqb-sym : (a b : ℕ) → eqb a b ≡ eqb b a
 eqb-sym a b =
@@ -159,9 +159,9 @@ length-snoc (x ∷ l) u =
     (rw (has-ordered r l) at (length-put 0 x (orderedUpdates l) (rise-ordered l)))
     (length-snoc l u)
 
--- ---- all of them
+-- ---- all updates
 
--- a key of 32 bits is found where its rank is
+-- a key of 32 bits is found if its rank is
 find-rank : (k : ℕ) (l : List Item) → k < 2 ^ 32 → keysFit (keys l) ≡ true → isSome (find k l) ≡ hasRank (rank k) l
 unfolding find hasRank
 find-rank k [] h f = refl
@@ -173,7 +173,7 @@ keys-snoc : (l : List Item) (u : Item) → keys (l ++ u ∷ []) ≡ keys l ++ u 
 keys-snoc [] u = refl
 keys-snoc (x ∷ l) u = ap (λ (t : List ℕ). x .key ∷ t) (keys-snoc l u)
 
--- those before, and those that are not repeated, are in order each once
+-- repeated and ordered updates, with earlier ones, make up all
 pub repeated-behind : (before l : List Item) → keysFit (keys before) ≡ true → keysFit (keys l) ≡ true → repeated before l + length (orderedUpdates (before ++ l)) ≡ length (orderedUpdates before) + length l
 unfolding repeated
 repeated-behind before [] f g = rw (append-nil before) (omega arith)
@@ -183,7 +183,7 @@ repeated-behind before (u ∷ l) f g =
     let again = rw (append-assoc before (u ∷ []) l) at (repeated-behind (before ++ u ∷ []) l more (fit-rest (u .key) (keys l) g)) in
     rw (find-rank (u .key) before k f) (omega (arith, again, length-snoc before u))
 
--- updates and those that repeat a key
+-- repeated and ordered updates make up all
 pub repeated-all : (l : List Item) → keysFit (keys l) ≡ true → repeated [] l + length (orderedUpdates l) ≡ length l
 unfolding ordered keysFit
 repeated-all l f = omega (arith, repeated-behind [] l refl f)
@@ -194,7 +194,7 @@ repeated-count l f = omega (arith, repeated-all l f)
 
 -- ---- while updates are read
 
--- one update more
+-- one more update
 pub repeated-snoc : (before l : List Item) (u : Item) → repeated before (l ++ u ∷ []) ≡ repeated before l + cond (isSome (find (u .key) (before ++ l))) 1 0
 unfolding repeated
 repeated-snoc before [] u = rw (append-nil before) (omega arith)
@@ -210,7 +210,7 @@ length-items : (l : List Placed) → length (map (λ (u : Placed). u .item) l) �
 length-items [] = refl
 length-items (u ∷ l) = ap suc (length-items l)
 
--- how many of the updates that were read are repeated
+-- how many of the updates read are repeated
 pub tells-repeated : (deleted : List ℕ) (updated : List Placed) (high : ℕ) → Entered deleted updated high → repeated [] (map (λ (u : Placed). u .item) updated) + length (ordered updateKey updated) ≡ length updated
 tells-repeated deleted updated high e =
     let fits : keysFit (keys (map (λ (u : Placed). u .item) updated)) ≡ true = rw (keys-items updated) (e .updatedFit) in

@@ -1,4 +1,4 @@
--- What the walk over sorted entries does at each entry. Assumes nothing.
+-- What the walk over sorted entries does for each entry. Assumes nothing.
 use mathlib.Core.Path.{_≡_, refl, sym, ap, _∙_}
 use mathlib.Core.Bool.{Bool, true, false, cond, _||_}
 use mathlib.Core.List.{List, [], _∷_, _++_}
@@ -16,7 +16,7 @@ pub test : {P : Type 0} (t : Bool) → (t ≡ true → P) → (t ≡ false → P
 test true f g = f refl
 test false f g = g refl
 
--- of three tests, the first two in either order
+-- of three tests, the first two commute
 pub or-swap : (a b c : Bool) → (a || (b || c)) ≡ (b || (a || c))
 or-swap true true c = refl
 or-swap true false c = refl
@@ -69,24 +69,24 @@ pub cross-update : (d x : ℕ) (l : List ℕ) → isDeleted x ≡ false → cros
 unfolding crossing
 cross-update d x l e = rw e
 
--- ---- lists that rise
+-- ---- rising lists
 
--- whether d is at most one above the key of the first, so that of all where the list rises
+-- whether d is at most the first key plus one, and so for all keys of a rising list
 abbrev pub startsFrom : ℕ → List ℕ → Bool
 startsFrom d [] = true
 startsFrom d (y ∷ l) = leb d (suc (key y))
 
--- the first of a list that rises is at most the next
+-- the first of a rising list is at most the second
 pub rises-first : (x y : ℕ) (l : List ℕ) → rises (x ∷ y ∷ l) ≡ true → x ≤ y
 unfolding rises atMostFirst
 rises-first x y l r = leb-true x y (and-left (leb x y) (rises (y ∷ l)) r)
 
--- what is at most the first of a list that rises, before it
+-- a rising list with a number before it that is at most the first
 pub rises-cons : (x y : ℕ) (l : List ℕ) → x ≤ y → rises (y ∷ l) ≡ true → rises (x ∷ y ∷ l) ≡ true
 unfolding rises atMostFirst
 rises-cons x y l h r = rw (le-leb x y h) r
 
--- a list that rises, without its second
+-- a rising list without its second number
 pub rises-skip : (x y : ℕ) (l : List ℕ) → rises (x ∷ y ∷ l) ≡ true → rises (x ∷ l) ≡ true
 unfolding rises atMostFirst
 rises-skip x y [] r = refl
@@ -95,12 +95,12 @@ rises-skip x y (z ∷ l) r =
     let b = rises-first y z l (rises-rest x (y ∷ z ∷ l) r) in
     rw (le-leb x z (omega arith)) (rises-rest y (z ∷ l) (rises-rest x (y ∷ z ∷ l) r))
 
--- behind the first the keys start no lower
+-- after the first, the keys start no lower
 pub starts-rest : (d x : ℕ) (l : List ℕ) → rises (x ∷ l) ≡ true → d ≤ suc (key x) → startsFrom d l ≡ true
 starts-rest d x [] r h = refl
 starts-rest d x (y ∷ l) r h = le-leb d (suc (key y)) (omega (arith, rises-first x y l r))
 
--- one in the middle can be inserted last
+-- a number in the middle can be inserted last
 pub sort-middle : (a : List ℕ) (x : ℕ) (b : List ℕ) → sort (a ++ x ∷ b) ≡ insert x (sort (a ++ b))
 sort-middle [] x b = sort-cons x b
 sort-middle (y ∷ a) x b =

@@ -1,4 +1,4 @@
--- Entries of an index, one after the other. Assumes nothing.
+-- Entries of an index, one by one. Assumes nothing.
 use mathlib.Core.Path.{_≡_}
 use mathlib.Core.List.{[], _∷_}
 use Prim.Native.Nat.{ℕ, _+_, _≤_, _<_}
@@ -10,7 +10,7 @@ use Rattle.definitions.specs.Tables.{list}
 use Rattle.laws.specs.ListLaws.{getD-list}
 use Rattle.laws.specs.TableForm.{length-list}
 
--- the next of n entries, and those behind it
+-- the next of n entries, and those after it
 pub next-entry : (f : ℕ → ℕ) (n i : ℕ) → i < n → drop i (list f n) ≡ f i ∷ drop (i + 1) (list f n)
 next-entry f n i h =
     rw (drop-cons (list f n) i 0 (omega (arith, length-list f n)), getD-list f n i 0 h, add-one i)

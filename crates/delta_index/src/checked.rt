@@ -1,4 +1,4 @@
-// What sorted pairs of a rank and a place tell: a deleted key is at place 0, an update at the place where it begins.
+// Sorted pairs of a rank and a place: a deleted key has place 0, an update the place where it begins.
 ghost use mathlib.Core.Path.{_≡_};
 ghost use mathlib.Core.Bool.{not};
 ghost use mathlib.Core.List.{map};
@@ -14,14 +14,14 @@ use ints::one_if;
 use sorting::checked::key_at;
 use sorting::checked::place_at;
 
-// Different deleted keys, different keys of updates, and updates of deleted keys.
+// The numbers of different deleted keys, different keys of updates, and updates of deleted keys.
 pub struct Tally {
     pub deleted: usize,
     pub updated: usize,
     pub crossing: usize,
 }
 
-// Whether the pair behind pair i, of n, has another key, or there is none.
+// Whether the pair after pair i, of n, has another key or does not exist.
 pub fn is_last(index: &[i32], n: usize, i: usize) -> bool
     requires { ⌜ (2 * n ≤ length (now index)) × (i < n) ⌝ }
     ensures { λ r. ⌜ r ≡ not (firstHas (key (pairAt (now (index .entry)) i)) (drop (i + 1) (pairs (now (index .entry)) n))) ⌝ }
@@ -33,7 +33,7 @@ pub fn is_last(index: &[i32], n: usize, i: usize) -> bool
     key_at(index, i) != key_at(index, j)
 }
 
-// The int whose rank is given.
+// The int with the given rank.
 pub fn int_at(rank: usize) -> i32
     requires { ⌜ rank < 2 ^ 32 ⌝ }
     ensures { λ r. ⌜ r ≡ fromBits (Deltas.rank rank) ⌝ }
@@ -42,7 +42,7 @@ pub fn int_at(rank: usize) -> i32
     from_bits(bits as u32)
 }
 
-// What the first n pairs tell.
+// The tally of the first n pairs.
 pub fn tally_pairs(index: &[i32], n: usize) -> Tally
     requires { ⌜ 2 * n ≤ length (now index) ⌝ }
     ensures { λ r. ⌜ (r .deleted ≡ length (deletedOnce 0 (pairs (now (index .entry)) n))) × (r .updated ≡ length (lastUpdates (pairs (now (index .entry)) n))) × (r .crossing ≡ crossing 0 (pairs (now (index .entry)) n)) ⌝ }
@@ -73,7 +73,7 @@ pub fn tally_pairs(index: &[i32], n: usize) -> Tally
     }
 }
 
-// Writes each deleted key of the first n pairs once, from a place on; the place after them.
+// Writes each deleted key of the first n pairs once, from a place on. Returns the place after them.
 pub fn write_deleted(index: &[i32], n: usize, out: &mut [i32], at: usize) -> usize
     requires { ⌜ (2 * n ≤ length (now index)) × (at + length (deletedOnce 0 (pairs (now index) n)) ≤ length (now out)) ⌝ }
     ensures { λ r. ⌜ (r ≡ at + length (deletedOnce 0 (pairs (now (index .entry)) n))) × (now (out .exit) ≡ layAt at (map keyInt (deletedOnce 0 (pairs (now (index .entry)) n))) (now (out .entry))) ⌝ }

@@ -1,2 +1,2 @@
-// The keys of a delta in order: what a sorted list of its deleted keys and updates tells.
+// The keys of a delta in order, from a sorted list of its deleted keys and updates.
 pub mod checked;

@@ -1,4 +1,4 @@
--- What making a delta comes to, case by case. Assumes nothing.
+-- The result of making a delta, case by case. Assumes nothing.
 use Prim.Native.Nat.{ℕ, _+_, _-_, _/_, _<_, _≤_}
 use mathlib.Core.Path.{_≡_, refl, sym, ap, _∙_, subst}
 use mathlib.Core.Bool.{true, false, true≢false}
@@ -27,7 +27,7 @@ use Rattle.delta_making.proofs.Parts.{alike-at}
 -- ---- the answers
 
 module _ (b t : Table) (out : List ℤ) where
-  -- what storing the delta comes to: the answer, and the area then
+  -- the result of storing the delta: the answer, and the area afterwards
   abbrev Comes : Outcome ℕ → List ℤ → Type 0
   Comes o l = stored out (createdInts b t) ≡ record { answer = o; out = l }
 
@@ -77,7 +77,7 @@ module _ (b t : List ℤ) (n r : ℕ) (h : Held t n) (d : DifferingAt b t n r) (
         lengths = w .2;
       })
 
--- ---- how many ints it takes
+-- ---- how many ints the delta has
 
 module _ (b : Table) (t : List ℤ) (n : ℕ) (h : Held t n) where
   pub end-is : start t n ≡ 2 + n + size t / 4

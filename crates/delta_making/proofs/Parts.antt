@@ -1,4 +1,4 @@
--- The items of an area from one place to another, and the ints that are written of them. Assumes nothing.
+-- The items of an area from one place to another, and the ints written for them. Assumes nothing.
 use Prim.Native.Nat.{ℕ, zero, suc, _+_, _-_, _<_, _≤_, _^_}
 use mathlib.Core.Path.{_≡_, refl, sym, ap, ap₂, _∙_}
 use mathlib.Core.Bool.{Bool, true, false, cond, not}
@@ -38,7 +38,7 @@ module _ (a : List ℤ) (n : ℕ) (h : Held a n) where
       drop-cons (list (itemAt a) (count a)) i (itemAt a 0) (omega (arith, length-list (itemAt a) (count a), h .count-is))
       ∙ rw (getD-list (itemAt a) (count a) i (itemAt a 0) (omega (arith, h .count-is)), add-one i)
 
-  -- the first item, and the others
+  -- the first item, and the rest
   pub part-step : (i to : ℕ) → i < to → to ≤ n → part i to (items a) ≡ itemAt a i ∷ part (i + 1) to (items a)
   unfolding part
   part-step i to l m =
@@ -49,7 +49,7 @@ module _ (a : List ℤ) (n : ℕ) (h : Held a n) where
   unfolding part
   part-all = take-all (n - 0) (items a) (omega (arith, length-is))
 
-  -- in the order of the walk: from the place of 2^31 on, then those before it
+  -- in walk order: those from the place of 2^31 on, then those before it
   pub walk-parts : (m : ℕ) → Place a (2 ^ 31) m → walk (items a) ≡ part m n (items a) ++ part 0 m (items a)
   unfolding part items
   walk-parts m q =
@@ -66,7 +66,7 @@ module _ (a : List ℤ) (n : ℕ) (h : Held a n) where
       ∙ (walk-list f m j (q .below) (λ i l. q .above (m + i) (omega arith) (omega arith))
       ∙ sym (ap₂ (λ (x y : Table). x ++ y) u v))
 
--- ---- what the base's items become
+-- ---- what is written for the base's items
 
 module _ (t : Table) where
   pub deleted-end : (i to : ℕ) (b : Table) → to ≤ i → deletedInts t (part i to b) ≡ []
@@ -77,7 +77,7 @@ module _ (t : Table) where
     pub deleted-skip : isSome (find (keyAt a i) t) ≡ true → deletedInts t (part i to (items a)) ≡ deletedInts t (part (i + 1) to (items a))
     deleted-skip e = rw (part-step a n h i to l m) (unfold deletedInts lacking in rw e)
 
-    -- an item that it lacks
+    -- an item that the target lacks
     pub deleted-step : isSome (find (keyAt a i) t) ≡ false → deletedInts t (part i to (items a)) ≡ (fromBits (keyAt a i) ∷ []) ++ deletedInts t (part (i + 1) to (items a))
     deleted-step e = rw (part-step a n h i to l m) (unfold deletedInts lacking in rw e)
 
@@ -93,7 +93,7 @@ module _ (t : Table) where
   pub lacking-end : (i to : ℕ) (b : Table) → to ≤ i → length (lacking t (part i to b)) ≡ 0
   lacking-end i to b l = rw (part-end i to b l) (unfold lacking in refl)
 
--- ---- what the target's items become
+-- ---- what is written for the target's items
 
 alike-drop : (b t : Table) (i : ℕ) → alike b t ≡ true → alike b (drop i t) ≡ true
 unfolding alike
@@ -115,7 +115,7 @@ module _ (b : Table) where
     pub alike-step : agree (find (keyAt a i) b) (valuesAt a i) ≡ true → alike b (part i to (items a)) ≡ alike b (part (i + 1) to (items a))
     alike-step e = rw (part-step a n h i to l m) (unfold alike in rw e)
 
-  -- where all are alike, each is as long as the base's
+  -- if all items agree in length, each is as long as the base's
   pub alike-at : (a : List ℤ) (n : ℕ) (h : Held a n) (i : ℕ) → i < n → alike b (items a) ≡ true → agree (find (keyAt a i) b) (valuesAt a i) ≡ true
   alike-at a n h i l e =
       first (itemAt a i) (drop (i + 1) (items a)) (rw (drop-step a n h i l) at (alike-drop b (items a) i e))
@@ -143,7 +143,7 @@ in-order b t =
     rw (length-keys-of (walk (lacking t b)), length-walk (lacking t b), length-walk (changes b t), length-changes b t, walk-lacking t b, walk-changes b t)
 
 module _ (b t : List ℤ) (nb nt m q : ℕ) (hb : Held b nb) (ht : Held t nt) (pm : Place b (2 ^ 31) m) (pq : Place t (2 ^ 31) q) where
-  -- the three counts, and then four parts
+  -- the three counts, then four parts
   pub delta-parts : writtenDelta (deltaFrom (items b) (items t))
       ≡ (pos (length (lacking (items t) (items b))) ∷ pos nt ∷ pos 0 ∷ [])
       ++ (deletedInts (items t) (part m nb (items b)) ++ (deletedInts (items t) (part 0 m (items b)) ++ (changesInts (items b) (part q nt (items t)) ++ changesInts (items b) (part 0 q (items t)))))

@@ -1,4 +1,4 @@
--- What the place of a key tells, and a place that goes along with rising keys. Assumes nothing.
+-- What the place of a key says, and a place that advances with rising keys. Assumes nothing.
 use Prim.Native.Nat.{ℕ, _+_, _<_, _≤_}
 use mathlib.Core.Path.{_≡_, refl}
 use mathlib.Core.Logic.{_⊎_, inl, inr}
@@ -27,7 +27,7 @@ module _ (a : List ℤ) (n k p : ℕ) (h : Held a n) (q : Place a k p) where
   pub past-all : n ≤ p → false ≡ isSome (find k (items a))
   past-all l = rw (absent a (h .shape) k p q (λ m e. omega (arith, h .count-is)))
 
-  -- a key that is found is found there
+  -- a key that is found is found at its place
   pub found-at : isSome (find k (items a)) ≡ true → (p < n) × (find k (items a) ≡ some (valuesAt a p))
   found-at e = go (eqb (keyAt a p) k) refl (below p n)
     where
@@ -40,7 +40,7 @@ module _ (a : List ℤ) (n k p : ℕ) (h : Held a n) (q : Place a k p) where
       go true d (inr l) = absurd (hit (absent a (h .shape) k p q (λ m x. omega (arith, h .count-is))))
       go false d s = absurd (hit (absent a (h .shape) k p q (λ m. eqb-false (keyAt a p) k d)))
 
--- ---- a place that goes along
+-- ---- a place that advances
 
 module _ (a : List ℤ) (n k i : ℕ) (h : Held a n) (l : i < n) (less : (j : ℕ) → j < i → keyAt a j < k) where
   -- one more key is less
@@ -70,12 +70,12 @@ pub along-start : (a : List ℤ) (n : ℕ) (b : List ℤ) (i : ℕ) → Along a 
 along-start a n b i = record { within = omega arith; passed = λ m j o r s. absurd (omega arith) }
 
 module _ (a : List ℤ) (n : ℕ) (ha : Held a n) (b : List ℤ) (nb : ℕ) (hb : Held b nb) (c i : ℕ) (l : i < nb) where
-  -- what the search for the place of the i-th key is given
+  -- what the search for the place of the i-th key requires
   pub along-asks : (k : ℕ) → k ≡ keyAt b i → Along a n c b i → Held a n × (c ≤ n) × ((j : ℕ) → j < c → keyAt a j < k)
   along-asks k e s =
       (ha, s .within, λ j o. omega (arith, s .passed i j (omega arith) (omega (arith, hb .count-is)) o))
 
-  -- so it stays with the place of the i-th key
+  -- the next search starts at the place of the i-th key
   pub along-next : Place a (keyAt b i) c → Along a n c b (i + 1)
   along-next q =
       record {

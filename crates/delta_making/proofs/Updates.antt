@@ -1,4 +1,4 @@
--- One item of the target: its length beside the base's, and its update as it is written. Assumes nothing.
+-- One item of the target: its length compared with the base's, and its written update. Assumes nothing.
 use Prim.Native.Nat.{ℕ, _+_, _/_, _%_, _<_, _≤_}
 use mathlib.Core.Path.{_≡_, refl, sym, ap, ap₂, _∙_}
 use mathlib.Core.Bool.{true, false, true≢false}
@@ -21,7 +21,7 @@ use Rattle.laws.specs.DeltaSize.{update-written}
 use Rattle.table.specs.Held.{Held}
 use Rattle.delta_making.specs.Parts.{changed, changeInts}
 
--- ---- the base's data, where there is any
+-- ---- the base's data, if there is any
 
 module _ (o : Option (List ℤ)) (v : List ℤ) where
   pub none-agrees : isSome o ≡ false → true ≡ agree o v
@@ -48,9 +48,9 @@ module _ (o : Option (List ℤ)) (v : List ℤ) where
     pub as-long : agree o v ≡ true → length v ≡ length w
     as-long a = sym (eqb-true (length w) (length v) (rw e at a))
 
--- ---- an update as it is written
+-- ---- a written update
 
--- three ints stored one behind the other
+-- three ints stored one after the other
 pub three-laid : (o o₁ o₂ o₃ : List ℤ) (at : ℕ) (x y z : ℤ) → at + 3 ≤ length o → o₁ ≡ set o at x → o₂ ≡ set o₁ (at + 1) y → o₃ ≡ set o₂ (at + 2) z → o₃ ≡ layAt at (x ∷ y ∷ z ∷ []) o
 three-laid o o₁ o₂ o₃ at x y z h e f g =
     let n₁ : length o₁ ≡ length o = ap length e ∙ length-set o at x in
@@ -69,7 +69,7 @@ module _ (b : Table) (x : Item) (a : agree (find (x .key) b) (x .values) ≡ tru
       ap length (update-written (changed b x))
       ∙ omega (arith, length-differences (find (x .key) b) (x .values) a)
 
-  -- the head, and the differences behind it
+  -- the head, then the differences
   pub change-laid : (o h r : List ℤ) (at k n : ℕ) → k ≡ x .key → n ≡ length (x .values)
       → h ≡ layAt at (pos (k / 65536) ∷ pos (k % 65536) ∷ pos n ∷ []) o → r ≡ layAt (at + 3) (differences (find (x .key) b) (x .values)) h
       → (at + 3 + n ≡ at + length (changeInts b x)) × (r ≡ layAt at (changeInts b x) o)
@@ -82,7 +82,7 @@ module _ (b : Table) (x : Item) (a : agree (find (x .key) b) (x .values) ≡ tru
         er ∙ (ap (layAt (at + 3) v) eh′ ∙ (sym (layAt-append at head v o) ∙ ap (λ (l : List ℤ). layAt at l o) (sym (update-written (changed b x))))),
       )
 
--- an item's data is short
+-- the length of an item's data is bounded
 pub values-short : (a : List ℤ) (n i : ℕ) → Held a n → i < n → length (valuesAt a i) < 16384
 values-short a n i h l =
     omega (arith, length-vals a (h .shape) i (omega (arith, h .count-is)), bounds a (h .shape) i (omega (arith, h .count-is)))

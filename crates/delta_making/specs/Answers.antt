@@ -19,7 +19,7 @@ use Rattle.delta_making.specs.declared.Made.the-variants as made
 abbrev pub createdInts : Table → Table → Outcome (List ℤ)
 createdInts b t = createDelta b t >>= λ d. return (writtenDelta d)
 
--- document 01's number and values of each case
+-- the refusal's number or the value of each case
 abbrev pub madeInts : Made → Outcome ℕ
 madeInts (made.Ints n) = return n
 madeInts (made.DifferingSizes k) = refuse deltaDifferingSizes
@@ -33,7 +33,7 @@ pub record Differing (b t : Table) (k : ℕ) : Type 0 where
   pub to-is : find k t ≡ some to
   pub lengths : length from ≡ length to → ⊥
 
--- the key that is named differs; 10 comes with a key
+-- a named key's items differ in length; 10 always names a key
 abbrev pub Clash : Table → Table → Made → Type 0
 Clash b t (made.Ints n) = Unit {0}
 Clash b t (made.DifferingSizes k) = Differing b t (bits k)

@@ -1,3 +1,3 @@
--- What the answers of `delta_making` mean, and what its inner functions promise. Assumes nothing.
+-- What the answers of `delta_making` mean, and what its internal functions promise. Assumes nothing.
 pub mod Answers
 pub mod Parts

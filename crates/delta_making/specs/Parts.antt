@@ -1,4 +1,4 @@
--- The parts of a delta in the order in which they are written. Assumes nothing.
+-- The parts of a delta, in the order of writing. Assumes nothing.
 use Prim.Native.Nat.{ℕ, _-_, _<_, _≤_}
 use mathlib.Core.Path.{_≡_}
 use mathlib.Core.Bool.{true, false}
@@ -18,18 +18,18 @@ part from to t = take (to - from) (drop from t)
 unfoldable pub deletedInts : Table → Table → List ℤ
 deletedInts t b = map fromBits (keys (lacking t b))
 
--- an item of the target as its differences from the base
+-- an item of the target with its differences from the base as data
 abbrev pub changed : Table → Item → Item
 changed b x = record { key = x .key; values = differences (find (x .key) b) (x .values) }
 
--- an update, and those of some items
+-- the ints of one update, and of several
 abbrev pub changeInts : Table → Item → List ℤ
 changeInts b x = updateInts [] (changed b x)
 
 unfoldable pub changesInts : Table → Table → List ℤ
 changesInts b t = updatesInts [] (changes b t)
 
--- r is an item of the target that is not as long as the base's with its key, or n where there is none
+-- r is an item of the target that is not as long as the base's item with its key, or n if there is none
 pub record DifferingAt (b t : List ℤ) (n r : ℕ) : Type 0 where
   pub differs : r < n → agree (find (keyAt t r) (items b)) (valuesAt t r) ≡ false
   pub none-differs : n ≤ r → alike (items b) (items t) ≡ true

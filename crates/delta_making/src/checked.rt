@@ -18,7 +18,7 @@ ghost use Rattle.table.specs.Held.{Held};
 ghost use Rattle.delta_making.specs.Answers.{createdInts, madeInts, Clash};
 ghost use Rattle.delta_making.specs.Parts.{part, deletedInts, changeInts, changesInts, DifferingAt};
 
-// The place of a key, from an item on before which all keys are less.
+// The place of a key, searched from an item on before which all keys are less.
 pub fn next_place(area: &[i32], n: usize, from: usize, key: i32) -> usize
     requires { ⌜ Held (now area) n × (from ≤ n) × ((i : ℕ) → i < from → keyAt (now area) i < bits key) ⌝ }
     ensures { λ r. ⌜ Place (now (area .entry)) (bits key) r ⌝ }
@@ -34,7 +34,7 @@ pub fn next_place(area: &[i32], n: usize, from: usize, key: i32) -> usize
     i
 }
 
-// Whether the item at a key's place has the key.
+// Whether the item at a key's place has that key.
 pub fn has_key(area: &[i32], n: usize, place: usize, key: i32) -> bool
     requires { ⌜ Held (now area) n × Place (now area) (bits key) place ⌝ }
     ensures { λ r. ⌜ r ≡ isSome (find (bits key) (items (now (area .entry)))) ⌝ }
@@ -45,7 +45,7 @@ pub fn has_key(area: &[i32], n: usize, place: usize, key: i32) -> bool
     false
 }
 
-// Whether item i of the target is as long as the base's with its key, where there is one: that key's place is p.
+// Whether item i of the target is as long as the base's item with its key, if there is one; p is the key's place in the base.
 pub fn is_as_long(base: &[i32], nb: usize, p: usize, target: &[i32], nt: usize, i: usize) -> bool
     requires { ⌜ Held (now base) nb × Held (now target) nt × (i < nt) × Place (now base) (keyAt (now target) i) p ⌝ }
     ensures { λ r. ⌜ r ≡ agree (find (keyAt (now (target .entry)) i) (items (now (base .entry)))) (valuesAt (now (target .entry)) i) ⌝ }
@@ -58,7 +58,7 @@ pub fn is_as_long(base: &[i32], nb: usize, p: usize, target: &[i32], nt: usize, 
     true
 }
 
-// An item of the target that is not as long as the base's with its key, or nt where there is none.
+// An item of the target that is not as long as the base's item with its key, or nt if there is none.
 pub fn find_differing(base: &[i32], nb: usize, target: &[i32], nt: usize) -> usize
     requires { ⌜ Held (now base) nb × Held (now target) nt ⌝ }
     ensures { λ r. ⌜ DifferingAt (now (base .entry)) (now (target .entry)) nt r ⌝ }
@@ -93,7 +93,7 @@ pub fn count_deleted(base: &[i32], nb: usize, target: &[i32], nt: usize) -> usiz
     deleted
 }
 
-// The keys of the base's items from one to another that the target lacks, into out from a place on; the place behind them.
+// Writes the keys of a range of the base's items that the target lacks into out, from a place on. Returns the place after them.
 pub fn write_deleted(
     base: &[i32],
     nb: usize,
@@ -125,7 +125,7 @@ pub fn write_deleted(
     w
 }
 
-// Three counts, into out from a place on.
+// Writes three counts into out from place at on.
 pub fn put_counts(out: &mut [i32], at: usize, a: usize, b: usize, c: usize)
     requires { ⌜ (at + 3 ≤ length (now out)) × (a < 2 ^ 31) × (b < 2 ^ 31) × (c < 2 ^ 31) ⌝ }
     ensures { λ _. ⌜ now (out .exit) ≡ layAt at (pos a ∷ pos b ∷ pos c ∷ []) (now (out .entry)) ⌝ }
@@ -135,7 +135,7 @@ pub fn put_counts(out: &mut [i32], at: usize, a: usize, b: usize, c: usize)
     table::checked::put(out, at + 2, c);
 }
 
-// The type, the id and the size of an update, into out from a place on.
+// Writes the type, the id and the size of an update into out from place at on.
 pub fn write_head(out: &mut [i32], at: usize, key: i32, size: usize)
     requires { ⌜ (at + 3 ≤ length (now out)) × (size < 2 ^ 31) ⌝ }
     ensures { λ _. ⌜ now (out .exit) ≡ layAt at (pos (bits key / 65536) ∷ pos (bits key % 65536) ∷ pos size ∷ []) (now (out .entry)) ⌝ }
@@ -145,7 +145,7 @@ pub fn write_head(out: &mut [i32], at: usize, key: i32, size: usize)
     put_counts(out, at, raw_type_id, id, size);
 }
 
-// The update of item i of the target, whose key has the place p in the base, into out from a place on; the place behind it.
+// Writes the update of item i of the target, whose key has place p in the base, into out. Returns the place after it.
 pub fn write_update(
     base: &[i32],
     nb: usize,
@@ -175,7 +175,7 @@ pub fn write_update(
     end
 }
 
-// The updates of the target's items from one to another, into out from a place on; the place behind them.
+// Writes the updates of a range of the target's items into out from a place on. Returns the place after them.
 pub fn write_updates(
     base: &[i32],
     nb: usize,
@@ -202,7 +202,7 @@ pub fn write_updates(
     w
 }
 
-// The delta, with so many deleted keys, into the front of out. Each list begins with the keys that are negative as signed, which come last in the tables.
+// Writes the delta, with the given number of deleted keys, to the front of out. Each list starts with the negative keys, which come last in the tables.
 pub fn write_delta(
     base: &[i32],
     nb: usize,
@@ -225,7 +225,7 @@ pub fn write_delta(
     write_updates(base, nb, target, nt, 0, t, out, w3);
 }
 
-// The delta from a base of nb items to a target of nt items, into the front of out; a refused call leaves out as it was.
+// Writes the delta from a base of nb items to a target of nt items to the front of out. A refused call leaves out as it was.
 pub fn create(base: &[i32], nb: usize, target: &[i32], nt: usize, out: &mut [i32]) -> Made
     requires { ⌜ Held (now base) nb × Held (now target) nt ⌝ }
     ensures { λ r. ⌜ stored (now (out .entry)) (createdInts (items (now (base .entry))) (items (now (target .entry)))) ≡ record { answer = madeInts r; out = now (out .exit) } ⌝ }
@@ -237,7 +237,7 @@ pub fn create(base: &[i32], nb: usize, target: &[i32], nt: usize, out: &mut [i32
     }
     let deleted = count_deleted(base, nb, target, nt);
     let end = table::checked::start_at(target, nt, nt);
-    // Three counts, the deleted keys, and of each item three ints and its data.
+    // Three counts, the deleted keys, and for each item three ints and its data.
     let ints = 3 + deleted + (nt + (end - 2));
     if out.len() < ints {
         return Made::Refused(Error::CapacityError);

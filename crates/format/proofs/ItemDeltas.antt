@@ -1,4 +1,4 @@
--- What the differences of one item, or its sums, come to where they are stored. Assumes nothing.
+-- The result of storing the differences or the sums of one item. Assumes nothing.
 use Prim.Native.Nat.{ℕ, _<_, _≤_}
 use mathlib.Core.Path.{_≡_}
 use mathlib.Core.Bool.{Bool, true, false}
@@ -13,7 +13,7 @@ use Rattle.definitions.specs.Outcome.{Outcome, return, refuse, require, _>>_}
 use Rattle.definitions.specs.Stored.{stored}
 
 module _ (out : List ℤ) (alike : Bool) (xs : List ℤ) where
-  -- what storing the ints xs comes to, where the lengths are alike
+  -- storing the ints xs gives o and l; 10 if the lengths differ
   abbrev Comes : Outcome ℕ → List ℤ → Type 0
   Comes o l = stored out (require alike deltaDifferingSizes >> return xs) ≡ record { answer = o; out = l }
 

@@ -1,4 +1,4 @@
--- What the answers of calls that store ints mean: document 01's number and values of each case. Assumes nothing.
+-- What the answers of calls that store ints mean: the refusal's number or the value of each case. Assumes nothing.
 use mathlib.Core.Path.{_≡_, ap}
 use Prim.Native.Nat.{ℕ}
 use Rattle.definitions.specs.Warnings.{Counts}
@@ -12,12 +12,12 @@ abbrev pub storedInts : Stored → Outcome ℕ
 storedInts (stored.Ints n) = return n
 storedInts (stored.Refused e) = refuse (number e)
 
--- an answer with the counts beside it
+-- an answer with its warning counts
 abbrev pub storedWith : Stored → Counts → Outcome ℕ
 storedWith (stored.Ints n) w = ok n w
 storedWith (stored.Refused e) w = err (number e) w
 
--- an answer with earlier warnings
+-- an answer after earlier warnings
 pub with-counts : (a : Stored) (w : Counts) → after w (storedInts a) ≡ storedWith a w
 with-counts (stored.Ints n) w = ap (ok n) (plus-none w)
 with-counts (stored.Refused e) w = ap (err (number e)) (plus-none w)

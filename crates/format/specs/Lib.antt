@@ -1,4 +1,4 @@
--- What the answers, the refusals, the counted warnings and the ticks of the code mean. Assumes nothing.
+-- What the code's answers, refusals, warning counts and ticks mean. Assumes nothing.
 pub mod Numbers
 pub mod Totals
 pub mod Answers

@@ -4,7 +4,7 @@ use Rattle.definitions.specs.Refusals as Refusals
 use Rattle.format.specs.declared.Error.{Error}
 use Rattle.format.specs.declared.Error.the-variants as error
 
--- document 01's number of a refusal
+-- the number of a refusal in docs/FORMAT.md
 abbrev pub number : Error → ℕ
 number error.UnexpectedEnd = Refusals.unexpectedEnd
 number error.IntOutOfRange = Refusals.intOutOfRange

@@ -1,4 +1,4 @@
--- What a tick of the code that may be absent means. Assumes nothing.
+-- The meaning of a tick in the code that may be absent. Assumes nothing.
 use mathlib.Core.Path.{_≡_, refl, ap}
 use mathlib.Core.Option.{Option, some, none}
 use Prim.Native.Nat.{ℕ}
@@ -12,7 +12,7 @@ abbrev pub tickOf : OptionTick → Option ℤ
 tickOf (tick.Some t) = some t
 tickOf tick.None = none
 
--- it tells the whole value
+-- it determines the value
 pub tick-settled : (a b : OptionTick) → tickOf a ≡ tickOf b → a ≡ b
 tick-settled (tick.Some s) (tick.Some t) e = let q : s ≡ t = cc in ap tick.Some q
 tick-settled tick.None tick.None e = refl

@@ -1,8 +1,8 @@
--- What the counted warnings of the code mean. Assumes nothing.
+-- What the code's warning counts mean. Assumes nothing.
 use Rattle.definitions.specs.Warnings.{Counts}
 use Rattle.format.specs.declared.Warnings.{Warnings}
 
--- the counts of a call
+-- the warning counts of a call
 abbrev pub counts : Warnings → Counts
 counts w =
     record {

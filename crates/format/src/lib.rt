@@ -1,4 +1,4 @@
-// What the calls share: keys, why a call is refused, and how many warnings of each kind it counted.
+// What all calls share: keys, refusals, and the warnings counted by kind.
 ghost use mathlib.Core.Path.{_≡_};
 ghost use mathlib.Core.Bool.{cond};
 ghost use mathlib.Core.Option as Option;
@@ -11,9 +11,9 @@ ghost use Rattle.format.specs.Numbers.{number};
 ghost use Rattle.format.specs.Totals.{counts};
 ghost use Rattle.format.specs.Answers.{storedInts};
 
-// Why a call is refused, in the order of document 01's table of causes.
+// Why a call is refused, in the order of the table of refusals in docs/FORMAT.md.
 pub enum Error {
-    // Reading and making tables and deltas: the Rust's snap::Error.
+    // Reading and making tables and deltas: snap::Error in the Rust.
     UnexpectedEnd,
     IntOutOfRange,
     DeletedItemsUnpacking,
@@ -31,18 +31,18 @@ pub enum Error {
     DuplicateUuidType,
     InvalidUuidType,
     MissingUuidType,
-    // The receiver: the Rust's receiver::Error.
+    // The receiver: receiver::Error in the Rust.
     OldDelta,
     InvalidNumParts,
     InvalidPart,
     DuplicatePart,
-    // The store: the Rust's storage::Error.
+    // The store: storage::Error in the Rust.
     StoreOldDelta,
     UnknownSnap,
     InvalidCrc,
-    // A result longer than its lent area.
+    // A result longer than its area.
     CapacityError,
-    // What the Rust does not refuse, or meets with a panic.
+    // Cases that the Rust does not refuse, or in which it panics.
     ScratchTooShort,
     InputTooLong,
     PartTooLong,
@@ -52,7 +52,7 @@ pub enum Error {
     NotInForm,
 }
 
-// Document 01's number of a refusal.
+// The number of a refusal in docs/FORMAT.md.
 pub fn error_number(e: Error) -> u32
     ensures { λ r. ⌜ r ≡ number e ⌝ }
 {
@@ -92,18 +92,18 @@ pub fn error_number(e: Error) -> u32
     }
 }
 
-// A tick, where there is one.
+// A tick, if there is one.
 pub enum OptionTick {
     Some(i32),
     None,
 }
 
-// How often each kind of warning was counted.
+// How many warnings of each kind were counted.
 pub struct Warnings {
-    // The packer's.
+    // From the packer.
     pub overlong_int_encoding: usize,
     pub non_zero_int_padding: usize,
-    // Of tables and deltas.
+    // From tables and deltas.
     pub non_zero_padding: usize,
     pub duplicate_delete: usize,
     pub duplicate_update: usize,
@@ -112,15 +112,15 @@ pub struct Warnings {
     pub num_updated_items: usize,
     pub excess_snap_data: usize,
     pub excess_uuid_item_data: usize,
-    // The receiver's.
+    // From the receiver.
     pub duplicate_snap: usize,
     pub differing_attributes: usize,
-    // The store's.
+    // From the store.
     pub weird_negative_delta_tick: usize,
 }
 
 impl Warnings {
-    // No warning.
+    // No warnings.
     pub fn none() -> Warnings
         ensures { λ r. ⌜ counts r ≡ none ⌝ }
     {
@@ -148,7 +148,7 @@ pub enum Stored {
     Refused(Error),
 }
 
-// What a call that reads comes to, with the warnings counted.
+// The answer of a call that reads, with the warnings it counted.
 pub struct Reading {
     pub answer: Stored,
     pub warnings: Warnings,
@@ -175,7 +175,7 @@ pub fn key_to_id(key: i32) -> u16
     (ints::to_bits(key) % 65536) as u16
 }
 
-// The differences of an item's data from the base's, where it has any, into the front of out.
+// Writes the differences of an item's data from the base's data, if there is any, to the front of out.
 pub fn create_item_delta(has_from: bool, from: &[i32], to: &[i32], out: &mut [i32]) -> Stored
     ensures { λ r. ⌜ createItemDeltaCall (cond «has_from» (Option.some (now (from .entry))) Option.none) (now (to .entry)) (now (out .entry)) ≡ record { answer = storedInts r; out = now (out .exit) } ⌝ }
 {
@@ -195,7 +195,7 @@ pub fn create_item_delta(has_from: bool, from: &[i32], to: &[i32], out: &mut [i3
     Stored::Refused(Error::CapacityError)
 }
 
-// An item's data from its differences and the base's data, where it has any, into the front of out.
+// Writes an item's data, made from its differences and the base's data, if there is any, to the front of out.
 pub fn apply_item_delta(has_from: bool, from: &[i32], delta: &[i32], out: &mut [i32]) -> Stored
     ensures { λ r. ⌜ applyItemDeltaCall (cond «has_from» (Option.some (now (from .entry))) Option.none) (now (delta .entry)) (now (out .entry)) ≡ record { answer = storedInts r; out = now (out .exit) } ⌝ }
 {

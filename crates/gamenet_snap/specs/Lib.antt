@@ -1,2 +1,2 @@
--- What the messages of the code mean. Assumes nothing.
+-- What the code's messages mean. Assumes nothing.
 pub mod Numbers

@@ -1,9 +1,9 @@
-// The messages that carry a delta: their numbers, which stand beside a slice of bytes.
+// The messages that carry a delta: their numbers. Their bytes are a slice of their own.
 
-// How many bytes a message carries at most.
+// The most bytes that a message carries.
 pub const MAX_SNAPSHOT_PACKSIZE: usize = 900;
 
-// The numbers of a message; delta_tick is the distance from the base's tick to the table's.
+// The numbers of a message; delta_tick is the table's tick minus the base's tick.
 pub enum SnapMsg {
     Snap {
         tick: i32,

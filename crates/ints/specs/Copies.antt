@@ -13,26 +13,26 @@ use Rattle.definitions.specs.Refusals.{capacityError}
 use Rattle.definitions.specs.Outcome.{return, refuse, Wrote}
 use Rattle.definitions.specs.Stored.{stored}
 
--- whether all of it had room, and the area then
+-- whether all of it fits, and the area afterwards
 pub record Copied : Type 0 where
   pub fits : Bool
   pub out : List ℤ
 
--- the ints from a place on where they fit, else nothing
+-- copies the ints to a place if they fit, else copies nothing
 unfoldable pub copyAt : List ℤ → ℕ → List ℤ → Copied
 copyAt out at xs =
     cond (fitsAt at xs out)
     (record { fits = true; out = layAt at xs out })
     (record { fits = false; out = out })
 
--- what was copied where it fits
+-- the area after a copy that fits
 pub copied : (out : List ℤ) (at : ℕ) (xs ys : List ℤ) (r : Bool) (o : List ℤ) → copyAt out at xs ≡ record { fits = r; out = o } → xs ≡ ys → at + length ys ≤ length out → o ≡ layAt at ys out
 unfolding copyAt
 copied out at xs ys r o e f h = sym (ap (λ (k : Copied). k .out) (rw (f, le-leb (at + length ys) (length out) h) at e))
 
--- ---- ints that are copied to the front of an area are stored there
+-- ---- copying ints to the front of an area stores them there
 
--- what a copy of n ints comes to
+-- the result of storing n ints by a copy
 abbrev pub storedBy : ℕ → Copied → Wrote ℕ ℤ
 storedBy n c = record { answer = cond (c .fits) (return n) (refuse capacityError); out = c .out }
 

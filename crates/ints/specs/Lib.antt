@@ -1,2 +1,2 @@
--- What the contracts of `ints` cite beside the definitions. Assumes nothing.
+-- What the contracts of `ints` use besides the definitions. Assumes nothing.
 pub mod Copies

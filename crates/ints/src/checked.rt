@@ -1,4 +1,4 @@
-// Sums and differences of two slices of one length, and copies of bytes, into a slice that has room for them.
+// Sums and differences of two slices of equal length, and copies of bytes, into a slice that has room for them.
 ghost use mathlib.Core.Path.{_≡_};
 ghost use Prim.Native.Nat.{_+_, _<_, _≤_};
 ghost use lib.IntN.{pos};
@@ -7,7 +7,7 @@ ghost use Rattle.definitions.specs.Ints.{wrappingAdd, wrappingSub};
 ghost use Rattle.definitions.specs.Areas.{layAt};
 ghost use Rattle.definitions.specs.DeltaMaking.{zipWith};
 
-// The sum of entry i of two slices.
+// The sum of entry i of both slices.
 fn sum_at(a: &[i32], b: &[i32], i: usize) -> i32
     requires { ⌜ (i < length (now a)) × (i < length (now b)) ⌝ }
     ensures { λ r. ⌜ r ≡ wrappingAdd (getD (now (a .entry)) i (pos 0)) (getD (now (b .entry)) i (pos 0)) ⌝ }
@@ -15,7 +15,7 @@ fn sum_at(a: &[i32], b: &[i32], i: usize) -> i32
     super::wrapping_add(a[i], b[i])
 }
 
-// The sums of four entries of two slices, from entry i on.
+// Writes the sums of four entries of two slices, from entry i on.
 fn add_four(out: &mut [i32], at: usize, a: &[i32], b: &[i32], i: usize)
     requires { ⌜ (length (now a) ≡ length (now b)) × (at + length (now a) ≤ length (now out)) × (i + 4 ≤ length (now a)) ⌝ }
     ensures { λ _. ⌜ layAt (at + i) (drop i (zipWith wrappingAdd (now (a .entry)) (now (b .entry)))) (now (out .entry)) ≡ layAt (at + (i + 4)) (drop (i + 4) (zipWith wrappingAdd (now (a .entry)) (now (b .entry)))) (now (out .exit)) ⌝ }
@@ -30,7 +30,7 @@ fn add_four(out: &mut [i32], at: usize, a: &[i32], b: &[i32], i: usize)
     out[at + (i + 3)] = z;
 }
 
-// The sums from an entry on.
+// Writes the sums from entry start on.
 fn add_from(out: &mut [i32], at: usize, a: &[i32], b: &[i32], start: usize)
     requires { ⌜ (length (now a) ≡ length (now b)) × (at + length (now a) ≤ length (now out)) × (start ≤ length (now a)) ⌝ }
     ensures { λ _. ⌜ now (out .exit) ≡ layAt (at + start) (drop start (zipWith wrappingAdd (now (a .entry)) (now (b .entry)))) (now (out .entry)) ⌝ }
@@ -42,7 +42,7 @@ fn add_from(out: &mut [i32], at: usize, a: &[i32], b: &[i32], start: usize)
     }
 }
 
-// The sums of two slices, entry by entry, into out from a place on. A turn takes four, for speed.
+// Writes the sums of two slices, entry by entry, into out from place at on; four in each turn, for speed.
 pub fn add_into(out: &mut [i32], at: usize, a: &[i32], b: &[i32])
     requires { ⌜ (length (now a) ≡ length (now b)) × (at + length (now a) ≤ length (now out)) ⌝ }
     ensures { λ _. ⌜ now (out .exit) ≡ layAt at (zipWith wrappingAdd (now (a .entry)) (now (b .entry))) (now (out .entry)) ⌝ }
@@ -55,7 +55,7 @@ pub fn add_into(out: &mut [i32], at: usize, a: &[i32], b: &[i32])
     add_from(out, at, a, b, i);
 }
 
-// The differences of two slices, entry by entry, into out from a place on.
+// Writes the differences of two slices, entry by entry, into out from place at on.
 pub fn sub_into(out: &mut [i32], at: usize, a: &[i32], b: &[i32])
     requires { ⌜ (length (now a) ≡ length (now b)) × (at + length (now a) ≤ length (now out)) ⌝ }
     ensures { λ _. ⌜ now (out .exit) ≡ layAt at (zipWith wrappingSub (now (a .entry)) (now (b .entry))) (now (out .entry)) ⌝ }
@@ -67,7 +67,7 @@ pub fn sub_into(out: &mut [i32], at: usize, a: &[i32], b: &[i32])
     }
 }
 
-// Copies the bytes xs into out from a place on.
+// Copies the bytes xs into out from place at on.
 pub fn copy_bytes(out: &mut [u8], at: usize, xs: &[u8])
     requires { ⌜ at + length (now xs) ≤ length (now out) ⌝ }
     ensures { λ _. ⌜ now (out .exit) ≡ layAt at (now (xs .entry)) (now (out .entry)) ⌝ }

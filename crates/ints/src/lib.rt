@@ -28,14 +28,14 @@ pub fn from_bits(b: u32) -> i32
     }
 }
 
-// x as a count; a negative int is 2^32, more than any count.
+// x as a count; a negative int gives 2^32, more than any count.
 pub fn num(x: i32) -> usize
     ensures { λ r. ⌜ (r ≡ Tables.num x) × (r ≤ 2 ^ 32) ⌝ }
 {
     if x < 0 { 4294967296 } else { x as usize }
 }
 
-// 1 where b holds, else 0.
+// 1 if b holds, else 0.
 pub fn one_if(b: bool) -> usize
     ensures { λ r. ⌜ r ≡ cond b 1 0 ⌝ }
 {
@@ -56,21 +56,21 @@ pub fn wrapping_sub(a: i32, b: i32) -> i32
     from_bits(std::num::wrapping_sub_u32(to_bits(a), to_bits(b)))
 }
 
-// Whether the key a comes before b where a table is walked.
+// Whether key a comes before key b in a walk of a table.
 pub fn signed_less(a: i32, b: i32) -> bool
     ensures { λ r. ⌜ r ≡ signedLess a b ⌝ }
 {
     a < b
 }
 
-// Whether the key a comes before b where a table is written.
+// Whether key a comes before key b in a written table.
 pub fn unsigned_less(a: i32, b: i32) -> bool
     ensures { λ r. ⌜ r ≡ unsignedLess a b ⌝ }
 {
     to_bits(a) < to_bits(b)
 }
 
-// The sum of all, modulo 2^32.
+// The sum of all entries, modulo 2^32.
 pub fn sum(xs: &[i32]) -> i32
     ensures { λ r. ⌜ r ≡ Ints.sum (now (xs .entry)) ⌝ }
 {
@@ -83,7 +83,7 @@ pub fn sum(xs: &[i32]) -> i32
     total
 }
 
-// Copies xs into out from a place on; where it does not fit: false, and out is left as it was.
+// Copies xs into out from place at on. If xs does not fit, returns false and leaves out as it was.
 pub fn copy_into(out: &mut [i32], at: usize, xs: &[i32]) -> bool
     ensures { λ r. ⌜ copyAt (now (out .entry)) at (now (xs .entry)) ≡ record { fits = r; out = now (out .exit) } ⌝ }
 {

@@ -1,4 +1,4 @@
--- Tables by what is found in them: a table with an item put in, what is kept of it, and that a table whose keys rise is settled so. Assumes nothing.
+-- Tables by what is found in them: with an item put in, and what is kept. Rising keys and what is found determine a table. Assumes nothing.
 use Prim.Native.Nat.{ℕ, suc, _+_, _<_, _≤_, _^_}
 use mathlib.Core.Path.{_≡_, refl, sym, ap, ap₂, _∙_, subst}
 use mathlib.Core.Logic.{⊎-elim}
@@ -139,9 +139,9 @@ replace-is low i (x ∷ t) e f =
     go true q h = refl
     go false q h = ap (λ (l : Table). x ∷ l) (h (eqb-false (x .key) (i .key) q))
 
--- ---- how long it is then
+-- ---- its length afterwards
 
--- so many items, with so many ints behind the offsets
+-- t has n items, and w ints after the offsets
 pub record Long (t : Table) (n w : ℕ) : Type 0 where
   pub items : length t ≡ n
   pub ints : length (body t) ≡ w
@@ -216,4 +216,4 @@ kept-less g (x ∷ b) = go (elem (x .key) g) (kept-less g b)
     go true i = (omega (arith, i .0), omega (arith, i .1, length-append (x .values) (body b)))
     go false i = (omega (arith, i .0), omega (arith, i .1, length-append (x .values) (body b), length-append (x .values) (body (kept g b))))
 
--- ---- a table whose keys rise is settled by what is found in it
+-- ---- a table whose keys rise is determined by what is found in it

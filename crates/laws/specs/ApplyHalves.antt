@@ -97,7 +97,7 @@ abbrev pub NextLow : List Item → Type 0
 NextLow [] = Unit {0}
 NextLow (x ∷ t) = x .key < 2 ^ 31
 
--- of n updates from a place on those before the last few are negative as signed; these begin at p
+-- of n updates from a place on, all but the last few have negative keys; the last few begin at p
 pub record HighBefore (d : List ℤ) (from n p left : ℕ) : Type 0 where
   pub few : left ≤ n
   pub place : p ≡ updatesEnd [] d from (n - left)
@@ -228,7 +228,7 @@ module _ (a : List ℤ) (sh : Shape a) (h : ℕ) (ph : Place a (2 ^ 31) h) where
         let rb : rising 0 (b₁ ++ b₂) ≡ true = subst (λ (t : Table). rising 0 t ≡ true) base-split (items-rise a sh) in
         ap₂ (λ (b : Table) (us : List Item). updatedTable b us (kept g b)) base-split updates-split ∙ merges g (2 ^ 31) b₁ b₂ u₁ u₂ base-lower base-upper (r .1) (r .0) o rb
 
--- ---- what a judgement that is good tells
+-- ---- what a good judgement says
 
 -- every update is as long as the base's data
 pub good-alike : (g : List ℕ) (b : Table) (us : List Item) (n w n′ w′ : ℕ) → judgeUpdates g b us n w ≡ good n′ w′ → alike b us ≡ true

@@ -1,4 +1,4 @@
--- Applying a delta, in two: whether it is refused, by counts alone, and the table that no refusal stands in the way of. Assumes nothing.
+-- Applying a delta in two steps: whether it is refused, by counts alone, and the table if it is not. Assumes nothing.
 use Prim.Native.Nat.{ℕ, suc, _+_, _<_, _≤_, _^_}
 use mathlib.Core.Path.{_≡_, refl, sym, ap, _∙_, subst}
 use mathlib.Core.Bool.{Bool, cond, true, false, not}
@@ -27,7 +27,7 @@ use Rattle.laws.specs.ApplyFound.{withItem, find-withItem, rising-withIt
 
 -- ---- the table
 
--- the item that an update makes of the base's data
+-- the item that an update makes from the base's data
 abbrev pub madeItem : Table → Item → Item
 madeItem b u = record { key = u .key; values = sums (find (u .key) b) (u .values) }
 
@@ -52,7 +52,7 @@ andThen (good n w) f = f n w
 abbrev pub keptOf : List ℕ → Table → ℕ → Option (List ℤ)
 keptOf g b k = cond (elem k g) none (find k b)
 
--- so many items and ints, where the base's data is as long as the differences
+-- this many items and ints, if the base's data is as long as the differences
 abbrev pub judgeLength : Bool → ℕ → ℕ → Judged
 judgeLength same n w = cond same (good n w) (bad deltaDifferingSizes)
 
@@ -85,9 +85,9 @@ abbrev pub SizesOf : Judged → Table → Type 0
 SizesOf (bad r) t = Unit {0}
 SizesOf (good n w) t = (n ≡ length t) × (w ≡ length (written t))
 
--- ---- keys that rise as signed come once
+-- ---- keys that rise in signed order are distinct
 
--- what the order of keys tells of the first key and of those behind it
+-- what the order of keys says about the first key and those after it
 pub record SignedRises (low k : ℕ) (l : List ℕ) : Type 0 where
   pub from : low ≤ rank k
   pub whole : k < 2 ^ 32
@@ -102,13 +102,13 @@ signed-rises low k l e =
 
 -- ---- one update
 
--- an update comes to its judgement, with the table that it makes
+-- the outcome of an update is its judgement, with the table that it makes
 abbrev Turns : List ℕ → Table → Item → Table → Type 0
 Turns g b u t =
     (applyUpdate b u t ≡ judgedAs (judgeUpdate g b u (length t) (length (written t))) (withItem (madeItem b u) t))
     × SizesOf (judgeUpdate g b u (length t) (length (written t))) (withItem (madeItem b u) t)
 
--- what updatedItem comes to
+-- the outcome of updatedItem
 made-item : (b : Table) (u : Item) → updatedItem b u ≡ cond (agree (find (u .key) b) (u .values)) (return (madeItem b u)) (refuse deltaDifferingSizes)
 unfolding updatedItem
 made-item b u = go (agree (find (u .key) b) (u .values))
@@ -193,7 +193,7 @@ then-judged (bad r) t t′ o f s h = (refl, tt)
 then-judged (good n w) t t′ o f s h =
     let r = h n w (s .0) (s .1) in (return-bind t o ∙ r .0, r .1)
 
--- updates come to their judgement, with the table that they make
+-- the outcome of updates is their judgement, with the table that they make
 pub updates-judged : (g : List ℕ) (low : ℕ) (b : Table) (us : List Item) (t : Table) (n w : ℕ) → signedRising low (keys us) ≡ true → rising 0 t ≡ true → n ≡ length t → w ≡ length (written t)
     → ((j : ℕ) → low ≤ rank j → find j t ≡ keptOf g b j)
     → (applyUpdates b us t ≡ judgedAs (judgeUpdates g b us n w) (updatedTable b us t)) × SizesOf (judgeUpdates g b us n w) (updatedTable b us t)
@@ -215,7 +215,7 @@ updates-judged g low b (u ∷ us) t n w e r en ew h =
 abbrev pub unknownCounts : Bool → Counts
 unknownCounts b = cond b (Warnings.one UnknownDelete) Warnings.none
 
--- whether the base lacks a deleted key: not as many of its items go as there are deleted keys
+-- whether the base lacks a deleted key: fewer of its items are deleted than there are deleted keys
 abbrev pub hasUnknown : Table → Delta → Bool
 hasUnknown b d = not (eqb (length (kept (d .deleted) b) + length (d .deleted)) (length b))
 
@@ -228,7 +228,7 @@ judgeDelta b d =
 abbrev pub appliedTable : Table → Delta → Table
 appliedTable b d = updatedTable b (d .updated) (kept (d .deleted) b)
 
--- applying a delta comes to its judgement, with the table that it makes
+-- the outcome of applying a delta is its judgement, with the table that it makes
 pub delta-judged : (b : Table) (d : Delta) → rising 0 b ≡ true → signedRising 0 (keys (d .updated)) ≡ true
     → (applyDelta b d ≡ after (unknownCounts (hasUnknown b d)) (judgedAs (judgeDelta b d) (appliedTable b d))) × SizesOf (judgeDelta b d) (appliedTable b d)
 unfolding applyDelta

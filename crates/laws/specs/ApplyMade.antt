@@ -91,7 +91,7 @@ module _ (b t : Table) (g : Sound t) where
           let short : length (written (insert u s)) ≤ 16384 = omega (arith, n .0, n .1, g .short, length-written (insert u s), length-written t) in
           added b u (brought b t u p) s few short (makes b t u p)
 
-  -- all updates, where what they leave out is as it is to be
+  -- all updates, if the keys that they lack are as in the target
   steps : (us : List Item) (s : Table) → rising 0 s ≡ true → Within s t → Each (Brings b t) us
       → ((j : ℕ) → elem j (keys us) ≡ false → find j s ≡ find j t) → applyUpdates b us s ≡ return t
   unfolding applyUpdates
@@ -143,7 +143,7 @@ all-bring b t low hb (one {x} {t = u} w r) e a h =
     (all-bring b t (suc (x .key)) hb r (s .rest) (p .1)
     (λ j y f. h j y (find-tail j x u (λ q. omega (arith, found-above (suc (x .key)) j y u (s .rest) f)) ∙ f)))
 
--- a key that both have has data of one length
+-- a key that both have has data of the same length
 alike-found : (b u : Table) → alike b u ≡ true → (j : ℕ) (v : List ℤ) → find j u ≡ some v → agree (find j b) v ≡ true
 unfolding alike
 alike-found b [] a j v e = found-not-none e (find-nil j)
@@ -229,7 +229,7 @@ module _ (b t : Table) where
       ∙ steps b t g (walk (changes b t)) (kept gone b) (rising-kept 0 gone b (facts b sb .rises)) (within a)
       (each-walk (Brings b t) (all-bring b t 0 hb ht (g .rises) a (λ j w f. f))) others)
 
--- what creation tells
+-- what creation says
 pub created : (b t : Table) (d : Delta) → createDelta b t ≡ return d → (alike b t ≡ true) × (deltaFrom b t ≡ d)
 unfolding createDelta
 created b t d e = go (alike b t) e
@@ -238,7 +238,7 @@ created b t d e = go (alike b t) e
     go true q = (refl, ok-value q)
     go false q = absurd (ok-not-err (sym q))
 
--- where creation makes a delta, it is the way from the base to the target
+-- if creation makes a delta, the delta leads from the base to the target
 pub apply-created : (b t : Table) (d : Delta) → sound b ≡ true → sound t ≡ true → WholeTable b → WholeTable t → createDelta b t ≡ return d → applyDelta b d ≡ return t
 apply-created b t d sb st hb ht e =
     let c = created b t d e in

@@ -21,7 +21,7 @@ use Rattle.laws.specs.TableChanged.{rising-kept, find-kept}
 use Rattle.laws.specs.ApplyFound.{item, find-here, own-rise, either, find-append, withItem, find-withItem, rising-withItem}
 use Rattle.laws.specs.ApplyJudging.{madeItem, updatedTable, keptOf, signed-rises}
 
--- one item x of the base before the updates, where r merges what is behind x: the updates below it, then x or the update of it, then the rest
+-- one item x of the base before the updates, where r merges what follows x: the updates below it, then x or its update, then the rest
 unfoldable pub mergeOne : List ℕ → Item → (List Item → Table) → List Item → Table
 mergeOne g x r [] = cond (elem (x .key) g) (r []) (x ∷ r [])
 mergeOne g x r (u ∷ us) =
@@ -72,7 +72,7 @@ merged-none g us = refl
 
 -- ---- what is found when all updates are in
 
--- the base's data with an update's differences, or else what is there without it
+-- the base's data with an update's differences or, without an update, what is there
 abbrev pub updatedBy : Option (List ℤ) → Option (List ℤ) → Option (List ℤ) → Option (List ℤ)
 updatedBy (some v) o p = some (sums o v)
 updatedBy none o p = p

@@ -11,7 +11,7 @@ use Rattle.definitions.specs.Tables.{Item, Table, body, offsets, written}
 use Rattle.laws.specs.AreaLaws.{length-layAt, layAt-nothing, layAt-set, layAt-append}
 use Rattle.laws.specs.TableForm.{body-append, offsets-append, length-offsets}
 
--- what is laid at two places that lie apart may be laid in either order
+-- laying at two places that do not overlap commutes
 layAt-swap : {E : Type 0} (i j : ℕ) (xs ys area : List E) → i + length xs ≤ j → layAt i xs (layAt j ys area) ≡ layAt j ys (layAt i xs area)
 layAt-swap zero j [] ys area l = refl
 layAt-swap zero zero (x ∷ xs) ys area l = absurd (omega arith)
@@ -69,7 +69,7 @@ wrote-one n m w x o o₁ o₂ o₃ l k e₁ e₂ e₃ =
 
 -- ---- one part behind the other
 
--- all was to be written into area₀; of it there is so much left, to be written into area
+-- all was to be written into area₀; left remains, to be written into area
 pub record Writing (n : ℕ) (area₀ : List ℤ) (m₀ w₀ : ℕ) (all : Table) (area : List ℤ) (m w : ℕ) (left : Table) : Type 0 where
   pub long : length area ≡ length area₀
   pub items : m + length left ≡ m₀ + length all

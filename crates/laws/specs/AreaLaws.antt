@@ -11,7 +11,7 @@ use lib.IntN.{ℤ, pos}
 use Rattle.definitions.specs.Areas.{lay, layAt, cleared}
 
 module _ {E : Type 0} where
-  -- an area stays as long as it is
+  -- an area keeps its length
   pub length-lay : (xs area : List E) → length (lay xs area) ≡ length area
   length-lay [] area = refl
   length-lay (x ∷ xs) [] = refl
@@ -22,7 +22,7 @@ module _ {E : Type 0} where
   length-layAt (suc n) xs [] = refl
   length-layAt (suc n) xs (a ∷ area) = ap suc (length-layAt n xs area)
 
-  -- an area of no entries takes nothing
+  -- an empty area takes nothing
   pub lay-nowhere : (xs : List E) → lay xs [] ≡ []
   lay-nowhere [] = refl
   lay-nowhere (x ∷ xs) = refl
@@ -50,7 +50,7 @@ module _ {E : Type 0} where
   pub layAt-set : (n : ℕ) (x : E) (xs area : List E) → n < length area → layAt n (x ∷ xs) area ≡ layAt (n + 1) xs (set area n x)
   layAt-set n x xs area h = rw add-one (next n x xs area h)
 
-  -- what fits stands at the front, and then what the area held
+  -- what fits is at the front, then what the area held
   pub lay-append : (xs area : List E) → length xs ≤ length area → lay xs area ≡ xs ++ drop (length xs) area
   lay-append [] area h = refl
   lay-append (x ∷ xs) [] h = let z : ⊥ = omega arith in absurd z
@@ -82,7 +82,7 @@ module _ {E : Type 0} where
       let e : n + 1 + length xs ≡ n + suc (length xs) = omega arith in
       rw (layAt-split n x (xs ++ ys) area, layAt-split n x xs area, layAt-append (n + 1) xs ys (layAt n (x ∷ []) area), e)
 
-  -- ---- what stands at a place, where something is laid
+  -- ---- the contents of a place after laying
 
   -- what was laid
   pub laid-there : (at : ℕ) (xs area : List E) → at + length xs ≤ length area → take (length xs) (drop at (layAt at xs area)) ≡ xs
@@ -97,7 +97,7 @@ module _ {E : Type 0} where
   lay-behind (x ∷ xs) (a ∷ area) zero h = absurd (omega arith)
   lay-behind (x ∷ xs) (a ∷ area) (suc from) h = lay-behind xs area from (omega arith)
 
-  -- what stands behind it
+  -- what comes after it
   pub laid-behind : (at : ℕ) (xs area : List E) (from : ℕ) → at + length xs ≤ from → drop from (layAt at xs area) ≡ drop from area
   laid-behind zero xs area from h = lay-behind xs area from (omega arith)
   laid-behind (suc n) xs [] from h = refl
@@ -110,14 +110,14 @@ module _ {E : Type 0} where
   lay-front (suc at) xs [] (suc n) h = refl
   lay-front (suc at) xs (a ∷ area) (suc n) h = ap (λ (l : List E). a ∷ l) (lay-front at xs area n (omega arith))
 
-  -- what stands before it
+  -- what comes before it
   pub laid-before : (at : ℕ) (xs area : List E) (from n : ℕ) → from + n ≤ at → take n (drop from (layAt at xs area)) ≡ take n (drop from area)
   laid-before at xs area zero n h = lay-front at xs area n (omega arith)
   laid-before zero xs area (suc from) n h = absurd (omega arith)
   laid-before (suc at) xs [] (suc from) n h = refl
   laid-before (suc at) xs (a ∷ area) (suc from) n h = laid-before at xs area from n (omega arith)
 
--- areas of one length are cleared alike
+-- areas of the same length are equal when cleared
 pub cleared-same : (a b : List ℤ) → length a ≡ length b → cleared a ≡ cleared b
 cleared-same [] [] e = refl
 cleared-same [] (y ∷ b) e = let z : ⊥ = omega arith in absurd z

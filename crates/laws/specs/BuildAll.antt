@@ -21,7 +21,7 @@ pub record Add : Type 0 where
   pub id : ℕ
   pub values : List ℤ
 
--- every call is given what a call can be given
+-- every call has arguments that a call can have
 abbrev pub AllGiven : List Add → Type 0
 AllGiven [] = Unit {0}
 AllGiven (x ∷ l) = Given (x .type) (x .id) (x .values) × AllGiven l
@@ -56,7 +56,7 @@ new-length a l =
     let n : length (written []) ≡ 2 = unfold written body offsets in refl in
     rw (le-leb (length (written [])) (length a) (omega arith)) (length-lay (written []) a)
 
--- the table that is built in a new area of 16,384 ints or more is settled by the calls alone
+-- the calls alone determine the table that is built in a new area of 16,384 ints or more
 pub builds-all : (a : List ℤ) (l : List Add) → AllGiven l → 16384 ≤ length a → tableOf (callAll (newCall a .out) l) ≡ some (buildAll [] l)
 builds-all a l g r =
     all-held (newCall a .out) [] l g (new-holds a (omega arith)) nothing (let n = new-length a (omega arith) in omega arith) .0

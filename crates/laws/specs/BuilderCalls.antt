@@ -1,4 +1,4 @@
--- What the builder's calls leave in an area: a table that a builder built, and, where there is room, one that the calls alone settle. Assumes nothing.
+-- What the builder's calls leave in an area: a table built by a builder and, if there is room, one that the calls alone determine. Assumes nothing.
 use Prim.Native.Nat.{ℕ, _<_, _≤_}
 use mathlib.Core.Path.{_≡_, refl, _∙_}
 use mathlib.Core.Logic.{_⊎_, inl, inr, ⊎-elim}
@@ -27,14 +27,14 @@ use Rattle.laws.specs.TableReadSound.{empty-sound, length-written-insert
 use Rattle.laws.specs.DeltaMade.{facts}
 use Rattle.laws.specs.BuilderForm.{itemOf, of-number, of-kind, of-new-kind, kind-alone, Given, Built, nothing, more, built-sound, built-form}
 
--- ---- calls, as tables see them
+-- ---- the calls on tables
 
--- the table that adding an item comes to; where it is refused, the table is as it was
+-- the table after adding an item; if that is refused, the table as it was
 abbrev pub orStay : Table → Outcome Table → Table
 orStay t (ok u w) = u
 orStay t (err n w) = t
 
--- the same, and then what becomes of the table with the item
+-- the same, and then a further step on the table with the item
 abbrev pub thenAlso : Table → Outcome Table → (Table → Table) → Table
 thenAlso t (ok s w) f = f s
 thenAlso t (err n w) f = t
@@ -69,7 +69,7 @@ afterCall type id values t = unlessRefused (judgeTypeId type) (afterType type id
 pub data HoldsBuilt (a : List ℤ) : Type 0 where
   holds-built : {t : Table} → tableOf a ≡ some t → Built t → HoldsBuilt a
 
--- what a call leaves of an area: as long as it was, with a table that a builder built, which is the one given where there is room
+-- an area after a call: it keeps its length and holds a table built by a builder, which is the given one if there is room
 pub data Leaves (a : List ℤ) (next : Table) (out : List ℤ) : Type 0 where
   leaves : {u : Table} → tableOf out ≡ some u → Built u → length out ≡ length a → (16384 ≤ length a → u ≡ next) → Leaves a next out
 
@@ -89,7 +89,7 @@ adds-or-not i t = go (not (isSome (find (i .key) t))) (ltb (length t) 1024) (leb
     go true false r = inr (tooManyItems, refl)
     go false q r = inr (duplicateKey, refl)
 
--- what adding an item leaves: the area as it was, by a refusal or for want of room, or the table with it
+-- the area after adding an item: as it was, if refused or short of room, or the table with the item
 data Left (a : List ℤ) (i : Item) (t : Table) : Wrote ℕ ℤ → Type 0 where
   refused : {n m : ℕ} {c : Counts} → addItem i t ≡ refuse m → Left a i t (record { answer = err n c; out = a })
   no-room : {n : ℕ} {c : Counts} → addItem i t ≡ return (insert i t) → length a < length (written (insert i t)) → Left a i t (record { answer = err n c; out = a })
@@ -129,7 +129,7 @@ module _ (a : List ℤ) (t : Table) (e : tableOf a ≡ some t) (b : Built t) whe
       let first : Built s = more b g (unfold judgeTypeId in refl) (kind-alone o f) in
       rw f (leaves-it s first m (addTo a s (nextKind t) id values) (left a (itemOf (nextKind t) id values) s))
     where
-      -- what lacks room for the first lacks it for both
+      -- if there is no room for the first, there is none for both
       leaves-it : (s : Table) → Built s → length a < length (written s) → (v : Wrote ℕ ℤ) → Left a (itemOf (nextKind t) id values) s v → Leaves a (afterItem (nextKind t) id values s) (v .out)
       leaves-it s first m v (refused d) = leaves e b refl (λ l. absurd (omega (arith, facts s (built-sound first) .short)))
       leaves-it s first m v (no-room d r) = leaves e b refl (λ l. absurd (omega (arith, facts s (built-sound first) .short)))
@@ -182,7 +182,7 @@ judges (Ordinal n) = go (ltb 0 n && ltb n 16384)
     go false = inr (invalidTypeId, refl)
 judges (Uuid k) = inl refl
 
--- what a call leaves of an area that holds a table that a builder built, refused or not
+-- the area after a call, refused or not, if it held a table built by a builder
 pub add-leaves : (a : List ℤ) (t : Table) (type : TypeId) (id : ℕ) (values : List ℤ) → Given type id values → tableOf a ≡ some t → Built t
     → Leaves a (afterCall type id values t) (builderAddItemCall a type id values .out)
 unfolding addWhere

@@ -31,7 +31,7 @@ use Rattle.laws.specs.TypeLaws.{Sane, kind, plain, Distinct, types-judge
 abbrev pub itemOf : ℕ → ℕ → List ℤ → Item
 itemOf type id values = record { key = keyOf type id; values = values }
 
--- what one call of a builder makes of a table: it adds an item of a number; one of a kind that has a number; the item that names a
+-- what one call of a builder does to a table: it adds an item with a number; one of a kind that has a number; the item that names a
 -- new kind, and then the other; or the first of these two alone
 pub data Adds (t : Table) : TypeId → ℕ → List ℤ → Table → Type 0 where
   of-number : {n id : ℕ} {values : List ℤ} {u : Table} → addItem (itemOf n id values) t ≡ return u → Adds t (Ordinal n) id values u
@@ -50,14 +50,14 @@ pub record Given (type : TypeId) (id : ℕ) (values : List ℤ) : Type 0 where
   pub id-below : id < 65536
   pub whole : Whole values
 
--- the empty table, and what a call with a type that is not refused makes of one
+-- the empty table, and the results of calls on built tables with types that are not refused
 pub data Built : Table → Type 0 where
   nothing : Built []
   more : {t u : Table} {type : TypeId} {id : ℕ} {values : List ℤ} → Built t → Given type id values → judgeTypeId type ≡ return tt → Adds t type id values u → Built u
 
 -- ---- an item that was added
 
--- what adding tells
+-- what adding says
 pub was-added : (i : Item) (t u : Table) → addItem i t ≡ return u → (insert i t ≡ u) × (isSome (find (i .key) t) ≡ false)
 unfolding addItem
 was-added i t u e = go (not (isSome (find (i .key) t))) refl (ltb (length t) 1024) (leb (length (written (insert i t))) 16384) e
@@ -69,7 +69,7 @@ was-added i t u e = go (not (isSome (find (i .key) t))) refl (ltb (length t) 102
     go true f false r d = absurd (ok-not-err (sym d))
     go false f q r d = absurd (ok-not-err (sym d))
 
--- what is known of a table that a builder built
+-- what is known about a table built by a builder
 pub record Formed (t : Table) : Type 0 where
   pub is-sound : sound t ≡ true
   pub runs : kindsRun 16384 t ≡ true
@@ -82,7 +82,7 @@ nothing-formed : Formed []
 unfolding kindsRun kindsIn
 nothing-formed = record { is-sound = empty-sound; runs = refl; sane = no-more; distinct = tt; whole = no-more }
 
--- an item more, sane with it
+-- one more item, and all still sane
 with-item : (i : Item) (t : Table) → sound (insert i t) ≡ true → isSome (find (i .key) t) ≡ false → Whole (i .values) → kindsRun 16384 (insert i t) ≡ true → Distinct [] (kindsIn (insert i t)) → Sane (insert i t) i → Formed t → Formed (insert i t)
 with-item i t s n w r d p f =
     record {
@@ -156,7 +156,7 @@ named n t e =
 found-new : (i : Item) (t : Table) → isSome (find (i .key) t) ≡ false → isSome (find (i .key) (insert i t)) ≡ true
 found-new i t n = rw (find-insert i t n (i .key), eq-eqb (i .key) (i .key) refl)
 
--- what a call makes of a formed table is formed
+-- a call on a formed table leaves it formed
 adds-formed : {t u : Table} {type : TypeId} {id : ℕ} {values : List ℤ} → Given type id values → judgeTypeId type ≡ return tt → Adds t type id values u → Formed t → Formed u
 adds-formed {t} g j (of-number {n} {id} {values} {u} e) f =
     let b = number-below n j in

@@ -1,4 +1,4 @@
--- Document 01's marked cases in one table, proved of the definitions. Assumes nothing.
+-- The worked examples in one table, proved for the definitions. Assumes nothing.
 use mathlib.Core.Path.{_≡_, refl, ap, _∙_}
 use mathlib.Core.List.{List, [], _∷_}
 use mathlib.Core.Option.{some, none}
@@ -19,7 +19,7 @@ use Rattle.definitions.specs.Messages.{Message, Snap, SnapEmpty, SnapSingle, nu
 use Rattle.laws.specs.TableForm.{length-written}
 use Rattle.laws.specs.CutLaws.{chunks-none, chunks-single, chunks-parts}
 
--- ---- what the cases speak of
+-- ---- terms of the cases
 
 -- x is written as the bytes l, and l is read as x without a warning
 pub record Packs (x : ℤ) (l : List ℕ) : Type 0 where
@@ -34,7 +34,7 @@ item k v = record { key = k; values = v }
 unfoldable pub bare : ℕ → Table
 bare n = list (λ k. item k []) n
 
--- the message of some bytes that needs no other, and one of two
+-- the empty and the single message of some bytes, and one part of two
 abbrev pub emptyMessage : ℤ → ℤ → Message
 emptyMessage tick base = record { numbers = SnapEmpty tick (wrappingSub tick base); bytes = [] }
 

@@ -1,4 +1,4 @@
--- What a session asks of a table: it is sound, of 32-bit ints, and its types are judged without a warning. Assumes nothing.
+-- What a session requires of a table: it is sound, has 32-bit ints, and its types are judged without a warning. Assumes nothing.
 use mathlib.Core.Path.{_≡_}
 use mathlib.Core.Bool.{true}
 use mathlib.Core.List.{[]}

@@ -95,7 +95,7 @@ joined-front lengths area x (suc k) h =
     let e : 900 * suc k ≡ 900 * k + 900 = omega arith in
     rw (h k (omega arith), joined-front lengths area x k (λ p l. h p (omega arith)), e) (sym (take-add (900 * k) 900 x))
 
--- what an area holds of some bytes: the parts that are in are theirs, and all of theirs are in
+-- an area holds some bytes: the parts that are in are theirs, and all their parts are in
 pub record Cut (lengths area x : List ℕ) : Type 0 where
   pub inside : (p : ℕ) → p < numParts x → getD lengths p 901 ≡ length (partBytes x p)
   pub outside : (p : ℕ) → numParts x ≤ p → isIn lengths p ≡ false

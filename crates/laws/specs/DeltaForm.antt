@@ -1,4 +1,4 @@
--- A delta whose keys rise is found in its own ints, whatever stands behind them.
+-- A delta whose keys rise is found in its own ints, whatever follows them.
 use Prim.Native.Nat.{ℕ, zero, suc, _+_, _-_, _*_, _/_, _%_, _<_, _≤_, _^_}
 use mathlib.Core.Path.{_≡_, refl, sym, ap, ap₂, _∙_}
 use mathlib.Core.Bool.{Bool, cond, true, false, _&&_}
@@ -22,7 +22,7 @@ use Rattle.laws.specs.TableShape.{both}
 use Rattle.laws.specs.DeltaShape.{nothing-known, two-at-least}
 use Rattle.laws.specs.DeltaReadBack.{length-keys, length-deltaInts, many-ints}
 
--- ---- one update, which stands at place p
+-- ---- one update, at place p
 
 module _ (sizes a ys : List ℤ) (x : Item) (p : ℕ) (s : drop p a ≡ updateInts sizes x ++ ys) where
   nat-on : (j : ℕ) → nat a (p + j) ≡ nat (updateInts sizes x ++ ys) j

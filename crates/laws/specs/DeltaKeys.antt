@@ -1,4 +1,4 @@
--- Keys among others: by their place in a list, by their rank, and that the deleted keys of ints in form rise. Assumes nothing.
+-- Keys among others, by place in a list and by rank; the deleted keys of ints in form rise. Assumes nothing.
 use Prim.Native.Nat.{ℕ, zero, suc, _+_, _<_, _≤_, _^_}
 use mathlib.Core.Path.{_≡_, refl, sym, ap, _∙_}
 use mathlib.Core.Bool.{Bool, true, false, _||_, or-true, or-false, or-assoc}
@@ -16,7 +16,7 @@ use Rattle.laws.specs.IntLaws.{bits-below}
 use Rattle.laws.specs.DeltaShape.{DeletedKey}
 use Rattle.laws.specs.Tests.{below}
 
--- keys of 32 bits and one rank are one
+-- keys of 32 bits with the same rank are equal
 pub rank-same : (j k : ℕ) → j < 2 ^ 32 → k < 2 ^ 32 → rank j ≡ rank k → j ≡ k
 unfolding rank
 rank-same j k l m e = omega arith

@@ -1,4 +1,4 @@
--- Deltas packed and read back, and differences added to what they were taken from.
+-- Deltas packed and read back, and differences added back to their base.
 use Prim.Native.Nat.{ℕ, suc, _+_, _≤_, _<_}
 use mathlib.Core.Path.{_≡_, refl, sym, ap, ap₂, _∙_}
 use mathlib.Core.Bool.{true}

@@ -32,7 +32,7 @@ length-lacking t (x ∷ b) = go (isSome (find (x .key) t)) (length-lacking t b)
     go true l = omega arith
     go false l = omega arith
 
--- what a sound table is known to be
+-- what is known about a sound table
 pub record Sound (t : Table) : Type 0 where
   pub few : length t ≤ 1024
   pub short : length (written t) ≤ 16384

@@ -1,4 +1,4 @@
--- Ints in form that end with their updates: what a stream of them is read as, and how that is stored. Assumes nothing.
+-- Ints in form that end with their updates: what reading them gives, and how that is stored. Assumes nothing.
 use Prim.Native.Nat.{ℕ, _+_}
 use mathlib.Core.Path.{_≡_, sym, ap, _∙_}
 use mathlib.Core.Bool.{false}
@@ -27,7 +27,7 @@ form-reads sizes a h n s e c =
     delta-reads sizes (deltaIn sizes a) s (delta-in-order sizes a h) (delta-sizes-match sizes a h) c
     (e ∙ (sym (take-all (length a) a (omega arith)) ∙ (ap (λ (m : ℕ). take m a) n ∙ delta-stands sizes a h)))
 
--- a delta of which nothing was repeated is stored as its written form
+-- a delta without repeated entries is stored as its written form
 pub delta-stored : (d : Delta) (w : Counts) (out : List ℤ) → storedDelta out (ok (readBack d) w) ≡ counting w (stored out (return (writtenDelta d)))
 unfolding storedDelta
 delta-stored d w out =

@@ -1,4 +1,4 @@
--- What ints in form under known sizes hold is what stands there, and its keys rise. Assumes nothing.
+-- What ints in form under known sizes hold is what is written there, and its keys rise. Assumes nothing.
 use Prim.Native.Nat.{ℕ, zero, suc, _+_, _/_, _%_, _<_, _≤_, _^_}
 use mathlib.Core.Path.{_≡_, refl, sym, ap, _∙_}
 use mathlib.Core.Bool.{true}
@@ -68,7 +68,7 @@ module _ (sizes a : List ℤ) (p : ℕ) (u : Update sizes a p) where
       sym (take-append-drop (sizeAt sizes a p) (drop (dataAt sizes a p) a))
       ∙ ap (λ (l : List ℤ). updateAt sizes a p .values ++ l) (drop-drop (sizeAt sizes a p) (dataAt sizes a p) a)
 
-  -- the update is what stands there
+  -- the update is what is written there
   pub update-restores : drop p a ≡ updateInts sizes (updateAt sizes a p) ++ drop (updateEnd sizes a p) a
   unfolding updateInts
   update-restores =
@@ -114,7 +114,7 @@ map-snoc : (l : List ℕ) (k : ℕ) → map fromBits (l ++ k ∷ []) ≡ map fro
 map-snoc [] k = refl
 map-snoc (j ∷ l) k = ap (λ (t : List ℤ). fromBits j ∷ t) (map-snoc l k)
 
--- the deleted keys are what stands behind the header
+-- the deleted keys are what follows the header
 keys-restore : (a : List ℤ) (k : ℕ) → 3 + k ≤ length a → ((i : ℕ) → i < k → DeletedKey a i) → map fromBits (list (deletedAt a) k) ≡ take k (drop 3 a)
 unfolding list
 keys-restore a zero l h = refl
@@ -127,7 +127,7 @@ module _ (sizes a : List ℤ) (h : DeltaShape sizes a) where
   abbrev behind : ℕ
   behind = 3 + numDeleted a
 
-  -- header and deleted keys stand at the front, whatever sizes the updates are written under
+  -- header and deleted keys are at the front, whatever sizes the updates are written under
   pub delta-front : (known : List ℤ) → deltaInts known (deltaIn sizes a) ≡ take behind a ++ updatesInts known (updates sizes a behind (numUpdated a))
   unfolding deltaInts
   delta-front known =
@@ -158,7 +158,7 @@ module _ (sizes a : List ℤ) (h : DeltaShape sizes a) where
       let end = updatesEnd sizes a behind (numUpdated a) in
       omega (arith, ap length delta-restores, length-append d (drop end a), length-drop end a, updates-end sizes a behind (numUpdated a) (h .room) (updates-at h))
 
-  -- what is held is what stands there
+  -- what is held is what is written there
   pub delta-stands : take (updatesEnd sizes a behind (numUpdated a)) a ≡ deltaInts sizes (deltaIn sizes a)
   delta-stands =
       let end = updatesEnd sizes a behind (numUpdated a) in

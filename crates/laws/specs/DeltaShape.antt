@@ -1,4 +1,4 @@
--- What ints that are in form under known sizes are known to be, place by place. Assumes nothing.
+-- What is known about ints in form under known sizes, place by place. Assumes nothing.
 use Prim.Native.Nat.{ℕ, zero, suc, _+_, _-_, _<_, _≤_, _^_}
 use mathlib.Core.Path.{_≡_}
 use mathlib.Core.Bool.{true, false}
@@ -25,7 +25,7 @@ pub record DeletedKey (a : List ℤ) (i : ℕ) : Type 0 where
   pub order : lowestRank a i ≤ rank (deletedAt a i)
   pub whole : mag (getD a (3 + i) (pos 0)) < 2 ^ 31
 
--- the update at place p lies within the ints, and its type and id are of 16 bits
+-- the update at place p is within the ints, and its type and id have 16 bits
 pub record Update (sizes a : List ℤ) (p : ℕ) : Type 0 where
   pub head : p + 2 ≤ length a
   pub type-below : nat a p < 65536
@@ -34,7 +34,7 @@ pub record Update (sizes a : List ℤ) (p : ℕ) : Type 0 where
   pub size-below : sizeAt sizes a p < 2 ^ 32
   pub ends : updateEnd sizes a p ≤ length a
 
--- n updates lie one behind the other from place p on
+-- n updates follow one another from place p on
 pub data Updates (sizes a : List ℤ) : ℕ → ℕ → Type 0 where
   last : {p : ℕ} → Updates sizes a p zero
   more : {p n : ℕ} → Update sizes a p → Updates sizes a (updateEnd sizes a p) n → Updates sizes a p (suc n)
@@ -137,7 +137,7 @@ module _ (sizes a : List ℤ) (p low : ℕ) where
 
 -- ---- all updates
 
--- updates that fit lie one behind the other
+-- updates that fit follow one another
 pub updates-lie : (sizes a : List ℤ) (p low n : ℕ) → updatesFit sizes a p low n ≡ true → Updates sizes a p n
 unfolding updatesFit
 updates-lie sizes a p low zero e = last

@@ -19,7 +19,7 @@ use Rattle.laws.specs.DeltaSize.{update-written, length-update}
 -- ---- one update
 
 module _ (sizes a : List ℤ) (p : ℕ) (u : Update sizes a p) where
-  -- type and id as they stand, the size, and the differences as they stand
+  -- type and id as they are, the size, and the differences as they are
   pub sized-update : updateInts [] (updateAt sizes a p) ≡ take 2 (drop p a) ++ pos (sizeAt sizes a p) ∷ take (sizeAt sizes a p) (drop (dataAt sizes a p) a)
   sized-update =
       update-written (updateAt sizes a p)
@@ -28,7 +28,7 @@ module _ (sizes a : List ℤ) (p : ℕ) (u : Update sizes a p) where
   pub length-sized : length (updateInts [] (updateAt sizes a p)) ≡ 3 + sizeAt sizes a p
   length-sized = length-update (updateAt sizes a p) ∙ ap (λ (n : ℕ). 3 + n) (length-values sizes a p u)
 
-  -- one int more than stands there, at most
+  -- at most one int more than is there
   pub sized-under : 2 * p + length (updateInts [] (updateAt sizes a p)) ≤ 2 * updateEnd sizes a p
   unfolding updateEnd dataAt
   sized-under = omega (arith, length-sized, two-at-least (knownSize sizes (nat a p)))
@@ -46,7 +46,7 @@ module _ (sizes a : List ℤ) (p : ℕ) where
   first-sized zero l = absurd (omega arith)
   first-sized (suc n) l = let m : suc n - 1 ≡ n = omega arith in rw m
 
--- no more than twice the ints that stand there
+-- at most twice the ints that are there
 pub all-sized-under : (sizes a : List ℤ) (p n : ℕ) → Updates sizes a p n → 2 * p + length (updatesInts [] (updates sizes a p n)) ≤ 2 * updatesEnd sizes a p n
 unfolding updatesInts updates updatesEnd
 all-sized-under sizes a p zero last = omega arith

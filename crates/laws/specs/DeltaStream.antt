@@ -19,7 +19,7 @@ use Rattle.definitions.specs.DeltaCalls.{isSize}
 use Rattle.definitions.specs.DeltaReading.{Got, next, nextInts, updateSize, readHead, readUpdate}
 use Rattle.laws.specs.WarningLaws.{none-plus, plus-none, plus-assoc}
 
--- what reading some ints from the front of a stream, ys being behind them, comes to
+-- the result of reading some ints from the front of a stream, followed by ys
 pub record Took {A : Type 0} (read : Stream → Outcome (Got A)) (s : Stream) (a : A) (ys : List ℤ) : Type 0 where
   pub rest : Stream
   pub front : Counts

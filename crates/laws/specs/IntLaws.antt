@@ -67,13 +67,13 @@ module _ (a b : ℤ) where
       let e : (bits a + bits b) % 2 ^ 32 ≡ (bits b + bits a) % 2 ^ 32 = omega arith in
       ap fromBits e
 
--- what is taken away and added again
+-- subtracting and adding back
 pub wrappingAdd-wrappingSub : {a b : ℤ} → SFits w32 a → SFits w32 b → wrappingAdd b (wrappingSub a b) ≡ a
 wrappingAdd-wrappingSub {a} {b} f g =
     same-bits (wrappingAdd-fits b (wrappingSub a b)) f
     (omega (arith, bits-wrappingAdd b (wrappingSub a b), bits-wrappingSub a b, bits-lt f, bits-lt g))
 
--- what is added and taken away again
+-- adding and subtracting again
 pub wrappingSub-wrappingAdd : {a b : ℤ} → SFits w32 a → SFits w32 b → wrappingSub (wrappingAdd b a) b ≡ a
 wrappingSub-wrappingAdd {a} {b} f g =
     same-bits (wrappingSub-fits (wrappingAdd b a) b) f
@@ -96,7 +96,7 @@ wrappingAdd-assoc a b c =
     same-bits (wrappingAdd-fits (wrappingAdd a b) c) (wrappingAdd-fits a (wrappingAdd b c))
     (simp (bits-wrappingAdd, fold-left, fold-right, add-assoc))
 
--- nothing is added by 0
+-- adding 0 changes nothing
 pub wrappingAdd-zero : {x : ℤ} → SFits w32 x → wrappingAdd x (pos 0) ≡ x
 wrappingAdd-zero {x} f =
     same-bits (wrappingAdd-fits x (pos 0)) f
@@ -132,7 +132,7 @@ sum-append (x ∷ xs) ys = rw (sum-append xs ys) (sym (wrappingAdd-assoc x (sum 
 
 -- ---- the two orders
 
--- the bits turned half way round: the upper half comes first
+-- the bits turned by half the range: the upper half comes first
 abbrev pub turned : ℕ → ℕ
 turned n = (n + 2 ^ 31) % 2 ^ 32
 

@@ -1,4 +1,4 @@
--- The kinds of a table: which items name them, and what an item more leaves of them. Assumes nothing.
+-- The kinds of a table: which items name them, and how one more item changes them. Assumes nothing.
 use Prim.Native.Nat.{ℕ, suc, _+_, _/_, _<_, _≤_, _^_}
 use mathlib.Core.Path.{_≡_, refl, sym, ap, _∙_, subst}
 use mathlib.Core.Bool.{Bool, true, false, cond, _&&_, true≢false}
@@ -118,7 +118,7 @@ no-kinds n low (x ∷ t) e l =
     let p = is-plain x (omega (arith, r .from)) in
     (rw p (h .0), rw p (omega (arith, h .1)), rw p (h .2))
 
--- what kinds that run tell of the first of them
+-- what a run of kinds says about the first of them
 runs : (n : ℕ) (x : Item) (t : Table) → namesKind x ≡ true → kindsRun n (x ∷ t) ≡ true → (x .key ≡ n) × (length (x .values) ≡ 4) × (kindsRun (suc n) t ≡ true)
 unfolding kindsRun
 runs n x t f e =

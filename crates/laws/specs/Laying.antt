@@ -8,7 +8,7 @@ use Rattle.definitions.specs.Areas.{layAt}
 use Rattle.laws.specs.AreaLaws.{length-layAt, layAt-nothing, layAt-append}
 
 module _ {E : Type 0} where
-  -- all was to be laid over area₀ from a place on; of it there is so much left, to be laid over area from w on
+  -- all was to be laid over area₀ from a place on; left remains, to be laid over area from w on
   pub record Laying (area₀ : List E) (at : ℕ) (all area : List E) (w : ℕ) (left : List E) : Type 0 where
     pub long : length area ≡ length area₀
     pub place : w + length left ≡ at + length all

@@ -1,4 +1,4 @@
--- What follows from the definitions alone, and document 01's marked cases. Assumes nothing.
+-- What follows from the definitions alone, and the worked examples. Assumes nothing.
 pub mod Tests
 pub mod ListLaws
 pub mod IntLaws

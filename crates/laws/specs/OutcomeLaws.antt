@@ -6,7 +6,7 @@ use Rattle.definitions.specs.Warnings.{Counts, none, plus}
 use Rattle.definitions.specs.Outcome.{Outcome, ok, err, return, after, _>>=_}
 use Rattle.laws.specs.WarningLaws.{none-plus, plus-none, plus-assoc}
 
--- ---- what an outcome tells
+-- ---- what an outcome says
 
 module _ {A : Type 0} where
   pub ok-value : {a b : A} {v w : Counts} → ok a v ≡ ok b w → a ≡ b
@@ -30,7 +30,7 @@ module _ {A : Type 0} where
   after-after v w (ok a u) = ap (ok a) (sym (plus-assoc v w u))
   after-after v w (err n u) = ap (err n) (sym (plus-assoc v w u))
 
-  -- a value that goes straight back
+  -- a value that is returned at once
   pub bind-return : (o : Outcome A) → (o >>= return) ≡ o
   bind-return (ok a w) = ap (ok a) (plus-none w)
   bind-return (err n w) = refl
@@ -44,7 +44,7 @@ module _ {A B : Type 0} where
   after-bind w (ok a u) f = sym (after-after w u (f a))
   after-bind w (err n u) f = refl
 
--- three steps, either two of them first
+-- steps are associative
 pub bind-assoc : {A B C : Type 0} (o : Outcome A) (f : A → Outcome B) (g : B → Outcome C) → (o >>= f >>= g) ≡ (o >>= (λ a. f a >>= g))
 bind-assoc (ok a w) f g = after-bind w (f a) g
 bind-assoc (err n w) f g = refl

@@ -1,4 +1,4 @@
--- Laws of packed integers: what is written is read back, in one to five bytes. Assumes nothing.
+-- Laws of packed integers: a written int is read back, from one to five bytes. Assumes nothing.
 use mathlib.Core.Path.{_≡_, refl, sym, ap, _∙_}
 use mathlib.Core.List.{List, [], _∷_, _++_}
 use mathlib.Core.Bool.{Bool, true, false, cond}
@@ -21,7 +21,7 @@ use Rattle.laws.specs.IntLaws.{fromBits-bits}
 
 -- ---- reading what was written
 
--- an int with nothing to warn of, and what follows it
+-- an int without warnings, and what follows it
 abbrev plain : ℤ → List ℕ → Outcome Read
 plain x rest = return (record { value = x; rest = rest })
 

@@ -12,7 +12,7 @@ use Rattle.definitions.specs.Receiver.{isIn, countIn}
 use Rattle.laws.specs.Tests.{below, at-most-one}
 
 module _ (l : List ℕ) where
-  -- no more are in than are looked at
+  -- at most as many are in as are counted
   pub count-short : (k : ℕ) → countIn l k ≤ k
   unfolding countIn
   count-short zero = omega arith

@@ -18,7 +18,7 @@ use Rattle.laws.specs.TickLaws.{both-ways}
 use Rattle.laws.specs.PartCounts.{count-all, count-missing, count-beyond, put-in, others-in}
 use Rattle.laws.specs.CutLaws.{part-short, part-within, joined-cut}
 
--- a message, as the call of its kind takes it
+-- the call for a message of each kind
 abbrev pub receivesBy : Receiver → SnapMsg → List ℕ → List ℕ → List ℕ → Receives
 receivesBy r (Snap tick distance n part crc) bytes area second =
     snapCall r (record { tick = tick; deltaTick = distance; numParts = n; part = part; crc = crc }) bytes area second
@@ -55,7 +55,7 @@ none-in p = rw (getD-same 32 p 901)
 -- ---- what is held of a cut
 
 module _ (x : List ℕ) where
-  -- of the parts of x those are in that came, with their lengths and their bytes
+  -- the parts of x that came are in, with their lengths and bytes
   pub record Holds (lengths area : List ℕ) (came : ℕ → Bool) : Type 0 where
     pub entries : length lengths ≡ 32
     pub which : (p : ℕ) → isIn lengths p ≡ came p

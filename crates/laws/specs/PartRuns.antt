@@ -1,4 +1,4 @@
--- The parts of one cut, in any order and however often each comes: the last one missing brings exactly the bytes that were cut.
+-- The parts of one cut, in any order and with any repeats: the last one missing gives exactly the bytes that were cut.
 -- Assumes nothing.
 use mathlib.Core.Path.{_≡_, refl, sym, ap, _∙_, subst}
 use mathlib.Core.Bool.{Bool, true, false, cond}
@@ -37,7 +37,7 @@ module _ (t b s : ℤ) (x : List ℕ) where
   abbrev pub callWith : State → ℕ → Receives
   callWith i p = receives (i .receiver) (partMessage t (wrappingSub t b) x s p) (i .area) (i .second)
 
-  -- what the parts listed leave, the newest first
+  -- the state after the parts listed, the newest first
   abbrev pub fed : State → List ℕ → State
   fed i [] = i
   fed i (p ∷ ps) =

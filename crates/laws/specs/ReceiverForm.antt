@@ -25,7 +25,7 @@ use Rattle.laws.specs.PartCounts.{count-more}
 -- ---- what is so of a message that is taken
 
 module _ (P : Taken → Type 0) where
-  -- P holds of what is taken, where a message is
+  -- P holds of the result if a message is taken
   abbrev pub OnTaken : Outcome Taken → Type 0
   OnTaken (ok t w) = P t
   OnTaken (err n w) = Unit {0}

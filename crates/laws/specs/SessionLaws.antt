@@ -1,4 +1,4 @@
--- What a session of a controller and a printer asks of clean tables, and of their deltas. Assumes nothing.
+-- What a session of a controller and a printer requires of clean tables and their deltas. Assumes nothing.
 use Prim.Native.Nat.{ℕ, _<_, _≤_}
 use mathlib.Core.Path.{_≡_, refl, sym, ap, ap₂, _∙_}
 use mathlib.Core.Bool.{Bool, true, false, _&&_}
@@ -33,7 +33,7 @@ use Rattle.laws.specs.Clean.{Clean, empty-clean}
 
 -- ---- applying, with types
 
--- a delta that was made of two clean tables takes the first to the second, whose types are not refused
+-- a delta made between two clean tables leads from the first to the second, whose types are not refused
 pub apply-create-typed : (b t : Table) (d : Delta) → Clean b → Clean t → createDelta b t ≡ return d → (applyDelta b d >>= typed) ≡ return t
 apply-create-typed b t d hb ht e =
     ap (λ (o : Outcome Table). o >>= typed)
@@ -52,7 +52,7 @@ abbrev pub packDelta : List ℤ → Delta → Outcome (List ℕ)
 packDelta sizes d =
     require (sizesMatch sizes (d .updated)) knownSizeDiffers >> return (packInts (deltaInts sizes d))
 
--- what packing tells
+-- what packing says
 pub was-packed : (sizes : List ℤ) (d : Delta) (x : List ℕ) → packDelta sizes d ≡ return x → (sizesMatch sizes (d .updated) ≡ true) × (packInts (deltaInts sizes d) ≡ x)
 was-packed sizes d x e = go (sizesMatch sizes (d .updated)) e
   where

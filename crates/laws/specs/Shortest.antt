@@ -1,4 +1,4 @@
--- Laws of packed integers: what is written has one to five bytes, and no form that is read as the same int is shorter. Assumes nothing.
+-- Laws of packed integers: a written int has one to five bytes, and no shorter form is read as the same int. Assumes nothing.
 use mathlib.Core.Path.{_≡_, refl, sym, ap, subst, _∙_}
 use mathlib.Core.List.{List, [], _∷_}
 use mathlib.Core.Bool.{Bool, true, false}

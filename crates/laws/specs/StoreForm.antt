@@ -1,4 +1,4 @@
--- What a store's area holds: tables that were laid out are found again, and an area in form is what they were laid out as. Assumes nothing.
+-- What a store's area holds: tables laid out in it are found again, and an area in form is the layout of its tables. Assumes nothing.
 use Prim.Native.Nat.{ℕ, zero, suc, _+_, _-_, _≤_}
 use mathlib.Core.Path.{_≡_, refl, sym, ap, ap₂, _∙_, subst}
 use mathlib.Core.Bool.{Bool, true, false}
@@ -33,13 +33,13 @@ unfolding allZero
 zeros-are zero = refl
 zeros-are (suc n) = rw (num-pos 0) (zeros-are n)
 
--- a sound table takes its written form and no more
+-- a sound table takes exactly its written form
 exactly-written : (t : Table) → sound t ≡ true → exactly (length (written t)) (tableOf (written t)) ≡ some t
 exactly-written t s =
     let e : tableOf (written t) ≡ some t = ap tableOf (sym (append-nil (written t))) ∙ back t [] s in
     rw (e, eq-eqb (length (written t)) (length (written t)) refl)
 
--- tables stand before zeros
+-- tables before zeros
 pub snaps-found : (l : List StoredSnap) (rest : List ℤ) → Sounds l → allZero rest ≡ true → snapsOf (length l) (storeInts l ++ rest) ≡ some l
 unfolding snapsOf storeInts
 snaps-found [] rest nothing z = rw z
@@ -67,7 +67,7 @@ pub fresh-area : (n : ℕ) → storeArea n [] ≡ replicate n (pos 0)
 unfolding storeInts
 fresh-area n = let e : n - 0 ≡ n = omega arith in rw e
 
--- an area that is laid out stays as long as it is
+-- an area that is laid out keeps its length
 pub length-area : (n : ℕ) (l : List StoredSnap) → length (storeInts l) ≤ n → length (storeArea n l) ≡ n
 length-area n l h = omega (arith, length-append (storeInts l) (replicate (n - length (storeInts l)) (pos 0)), length-replicate {A = ℤ} (n - length (storeInts l)) (pos 0))
 
@@ -95,7 +95,7 @@ pub record Laid (n : ℕ) (a : List ℤ) (l : List StoredSnap) : Type 0 where
   pub zeros : allZero rest ≡ true
   pub whole : a ≡ storeInts l ++ rest
 
--- a table that takes exactly so many ints is there, and takes them
+-- a table that takes exactly that many ints is there, and takes them
 exactly-there : (n : ℕ) (o : Option Table) (t : Table) → exactly n o ≡ some t → (o ≡ some t) × (length (written t) ≡ n)
 exactly-there n none t e = let z : _≡_ {A = ℕ} 0 1 = cc in absurd (omega arith)
 exactly-there n (some u) t e = go (eqb (length (written u)) n) refl
@@ -183,7 +183,7 @@ snaps-laid (suc n) (tick ∷ size ∷ a) l e =
 
 -- ---- a store in form
 
--- what a store and an area that hold tables are: what these tables were laid out as
+-- a store and an area that hold tables are the layout of these tables
 pub record Form (s : Store) (area : List ℤ) (h : Storage) : Type 0 where
   pub store-is : s ≡ beside h
   pub area-is : area ≡ storeArea (length area) (h .snaps)
@@ -199,14 +199,14 @@ laid-area n a l k =
     let z : k .rest ≡ replicate (length a - length (storeInts l)) (pos 0) = are-zeros (k .rest) (k .zeros) ∙ ap (λ (i : ℕ). replicate i (pos 0)) e in
     (k .whole ∙ ap (λ (r : List ℤ). storeInts l ++ r) z, omega arith)
 
--- where tables are there, so is the store
+-- if the store is there, so are its tables
 with-there : (s : Store) (o : Option (List StoredSnap)) (h : Storage) → storageWith s o ≡ some h → (o ≡ some (h .snaps)) × (s .ackTick ≡ h .ackTick) × (s .deltaTick ≡ h .deltaTick)
 with-there s none h e = let z : _≡_ {A = ℕ} 0 1 = cc in absurd (omega arith)
 with-there s (some l) h e =
     let d : record { snaps = l; ackTick = s .ackTick; deltaTick = s .deltaTick } ≡ h = cc in
     (ap (λ (g : Storage). some (g .snaps)) d, ap (λ (g : Storage). g .ackTick) d, ap (λ (g : Storage). g .deltaTick) d)
 
--- a store that holds tables is what they were laid out as
+-- a store that holds tables is their layout
 pub storage-laid : (s : Store) (area : List ℤ) (h : Storage) → storageOf s area ≡ some h → Form s area h
 unfolding storageOf
 storage-laid s area h e = go (leb (s .count) 100) refl

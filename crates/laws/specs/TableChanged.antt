@@ -115,7 +115,7 @@ rising-replace low i (x ∷ t) e = go (eqb (x .key) (i .key)) refl (rising-repla
         rise low i t (record { from = omega (arith, r .from); whole = omega (arith, r .whole); rest = subst (λ (n : ℕ). rising (suc n) t ≡ true) k (r .rest) })
     go false q h = rise low x (replace i t) (record { from = r .from; whole = r .whole; rest = h })
 
--- ---- an item that is new, or in the place of the one with its key
+-- ---- an item that is new, or replaces the one with its key
 
 -- the table with it
 abbrev pub placed : Item → Table → Table

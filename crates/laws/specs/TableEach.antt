@@ -62,7 +62,7 @@ whole-found (one {x} {t} p r) j (some v) q = go (eqb (x .key) j) refl (λ f. who
 
 -- ---- keys among those of a table
 
--- the test of two numbers, either one first
+-- the test of two numbers commutes
 pub eqb-swap : (a b : ℕ) → eqb a b ≡ eqb b a
 eqb-swap a b = go (eqb b a) refl
   where
@@ -117,7 +117,7 @@ elem-halves j (x ∷ t) = go (leb (2 ^ 31) (x .key)) (elem-halves j t)
 pub elem-walk : (j : ℕ) (t : Table) → elem j (keys (walk t)) ≡ elem j (keys t)
 elem-walk j t = elem-append j (negatives t) (positives t) ∙ elem-halves j t
 
--- a key of b is lacking where t has it not
+-- a key of b is lacking if t does not have it
 abbrev Lacked : ℕ → Table → Table → Type 0
 Lacked j t b = isSome (find j (lacking t b)) ≡ cond (isSome (find j t)) false (isSome (find j b))
 

@@ -47,7 +47,7 @@ module _ (f : ℕ → Item) (k : ℕ) where
       (λ (m : i < n). rw (find-some n i m e (λ j r d. u j (omega arith) d)))
       (eq-or-lt-of-le (le-of-suc-le-suc l))
 
--- r is the place of a key: the items before it have less, the others no less
+-- r is the place of a key: the items before it have lesser keys, the others do not
 pub record Place (a : List ℤ) (k r : ℕ) : Type 0 where
   pub within : r ≤ count a
   pub below : (i : ℕ) → i < r → keyAt a i < k
@@ -70,7 +70,7 @@ module _ (a : List ℤ) (h : Shape a) (k r : ℕ) (p : Place a k r) where
   unfolding items
   present l e = find-some (itemAt a) k (count a) r l e other
 
--- an item stands at its key's place
+-- an item is at its key's place
 pub own-place : (a : List ℤ) → Shape a → (k i : ℕ) → i < count a → keyAt a i ≡ k → Place a k i
 own-place a h k i l e =
     record {

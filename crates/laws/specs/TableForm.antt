@@ -1,4 +1,4 @@
--- What is read from a list in form is what was written: lengths, and the list's own beginning.
+-- What is read from a list in form is what was written: lengths, and the front of the list.
 use Prim.Native.Nat.{ℕ, zero, suc, _+_, _-_, _*_, _/_, _%_, _<_, _≤_, _^_}
 use mathlib.Core.Path.{_≡_, refl, sym, ap, ap₂, _∙_, subst}
 use mathlib.Core.Bool.{Bool, cond, true, false, _&&_}

@@ -21,7 +21,7 @@ use Rattle.laws.specs.TableFind.{find-none}
 use Rattle.laws.specs.TableHeader.{header-read}
 use Rattle.laws.specs.TableRoundTrip.{back}
 
--- an item goes behind those whose keys are less
+-- an item goes after those with lesser keys
 insert-behind : (i : Item) (f : ℕ → Item) (n : ℕ) (u : Table) → ((j : ℕ) → j < n → f j .key < i .key) → insert i (list f n ++ u) ≡ list f n ++ insert i u
 unfolding list
 insert-behind i f zero u h = refl
@@ -65,7 +65,7 @@ module _ (a : List ℤ) (h : Shape a) where
       ∙ rw (well-ends a i (record { aligned = s .aligned; rises = s .rises; within = s .within }))
       (after-none (addItem (itemAt a i) (list (itemAt a) i)) ∙ adds i l)
 
-  -- an area in form is read as what it holds; what stands behind the form counts a warning
+  -- an area in form is read as what it holds; ints after the form count a warning
   pub form-read : readTable a ≡ (warnIf (ltb (length (written (items a))) (length a)) ExcessSnapData >> return (items a))
   unfolding items
   form-read =
@@ -73,7 +73,7 @@ module _ (a : List ℤ) (h : Shape a) where
       ∙ ap (λ (o : Outcome Table). warnIf (ltb (2 + count a + size a / 4) (length a)) ExcessSnapData >> o) (reads (count a) (omega arith))
       ∙ ap (λ (n : ℕ). warnIf (ltb n (length a)) ExcessSnapData >> return (list (itemAt a) (count a))) (sym (length-form a h ∙ refl))
 
--- what an area that holds a table is known to be
+-- what is known about an area that holds a table
 pub holds : (a : List ℤ) (t : Table) → tableOf a ≡ some t → Shape a × (items a ≡ t)
 holds a t e = go (inForm a) refl
   where

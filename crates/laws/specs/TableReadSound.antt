@@ -80,15 +80,15 @@ pub stream-whole : (l : List ℕ) → Whole (ints (stream l))
 unfolding stream
 stream-whole l = up-to-whole (length l) l
 
--- so does each of them, and what stands for one past the end
+-- so does each of them, and the default past the end
 whole-at : {a : List ℤ} → Whole a → (i : ℕ) → SFits w32 (getD a i (pos 0))
 whole-at nil i = sfits-lit tt
 whole-at (cons f h) zero = f
 whole-at (cons f h) (suc i) = whole-at h i
 
--- ---- an item more leaves keys that rise
+-- ---- keys still rise with one more item
 
--- a key that no item has is not the first item's, and none of the others'
+-- a key that no item has is neither the first item's nor any other's
 pub not-here : (x : Item) (t : Table) (k : ℕ) → isSome (find k (x ∷ t)) ≡ false → (x .key ≡ k → ⊥) × (isSome (find k t) ≡ false)
 unfolding find
 not-here x t k e = go (eqb (x .key) k) refl e
@@ -138,9 +138,9 @@ pub length-written-insert : (i : Item) (t : Table) → length (written (insert i
 length-written-insert i t =
     omega (arith, length-written (insert i t), length-written t, length-insert i t, length-body-insert i t)
 
--- ---- what reading comes to is sound
+-- ---- the result of reading is sound
 
--- a table that a call comes to, if any, is sound
+-- the table that a call returns, if any, is sound
 data Sound : Outcome Table → Type 0 where
   is-sound : {t : Table} {w : Counts} → sound t ≡ true → Sound (ok t w)
   refused : {n : ℕ} {w : Counts} → Sound (err n w)

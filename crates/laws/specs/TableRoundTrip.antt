@@ -199,7 +199,7 @@ module _ (t : Table) (rest : List ℤ) where
           };
     }
 
--- a sound table is read back from its written form, whatever stands behind it
+-- a sound table is read back from its written form, whatever follows it
 pub back : (t : Table) (rest : List ℤ) → sound t ≡ true → tableOf (written t ++ rest) ≡ some t
 unfolding sound W
 back t rest e =

@@ -1,4 +1,4 @@
--- A table whose keys rise is settled by what is found in it. Assumes nothing.
+-- A table whose keys rise is determined by what is found in it. Assumes nothing.
 use Prim.Native.Nat.{ℕ, suc, _<_, _≤_}
 use mathlib.Core.Path.{_≡_, refl, sym, ap, ap₂, _∙_, subst}
 use mathlib.Core.Logic.{⊎-elim}
@@ -54,16 +54,16 @@ from-first : (low : ℕ) (x : Item) (t : Table) → rising low (x ∷ t) ≡ tru
 from-first low x t e =
     let r = rises low x t e in rise (x .key) x t (record { from = omega arith; whole = r .whole; rest = r .rest })
 
--- the first key of a table that has all keys of another is not above that one's first
+-- if a table has all keys of another, its first key is not above the other's
 not-above : (low : ℕ) (x y : Item) (t u : Table) → rising low (y ∷ u) ≡ true → find (x .key) (x ∷ t) ≡ find (x .key) (y ∷ u) → y .key ≤ x .key
 not-above low x y t u f h =
     found-above (y .key) (x .key) (x .values) (y ∷ u) (from-first low y u f) (sym h ∙ find-head x t)
 
--- one key, and equal data, are one item
+-- the same key and equal data make the same item
 same-item : (x y : Item) → x .key ≡ y .key → x .values ≡ y .values → x ≡ y
 same-item x y k v = ap₂ (λ (i : ℕ) (w : List ℤ). record { key = i; values = w }) k v
 
--- two tables whose keys rise and in which the same is found at every key are one
+-- two tables whose keys rise and in which the same is found at every key are equal
 pub same-found : (low : ℕ) (t u : Table) → rising low t ≡ true → rising low u ≡ true → ((j : ℕ) → find j t ≡ find j u) → t ≡ u
 same-found low [] [] e f h = refl
 same-found low [] (y ∷ u) e f h = found-not-none (find-head y u) (sym (h (y .key)) ∙ find-nil (y .key))
@@ -95,9 +95,9 @@ same-found low (x ∷ t) (y ∷ u) e f h =
         (λ (l : suc (x .key) ≤ j). sym (find-tail j x t (λ q. omega arith)) ∙ (h j ∙ find-tail j y u (λ q. omega (arith, k))))
         (below j (suc (x .key)))
 
--- ---- a table whose keys another has, with data as long, is no longer
+-- ---- a table whose keys another has, with equally long data, is no longer
 
--- each item of s has one of its key in t, with data as long
+-- each item of s has one with its key in t, with equally long data
 abbrev pub Within : Table → Table → Type 0
 Within s t = (j : ℕ) (w : List ℤ) → find j s ≡ some w → (v : List ℤ) × (find j t ≡ some v) × (length v ≡ length w)
 
@@ -108,7 +108,7 @@ past-tail s t x y e l h j w f =
     let r = h j w f in
     (r .0, sym (find-tail j y t (λ q. omega arith)) ∙ r .1, r .2)
 
--- where the first keys are one, the others are within the others
+-- if the first keys are equal, the rest is within the rest
 both-tails : (s t : Table) (x y : Item) → rising (suc (x .key)) s ≡ true → y .key ≡ x .key → Within (x ∷ s) (y ∷ t) → Within s t
 both-tails s t x y e k h j w f =
     let a : suc (x .key) ≤ j = found-above (suc (x .key)) j w s e f in

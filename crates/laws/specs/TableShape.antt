@@ -145,7 +145,7 @@ module _ (a : List ℤ) (h : Shape a) where
   pub size-aligned : size a % 4 ≡ 0
   size-aligned = rw edge-end at (edge-aligned (count a) (omega arith))
 
-  -- an item lies within the list, and the next one begins behind it
+  -- an item is within the list, and the next one begins after it
   pub start-rises : (i : ℕ) → i < count a → start a i < start a (i + 1)
   unfolding start
   start-rises i l = omega (arith, edge-aligned i (omega arith), h .step i l .aligned, h .step i l .rises)

@@ -110,7 +110,7 @@ high-append : (t u : Table) → High t → High u → High (t ++ u)
 high-append t u h k =
     record { negatives-are = rw (negatives-append, h .negatives-are, k .negatives-are); positives-are = rw (positives-append, h .positives-are, k .positives-are) }
 
--- what the order of keys tells of the first item and of those behind it
+-- what the order of keys says about the first item and those after it
 pub record Rises (low : ℕ) (x : Item) (t : Table) : Type 0 where
   pub from : low ≤ x .key
   pub whole : x .key < 2 ^ 32

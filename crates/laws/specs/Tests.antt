@@ -15,7 +15,7 @@ below a b = go (ltb a b) refl
     go true e = inl (ltb-true a b e)
     go false e = inr (ltb-false a b e)
 
--- two tests that come out alike
+-- two tests with the same result
 pub ltb-same : (a b c d : ℕ) → (a < b → c < d) → (b ≤ a → d ≤ c) → ltb a b ≡ ltb c d
 ltb-same a b c d h-lt h-le =
     ⊎-elim

@@ -9,7 +9,7 @@ use lib.IntN.{ℤ, pos, negsuc}
 use lib.Signed.{ltZ, ltZ-yes, ltZ-no, <ℤ-≤ℤ-trans}
 use Rattle.definitions.specs.Ints.{signedLess}
 
--- no test comes out both ways
+-- no test both holds and fails
 pub both-ways : {A : Type 0} → true ≡ false → A
 both-ways e = let z : _≡_ {A = ℕ} 0 1 = cc in let y : ⊥ = omega arith in absurd y
 

@@ -102,7 +102,7 @@ module _ {B : Type 0} where
   still-ok w (ok b v) = refl
   still-ok w (err n v) = refl
 
-  -- of two steps that are not refused, neither is
+  -- if two steps together are not refused, neither is
   both-ok : {A : Type 0} (o : Outcome A) (p : Outcome B) → isOk (o >> p) ≡ true → (isOk o ≡ true) × (isOk p ≡ true)
   both-ok (ok a w) p e = (refl, sym (still-ok w p) ∙ e)
   both-ok (err n w) p e = absurd (true≢false (sym e))

@@ -1,4 +1,4 @@
--- A delta that goes in one message: what the receiver answers to it. Assumes nothing.
+-- A delta that goes in one message: the receiver's answer. Assumes nothing.
 use mathlib.Core.Path.{_≡_, refl}
 use mathlib.Core.Bool.{Bool, true, false, cond}
 use mathlib.Core.List.{List, []}
@@ -20,7 +20,7 @@ use Rattle.laws.specs.PartLaws.{receives}
 abbrev pub duplicate : Bool → Counts
 duplicate b = cond b (one DuplicateSnap) no-warning
 
--- what a message that is taken leaves
+-- the result of a message that is taken
 abbrev left : Counts → Taken → Receives
 left w t = record { answer = ok (t .received) w; receiver = t .receiver; parts = t .parts; joined = t .joined }
 

@@ -31,7 +31,7 @@ module _ (f : ℤ → ℤ → ℤ) where
       layAt-copy at i (pos 0) (zipWith f xs ys) area (omega (arith, length-zipWith xs ys e)) k
       ∙ rw (getD-zipWith xs ys i e h)
 
--- differences and sums are as many as the data that they are taken of
+-- there are as many differences and sums as data
 pub length-differences : (o : Option (List ℤ)) (v : List ℤ) → agree o v ≡ true → length (differences o v) ≡ length v
 length-differences none v e = refl
 length-differences (some w) v e = length-zipWith wrappingSub v w (sym (eqb-true (length w) (length v) e))

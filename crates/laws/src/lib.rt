@@ -1,1 +1,1 @@
-// The laws stand in specs/. This crate has no code.
+// The laws are in specs/. This crate has no code.

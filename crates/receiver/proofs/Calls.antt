@@ -1,4 +1,4 @@
--- What each call on a receiver comes to, refusal by refusal. Assumes nothing.
+-- The result of each call on a receiver, refusal by refusal. Assumes nothing.
 use mathlib.Core.Path.{_≡_, refl}
 use mathlib.Core.Bool.{Bool, true, false, cond, not}
 use mathlib.Core.List.{List}

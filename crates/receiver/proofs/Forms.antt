@@ -20,7 +20,7 @@ module _ (r : Ticks) (lengths : List ℕ) (n : ℕ) (e : n ≡ countIn lengths 3
   no-current p = rw (p, e)
 
   module _ (c : CurrentDelta) (p : r .current ≡ current.Some c) where
-    -- the unfinished tick is not above the last finished
+    -- the unfinished tick is not above the last finished one
     pub not-above : abovePrevious (tickOf (r .«previous_tick»)) (c .tick) ≡ false → false ≡ receiverForm (receiverWith r lengths)
     unfolding receiverForm
     not-above h = rw (p, h)
@@ -37,7 +37,7 @@ module _ (r : Ticks) (lengths : List ℕ) (n : ℕ) (e : n ≡ countIn lengths 3
         unfolding receiverForm
         none-in z = rw (p, h, le-leb (c .«num_parts») 32 k, le-ltb 0 (countIn lengths 32) (omega arith))
 
-        -- some are in: fewer than there are
+        -- some are in, but not all
         pub some-in : (n ≡ 0 → ⊥) → ltb n (c .«num_parts») ≡ receiverForm (receiverWith r lengths)
         unfolding receiverForm
         some-in z = rw (p, h, le-leb (c .«num_parts») 32 k, lt-ltb 0 (countIn lengths 32) (omega arith), e)

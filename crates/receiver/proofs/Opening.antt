@@ -1,4 +1,4 @@
--- The tick that a part belongs to, and what a part that came in makes of it. Assumes nothing.
+-- The tick that a part belongs to, and the result of taking a part. Assumes nothing.
 use mathlib.Core.Path.{_≡_, sym, _∙_}
 use mathlib.Core.Bool.{Bool, true, false, not}
 use mathlib.Core.List.{List}
@@ -41,12 +41,12 @@ module _ (c : Receiver.Current) (m : Receiver.Part) where
 
 -- ---- the tick of a part
 
--- what the first part of a tick says
+-- what the first part of a tick fixes
 pub first-said : (m : Part) {t b k : ℤ} {n : ℕ} → t ≡ m .tick → b ≡ baseTick (m .tick) (m .«delta_tick») → n ≡ num (m .«num_parts») → k ≡ m .crc → currentIn (record { tick = t; «delta_tick» = b; «num_parts» = n; crc = k }) ≡ Receiver.firstSays (partOf m)
 first-said m t b n k = rw (t, b, n, k)
 
 module _ (r : Ticks) (m : Part) where
-  -- none is unfinished
+  -- no tick is unfinished
   pub none-open : (o : CurrentDelta) → r .current ≡ current.None → currentIn o ≡ Receiver.firstSays (partOf m) → Opens r m o
   unfolding Receiver.isCurrent Receiver.opened
   none-open o e f lengths = rw (e, f)
@@ -87,7 +87,7 @@ module _ (r : Ticks) (m : Part) (p : ℕ) (lengths bytes area second : List ℕ)
   unfolding taking
   twice h = rw (← opens, h, e)
 
-  -- it goes in
+  -- it is taken
   pub goes-in : (lengths' area' : List ℕ) (x : Receiver.Receives) → Receiver.isIn (partsFor b lengths) p ≡ false → lengths' ≡ set (partsFor b lengths) p (length bytes) → area' ≡ layAt (900 * p) bytes area → settled (counts w) (Receiver.putPart (tickOf (r .«previous_tick»)) (openedWith o lengths') area' second) ≡ x → taking (receiverWith r lengths) (partOf m) p bytes area second ≡ x
   unfolding taking
   goes-in lengths' area' x h d a s = rw (← opens, h, ← d, ← e, ← a) s

@@ -1,4 +1,4 @@
--- What the answers of `receiver` mean: document 01's number and values of each case. Assumes nothing.
+-- What the answers of `receiver` mean: the refusal's number or the value of each case. Assumes nothing.
 use mathlib.Core.Bool.{Bool, false, cond}
 use mathlib.Core.List.{List}
 use mathlib.Core.Option.{Option, some, none}
@@ -21,7 +21,7 @@ use Rattle.receiver.specs.declared.checked.Taking.{Taking}
 use Rattle.receiver.specs.declared.checked.Judged.{Judged}
 use Rattle.receiver.specs.declared.checked.Judged.the-variants as judged
 
--- an answer with the counts beside it
+-- an answer with its warning counts
 abbrev pub receivedWith : Received → Counts → Outcome (Option Receiver.ReceivedDelta)
 receivedWith received.NotYet w = ok none w
 receivedWith (received.Delta tick base n crc) w =
@@ -29,7 +29,7 @@ receivedWith (received.Delta tick base n crc) w =
 receivedWith (received.Empty tick base) w = ok (some (record { deltaTick = base; tick = tick; dataAndCrc = none })) w
 receivedWith (received.Refused e) w = err (number e) w
 
--- what a call comes to, with both areas afterwards
+-- the result of a call, with both areas afterwards
 abbrev pub answered : Receiving → List ℕ → List ℕ → Receiver.Receives
 answered a area second =
     record {
@@ -39,7 +39,7 @@ answered a area second =
       joined = second;
     }
 
--- the same, with the lengths apart
+-- the same, with separate lengths
 abbrev pub taken : Taking → List ℕ → List ℕ → List ℕ → Receiver.Receives
 taken a lengths area second =
     record {
@@ -92,12 +92,12 @@ taking r m p bytes area second =
     (settled (flagged false (Receiver.differs (Receiver.opened r m .current) m))
     (Receiver.putPart (r .previousTick) (Receiver.withPart (Receiver.opened r m) p (length bytes)) (layAt (900 * p) bytes area) second))
 
--- what a part comes to, by what was judged of it
+-- the result of a part, by how it was judged
 abbrev pub judgedAs : Judged → Receiver.Receiver → Receiver.Part → List ℕ → List ℕ → List ℕ → Receiver.Receives
 judgedAs (judged.Part p) r m bytes area second = taking r m p bytes area second
 judgedAs (judged.Refused e) r m bytes area second = refusing (number e) r area second
 
--- what is known of a part that may be taken
+-- what is known about a part that can be taken
 abbrev pub Fits : Judged → Part → List ℕ → List ℕ → List ℕ → Type 0
 Fits (judged.Part p) m bytes area second =
     (num (m .«num_parts») ≤ 32) × (p < 32) × (length bytes ≤ 900) × (28800 ≤ length area) × (28800 ≤ length second)

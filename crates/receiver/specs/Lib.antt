@@ -1,4 +1,4 @@
--- What the receiver of the code and its answers mean. Assumes nothing.
+-- What the code's receiver and its answers mean. Assumes nothing.
 pub mod States
 pub mod Answers
 pub mod Moves

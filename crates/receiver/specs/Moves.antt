@@ -1,4 +1,4 @@
--- A call by other names of the receiver and the numbers. Assumes nothing.
+-- A call with equal receivers and numbers. Assumes nothing.
 use mathlib.Core.Path.{_≡_}
 use mathlib.Core.List.{List}
 use Prim.Native.Nat.{ℕ}

@@ -1,4 +1,4 @@
--- What a receiver holds tells every field of it. Assumes nothing.
+-- What a receiver holds determines every field of it. Assumes nothing.
 use mathlib.Core.Path.{_≡_, refl, ap}
 use mathlib.Core.Option.{some, none}
 use Prim.Native.Nat.{ℕ}

@@ -1,4 +1,4 @@
--- What the receiver of the code holds. Assumes nothing.
+-- What the code's receiver holds. Assumes nothing.
 use mathlib.Core.Path.{_≡_}
 use mathlib.Core.Bool.{Bool, cond}
 use mathlib.Core.List.{List}
@@ -13,7 +13,7 @@ use Rattle.receiver.specs.declared.DeltaReceiver.{DeltaReceiver}
 use Rattle.receiver.specs.declared.checked.Ticks.{Ticks}
 use Rattle.receiver.specs.declared.checked.Part.{Part}
 
--- what is held of an unfinished tick
+-- the numbers of an unfinished tick
 abbrev pub currentIn : CurrentDelta → Receiver.Current
 currentIn c =
     record { tick = c .tick; deltaTick = c .«delta_tick»; numParts = c .«num_parts»; crc = c .crc }
@@ -23,12 +23,12 @@ abbrev pub currentOf : Current → Option Receiver.Current
 currentOf (current.Some c) = some (currentIn c)
 currentOf current.None = none
 
--- the receiver of these ticks and lengths
+-- the receiver with these ticks and lengths
 abbrev pub receiverWith : Ticks → List ℕ → Receiver.Receiver
 receiverWith t lengths =
     record { previousTick = tickOf (t .«previous_tick»); current = currentOf (t .current); parts = lengths }
 
--- what a receiver holds beside the lengths
+-- the ticks of a receiver, without the lengths
 abbrev pub ticksOf : DeltaReceiver → Ticks
 ticksOf r = record { «previous_tick» = r .«previous_tick»; current = r .current }
 
@@ -40,7 +40,7 @@ receiverOf r = receiverWith (ticksOf r) (r .parts)
 abbrev pub openedWith : CurrentDelta → List ℕ → Receiver.Opened
 openedWith c lengths = record { current = currentIn c; parts = lengths }
 
--- the lengths of a tick's parts: those of the unfinished one are held
+-- the lengths of a tick's parts: those held if it is unfinished, else none
 abbrev pub partsFor : Bool → List ℕ → List ℕ
 partsFor current lengths = cond current lengths Receiver.noParts
 
@@ -55,7 +55,7 @@ partOf m =
       crc = m .crc;
     }
 
--- o is the unfinished tick of r where that is the tick of the part m, else what m says
+-- o is the unfinished tick of r if that is the tick of the part m, else what m fixes
 abbrev pub Opens : Ticks → Part → CurrentDelta → Type 0
 Opens r m o =
     (lengths : List ℕ) → openedWith o (partsFor (Receiver.isCurrent (receiverWith r lengths) (m .tick)) lengths) ≡ Receiver.opened (receiverWith r lengths) (partOf m)

@@ -1,4 +1,4 @@
-// The steps of a message: the receiver's form, what the numbers say, the parts, and how they are joined.
+// The steps of a message: the receiver's form, the message's numbers, the parts, and how they are joined.
 ghost use mathlib.Core.Path.{_≡_};
 ghost use mathlib.Core.Bool.{Bool, true, cond};
 ghost use mathlib.Core.List.{List};
@@ -22,20 +22,20 @@ use format::Error;
 use format::OptionTick;
 use format::Warnings;
 
-// What a receiver holds beside the lengths of its parts.
+// The ticks of a receiver, without the lengths of its parts.
 pub struct Ticks {
     pub previous_tick: OptionTick,
     pub current: Current,
 }
 
-// What a message comes to where the lengths are changed in place.
+// The result of a message whose lengths are changed in place.
 pub struct Taking {
     pub answer: Received,
     pub warnings: Warnings,
     pub ticks: Ticks,
 }
 
-// The number of a part that may be taken, or why it is refused.
+// The number of a part that can be taken, or why it is refused.
 pub enum Judged {
     Part(usize),
     Refused(Error),
@@ -50,14 +50,14 @@ pub struct Part {
     pub crc: i32,
 }
 
-// Whether two ints are the same.
+// Whether two ints are equal.
 pub fn same(a: i32, b: i32) -> bool
     ensures { λ r. ⌜ r ≡ Receiver.same a b ⌝ }
 {
     ints::to_bits(a) == ints::to_bits(b)
 }
 
-// The warnings of a message: that its tick was unfinished, and that its numbers differ.
+// The warnings of a message: its tick was unfinished, or its numbers differ.
 pub fn warnings(duplicate: bool, differing: bool) -> Warnings
     ensures { λ r. ⌜ counts r ≡ flagged duplicate differing ⌝ }
 {
@@ -78,7 +78,7 @@ pub fn warnings(duplicate: bool, differing: bool) -> Warnings
     }
 }
 
-// What a receiver holds beside the lengths.
+// The ticks of a receiver, without the lengths.
 pub fn ticks_of(r: DeltaReceiver) -> Ticks
     ensures { λ t. ⌜ t ≡ ticksOf r ⌝ }
 {
@@ -90,7 +90,7 @@ pub fn ticks_of(r: DeltaReceiver) -> Ticks
     }
 }
 
-// A receiver of ticks and lengths.
+// The receiver with these ticks and lengths.
 pub fn with_lengths(t: Ticks, parts: [u16; 32]) -> DeltaReceiver
     ensures { λ r. ⌜ receiverOf r ≡ receiverWith t parts ⌝ }
 {
@@ -103,7 +103,7 @@ pub fn with_lengths(t: Ticks, parts: [u16; 32]) -> DeltaReceiver
     }
 }
 
-// What a message comes to, with the receiver afterwards.
+// The result of a message, with the receiver afterwards.
 pub fn receiving(a: Taking, lengths: [u16; 32]) -> Receiving
     ensures { λ r. ⌜ ((area second : List ℕ) → taken a lengths area second ≡ answered r area second) ⌝ }
 {
@@ -118,7 +118,7 @@ pub fn receiving(a: Taking, lengths: [u16; 32]) -> Receiving
     }
 }
 
-// A call that is refused before anything is counted.
+// A refusal before any warning is counted.
 pub fn refused(error: Error, r: Ticks) -> Taking
     ensures { λ a. ⌜ ((lengths area second : List ℕ) → refusing (number error) (receiverWith r lengths) area second ≡ taken a lengths area second) ⌝ }
 {
@@ -155,7 +155,7 @@ pub fn count_in(lengths: &[u16]) -> usize
     n as usize
 }
 
-// Whether a tick is above the last finished.
+// Whether a tick is above the last finished one.
 pub fn above_previous(previous: OptionTick, tick: i32) -> bool
     ensures { λ b. ⌜ b ≡ Receiver.abovePrevious (tickOf previous) tick ⌝ }
 {
@@ -165,7 +165,7 @@ pub fn above_previous(previous: OptionTick, tick: i32) -> bool
     ints::signed_less(finished, tick)
 }
 
-// Whether a receiver of which n parts are in is in form.
+// Whether a receiver with n parts in is in form.
 pub fn ticks_form(r: Ticks, n: usize) -> bool
     ensures { λ b. ⌜ ((lengths : List ℕ) → n ≡ Receiver.countIn lengths 32 → b ≡ Receiver.receiverForm (receiverWith r lengths)) ⌝ }
 {
@@ -219,7 +219,7 @@ pub fn is_current(r: Ticks, tick: i32) -> bool
     same(c.tick, tick)
 }
 
-// What a part says where it is the first one of its tick.
+// What a part fixes if it is the first one of its tick.
 pub fn first_says(m: Part) -> CurrentDelta
     requires { ⌜ Tables.num (m .«num_parts») ≤ 32 ⌝ }
     ensures { λ o. ⌜ currentIn o ≡ Receiver.firstSays (partOf m) ⌝ }
@@ -234,7 +234,7 @@ pub fn first_says(m: Part) -> CurrentDelta
     }
 }
 
-// The unfinished tick that a part belongs to: the part's, where it is a new one.
+// The unfinished tick that a part belongs to; a new tick is opened by the part itself.
 pub fn opened(r: Ticks, m: Part) -> CurrentDelta
     requires { ⌜ Tables.num (m .«num_parts») ≤ 32 ⌝ }
     ensures { λ o. ⌜ Opens r m o ⌝ }
@@ -249,7 +249,7 @@ pub fn opened(r: Ticks, m: Part) -> CurrentDelta
     first_says(m)
 }
 
-// Whether a part's count, sum or distance is not what the first one said.
+// Whether a part's count or sum differs from the fixed one, or its distance from the fixed base.
 pub fn differs(o: CurrentDelta, m: Part) -> bool
     ensures { λ b. ⌜ b ≡ Receiver.differs (currentIn o) (partOf m) ⌝ }
 {
@@ -263,7 +263,7 @@ pub fn differs(o: CurrentDelta, m: Part) -> bool
     !same(m.crc, o.crc)
 }
 
-// Whether part p is in already; of a new tick none is.
+// Whether part p is in already; none is if the tick is new.
 pub fn is_in(current: bool, lengths: &[u16], p: usize) -> bool
     requires { ⌜ (p < 32) × (length (now lengths) ≡ 32) ⌝ }
     ensures { λ b. ⌜ b ≡ Receiver.isIn (partsFor current (now (lengths .entry))) p ⌝ }
@@ -274,7 +274,7 @@ pub fn is_in(current: bool, lengths: &[u16], p: usize) -> bool
     false
 }
 
-// Part p of n bytes comes in; those of an older tick are dropped.
+// Records part p of n bytes; the parts of an older tick are dropped.
 pub fn put_length(current: bool, lengths: &mut [u16; 32], p: usize, n: usize)
     requires { ⌜ (p < 32) × (n ≤ 900) ⌝ }
     ensures { λ _. ⌜ now (lengths .exit) ≡ set (partsFor current (now (lengths .entry))) p n ⌝ }
@@ -285,7 +285,7 @@ pub fn put_length(current: bool, lengths: &mut [u16; 32], p: usize, n: usize)
     lengths[p] = n as u16;
 }
 
-// How many parts are in with one more, where n of the unfinished tick were.
+// How many parts are in with one more; n parts of the unfinished tick were in.
 pub fn count_with(current: bool, n: usize) -> usize
     requires { ⌜ n ≤ 32 ⌝ }
     ensures { λ r. ⌜ r ≡ cond current n 0 + 1 ⌝ }
@@ -296,7 +296,7 @@ pub fn count_with(current: bool, n: usize) -> usize
     1
 }
 
-// Copies bytes; by way of an array, so that the compiler can move them all at once.
+// Copies bytes through an array, so that the compiler can move them all at once.
 pub fn put_bytes(out: &mut [u8], at: usize, xs: &[u8])
     requires { ⌜ (length (now xs) ≤ 28800) × (at + length (now xs) ≤ length (now out)) ⌝ }
     ensures { λ _. ⌜ now (out .exit) ≡ layAt at (now (xs .entry)) (now (out .entry)) ⌝ }
@@ -306,7 +306,7 @@ pub fn put_bytes(out: &mut [u8], at: usize, xs: &[u8])
     ints::checked::copy_bytes(out, at, &block[..xs.len()]);
 }
 
-// How many parts in front are full: their bytes stand one behind the other as they are joined.
+// How many leading parts are full. Their bytes lie in the area as they are to be joined.
 pub fn full_parts(lengths: &[u16]) -> usize
     requires { ⌜ length (now lengths) ≡ 32 ⌝ }
     ensures { λ f. ⌜ (f ≤ 32) × ((area : List ℕ) → Receiver.joined (now (lengths .entry)) area f ≡ take (900 * f) area) ⌝ }
@@ -321,7 +321,7 @@ pub fn full_parts(lengths: &[u16]) -> usize
     i
 }
 
-// Part i, where it is in, copied to a place of the second area; the place behind it.
+// Copies part i, if it is in, to a place of the second area. Returns the place after it.
 pub fn join_part(lengths: &[u16], i: usize, at: usize, parts: &[u8], joined: &mut [u8]) -> usize
     requires { ⌜ (length (now lengths) ≡ 32) × (i < 32) × (at ≤ 900 * i) × (28800 ≤ length (now parts)) × (28800 ≤ length (now joined)) ⌝ }
     ensures { λ n. ⌜ (n ≡ at + length (Receiver.partIn (now (lengths .entry)) (now (parts .entry)) i)) × (n ≤ at + 900) × (now (joined .exit) ≡ layAt at (Receiver.partIn (now (lengths .entry)) (now (parts .entry)) i) (now (joined .entry))) ⌝ }
@@ -335,7 +335,7 @@ pub fn join_part(lengths: &[u16], i: usize, at: usize, parts: &[u8], joined: &mu
     at + n
 }
 
-// All parts that are in, in the order of their numbers, to the front of the second area: how many bytes.
+// Copies all parts that are in, in the order of their numbers, to the front of the second area; returns the length.
 pub fn join(lengths: &[u16], parts: &[u8], joined: &mut [u8]) -> usize
     requires { ⌜ (length (now lengths) ≡ 32) × (28800 ≤ length (now parts)) × (28800 ≤ length (now joined)) ⌝ }
     ensures { λ n. ⌜ (n ≡ length (Receiver.joined (now (lengths .entry)) (now (parts .entry)) 32)) × (now (joined .exit) ≡ lay (Receiver.joined (now (lengths .entry)) (now (parts .entry)) 32) (now (joined .entry))) ⌝ }
@@ -350,7 +350,7 @@ pub fn join(lengths: &[u16], parts: &[u8], joined: &mut [u8]) -> usize
     at
 }
 
-// A part came in, so that n are: the tick is finished where it was the last one missing.
+// Finishes the tick if the part just taken was the last one missing; n parts are in.
 pub fn put_part(
     previous_tick: OptionTick,
     o: CurrentDelta,
@@ -390,7 +390,7 @@ pub fn put_part(
     }
 }
 
-// Part p of a message whose numbers were judged, where n parts are in.
+// Takes part p of a message whose numbers were judged; n parts are in.
 pub fn take(
     r: Ticks,
     n: usize,
@@ -422,7 +422,7 @@ pub fn take(
     put_part(previous_tick, o, n, w, lengths, parts, joined)
 }
 
-// What the receiver's form, the areas and the numbers of a part say of it, where n parts are in.
+// Judges a part by the receiver's form, the areas and the part's numbers; n parts are in.
 pub fn judge(r: Ticks, n: usize, m: Part, data: &[u8], parts: &[u8], joined: &[u8]) -> Judged
     ensures { λ j. ⌜ ((lengths : List ℕ) → n ≡ Receiver.countIn lengths 32 → Receiver.snapCall (receiverWith r lengths) (partOf m) (now («data» .entry)) (now (parts .entry)) (now (joined .entry)) ≡ judgedAs j (receiverWith r lengths) (partOf m) (now («data» .entry)) (now (parts .entry)) (now (joined .entry))) ⌝ }
     ensures { λ j. ⌜ Fits j m (now («data» .entry)) (now (parts .entry)) (now (joined .entry)) ⌝ }
@@ -453,7 +453,7 @@ pub fn judge(r: Ticks, n: usize, m: Part, data: &[u8], parts: &[u8], joined: &[u
     Judged::Part(p)
 }
 
-// A part of a delta; the lengths are changed in place.
+// Takes a part of a delta; the lengths are changed in place.
 pub fn receive(
     r: Ticks,
     m: Part,

@@ -14,7 +14,7 @@ use format::Warnings;
 pub mod checked;
 pub mod whole;
 
-// What the first part of an unfinished tick said.
+// What the first part of an unfinished tick fixed.
 pub struct CurrentDelta {
     pub tick: i32,
     pub delta_tick: i32,
@@ -22,20 +22,20 @@ pub struct CurrentDelta {
     pub crc: i32,
 }
 
-// An unfinished tick, where there is one.
+// An unfinished tick, if there is one.
 pub enum Current {
     Some(CurrentDelta),
     None,
 }
 
-// The last finished tick and the unfinished one, where there are any, and the length of each part, above 900 where it is not in.
+// The last finished tick and the unfinished one, if any, and the length of each part, above 900 if it is not in.
 pub struct DeltaReceiver {
     pub previous_tick: OptionTick,
     pub current: Current,
     pub parts: [u16; 32],
 }
 
-// What a message brings: not yet a delta, the tick and the base of one with how many bytes were joined and their sum, an empty one, or why it is refused.
+// The answer to a message: no delta yet; a delta's tick and base, with its joined bytes' count and its sum; an empty delta; or why it is refused.
 pub enum Received {
     NotYet,
     Delta {
@@ -51,7 +51,7 @@ pub enum Received {
     Refused(Error),
 }
 
-// What a call on a receiver comes to, with the warnings counted and the receiver afterwards.
+// The answer of a call on a receiver, with the warnings counted and the receiver afterwards.
 pub struct Receiving {
     pub answer: Received,
     pub warnings: Warnings,
@@ -59,16 +59,16 @@ pub struct Receiving {
 }
 
 impl DeltaReceiver {
-    // How many parts a delta has at most.
+    // The most parts of a delta.
     pub const MAX_PARTS: usize = 32;
 
-    // How many bytes a part has at most.
+    // The most bytes of a part.
     pub const PART_SIZE: usize = 900;
 
-    // How many bytes all parts have at most.
+    // The most bytes of all parts.
     pub const AREA_SIZE: usize = 28800;
 
-    // A receiver without any tick.
+    // A receiver without any ticks.
     pub fn new() -> DeltaReceiver
         ensures { λ r. ⌜ receiverOf r ≡ freshReceiver ⌝ }
     {
@@ -118,7 +118,7 @@ impl DeltaReceiver {
         checked::receiving(a, lengths)
     }
 
-    // Takes a whole delta, into joined.
+    // Takes a whole delta, copied to joined.
     pub fn snap_single(
         self,
         tick: i32,

@@ -1,4 +1,4 @@
-// The messages that bring a whole delta: a single one, and an empty one.
+// The messages that carry a whole delta: single and empty ones.
 ghost use mathlib.Core.Path.{_≡_};
 ghost use mathlib.Core.List.{List};
 ghost use Prim.Native.Nat.{ℕ};
@@ -13,7 +13,7 @@ use super::checked::Ticks;
 use format::Error;
 use format::OptionTick;
 
-// A single message, its bytes into joined; the lengths are changed in place.
+// Takes a single message, its bytes copied to joined; the lengths are changed in place.
 pub fn receive_single(
     r: Ticks,
     tick: i32,
@@ -54,7 +54,7 @@ pub fn receive_single(
     }
 }
 
-// An empty message; the lengths are changed in place.
+// Takes an empty message; the lengths are changed in place.
 pub fn receive_empty(r: Ticks, tick: i32, delta_tick: i32, lengths: &mut [u16; 32]) -> Taking
     ensures { λ a. ⌜ ((area second : List ℕ) → snapEmptyCall (receiverWith r (now (lengths .entry))) tick «delta_tick» area second ≡ taken a (now (lengths .exit)) area second) ⌝ }
 {

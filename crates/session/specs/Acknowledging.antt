@@ -1,4 +1,4 @@
--- When the logbook acknowledges a tick, told by the messages before and what is held. Assumes nothing.
+-- When the logbook acknowledges a tick, by the messages before and what is held. Assumes nothing.
 use mathlib.Core.Path.{_≡_, refl, sym, _∙_, ap, subst}
 use mathlib.Core.Logic.{_↔_}
 use mathlib.Core.Bool.{true, false}
@@ -111,7 +111,7 @@ module _ (xs : List Message) (m : Message) (t : ℕ) (e : tickOf (m .numbers) �
   not-below : {n : ℕ} → n ≤ t → (y : Message) → UpTo n y → signedLess (tickOf (m .numbers)) (tickOf (y .numbers)) ≡ false
   not-below h y u = rw (u .tick-is, e) (le-ltb t (u .number) (omega (arith, u .most)))
 
-  -- what comes last completes its tick, told by the messages before
+  -- what comes last completes its tick, by the messages before
   last-completes : (n : Option ℤ) (came : List ℕ) → History xs n came → Last n came (ticks l) (pos t) b p c → Completes xs l (m .numbers)
   last-completes n came (nothing u) r =
       record {
@@ -144,7 +144,7 @@ module _ (xs : List Message) (m : Message) (t : ℕ) (e : tickOf (m .numbers) �
         based = λ s. ticks-held f b s (r .based s);
       }))
 
-  -- what completes its tick comes last, told by the logbook
+  -- what completes its tick comes last, by the logbook
   completes-last : (n : Option ℤ) (came : List ℕ) → p < c → History xs n came → Completes xs l (m .numbers) → Last n came (ticks l) (pos t) b p c
   completes-last n came lt (nothing u) r =
       record {

@@ -1,4 +1,4 @@
--- Printer and logbook agree on every link, where no call lacks room, and where areas are long. Assumes nothing.
+-- Printer and logbook agree on every link if no call lacks room, and if areas are long. Assumes nothing.
 use mathlib.Core.Path.{_≡_, refl, ap, subst}
 use mathlib.Core.Bool.{true}
 use mathlib.Core.List.{List, [], _∷_}
@@ -37,7 +37,7 @@ long-room sizes p (message m n ∷ cs) l (more s ss) =
 
 -- ---- agreement
 
--- what each of a list has, all of it have
+-- what each entry of a list has, all have
 all-of : {A : Type 0} {P : A → Type 0} (l : List A) → ((a : A) → Among a l → P a) → All P l
 all-of [] f = none
 all-of (x ∷ l) f = more (f x here) (all-of l (λ a m. f a (there m)))

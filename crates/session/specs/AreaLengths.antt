@@ -115,7 +115,7 @@ module _ (area second : List ℕ) where
 
 -- ---- the manager
 
--- what a message leaves of the areas, but for the store's
+-- the areas after a message, except the store's
 record HandledLengths (h : Handled) (area second : List ℕ) (delta : List ℤ) : Type 0 where
   parts-are : AsLong area second (h .parts) (h .joined)
   delta-is : length (h .delta) ≡ length delta
@@ -146,7 +146,7 @@ area-long : (n : ℕ) (l : List StoredSnap) → n ≤ length (storeArea n l)
 area-long n l = rw (length-append (storeInts l) (replicate (n - length (storeInts l)) (pos 0)), length-replicate (n - length (storeInts l)) (pos 0))
     (omega arith)
 
--- areas that always suffice are left so
+-- areas that always suffice still do afterwards
 pub long-left : (sizes : List ℤ) (p : Printer) (m : Message) (scratch : ℕ) → PrinterLong p → PrinterLong (left (printerCall sizes p m scratch))
 long-left sizes p m scratch l = go (judgeManager (p .receiver) (p .store) (p .area) (length (p .parts)) (length (p .joined)) scratch)
   where
@@ -179,14 +179,14 @@ unfolding afterJudging
 judged-long s area (ok x w) f = area-long (length area) (f x .storage .snaps)
 judged-long s area (err n w) f = omega arith
 
--- a table's delta is laid over its area, or that is left
+-- a table's delta is laid over its area, or the area stays
 add-long : (k : StoreStep AddedSnap) (o : Outcome AddedSnap) (delta : List ℤ)
     → (addStep k o delta .area ≡ k .area) × (length (addStep k o delta .delta) ≡ length delta)
 unfolding addStep
 add-long k (ok a w) delta = (refl, length-lay (writtenDelta (a .delta)) delta)
 add-long k (err n w) delta = (refl, refl)
 
--- areas that always suffice are left so
+-- areas that always suffice still do afterwards
 pub call-long : (c : Controller) (x : ControllerCall) → ControllerLong c → ControllerLong (controllerCall c x .next)
 unfolding controllerCall addSnapStep
 call-long c (addSnap tick table) l =

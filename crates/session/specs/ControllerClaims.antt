@@ -160,7 +160,7 @@ chunks-sent sizes table delta a t d e q t-is d-is out c h =
     rw (d-is, t-is)
     (send-gives sizes (a .tick) (a .base) table delta out t d e q (rw d-is at (c .matches)) (rw d-is at h) (let s = rw d-is at (c .short) in omega arith))
 
--- so are they sent
+-- so they are sent
 sends-held : (sizes : List ℤ) (tick : ℤ) (table delta : List ℤ) (a : Added) (t : Table) (d : Delta) → tableOf table ≡ some t → deltaOf delta ≡ some d
     → SentRight sizes tick table a delta
 sends-held sizes tick table delta a t d e q =
@@ -231,7 +231,7 @@ module _ (s : Session) (h : Holds s) where
       calls-control xs (s .controller) [] [] (rises-from ys (afterCalls (s .controller) xs) _ r)
       (subst (λ (c : Controller). Controls c [] []) (sym (h .controllerFresh)) (fresh-controls (h .area) (h .delta)))
 
-  -- its store holds what its calls tell
+  -- its store holds what follows from its calls
   pub controller-holds : (xs ys : List ControllerCall) → s .calls ≡ xs ++ ys
       → storageOf (afterCalls (s .controller) xs .store) (afterCalls (s .controller) xs .area) ≡ some (controllerTold s xs)
   controller-holds xs ys e = let k = controls-after xs ys e in k .held ∙ ap some (k .told)

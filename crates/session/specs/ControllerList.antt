@@ -1,4 +1,4 @@
--- What a controller's store holds, told by the list of its calls and by which of them were refused. Assumes nothing.
+-- What a controller's store holds, by the list of its calls and which of them were refused. Assumes nothing.
 use mathlib.Core.Bool.{Bool, true, false, cond}
 use mathlib.Core.List.{List, [], _∷_}
 use mathlib.Core.Option.{Option, some, none}
@@ -18,7 +18,7 @@ abbrev pub isAnswered : {A : Type 0} → Outcome A → Bool
 isAnswered (ok a w) = true
 isAnswered (err n w) = false
 
--- a call and its step, before the calls told already
+-- a call and its step, before the calls listed already
 abbrev pub toldBy : ControllerCall → ControllerStep → List Told → List Told
 toldBy x y l = record { call = x; answered = isAnswered (y .answer) } ∷ l
 

@@ -104,7 +104,7 @@ module _ (c : Controller) (tick : ℤ) (s : Storage) (k : List Told) {j : ℕ} (
       → withDeltaTick (withSnaps s (dropOlder tick (s .snaps))) o ≡ record { snaps = notOlder tick (tablesLeft k); ackTick = Option.none; deltaTick = o }
   left-with o e = rw (dropped e, ap (λ (z : Storage). z .ackTick) q) refl
 
-  -- what setting a base tick leaves is what is told
+  -- setting a base tick leaves what follows from the calls
   told-setting : Storage.setDeltaTick tick s .storage ≡ storageTold (toldBy (setDeltaTick tick) (setStep c (Storage.setDeltaTick tick s)) k)
   unfolding Storage.setDeltaTick tablesLeft lastBase
   told-setting =

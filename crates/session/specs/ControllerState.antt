@@ -67,7 +67,7 @@ pub record Keeping (s : Storage) (l : List Accepted) : Type 0 where
   pub chain : Chain l
   pub sound-all : All (λ (a : Accepted). sound (a .table) ≡ true) l
 
--- a controller's store and area hold that, and what the calls k tell
+-- a controller's store and area hold that, and what follows from the calls k
 pub record Controls (c : Controller) (l : List Accepted) (k : List Told) : Type 0 where
   pub storage : Storage
   pub held : storageOf (c .store) (c .area) ≡ some storage
@@ -131,7 +131,7 @@ unfolding oldestOr
 base-tick Option.none x l unset = refl
 base-tick (some t) x (y ∷ l) (set e) = e
 
--- one more table leaves the oldest
+-- one more table does not change the oldest
 based-more : (x : StoredSnap) (o : Option ℤ) (l : List StoredSnap) → Based o l → Based o (x ∷ l)
 unfolding oldestOr
 based-more x Option.none l unset = unset
@@ -187,13 +187,13 @@ made-from c tick table t s l e k a h =
       made = ap (createDelta b) (holds table t e .1) ∙ (made-is b t a ∙ ap (λ (d : Delta). return d) (sym d-is));
     }
 
--- a refused table leaves what is told
+-- a refused table does not change what the store holds
 pub told-refused : (s : Storage) (k : List Told) (tick : ℤ) (table : List ℤ) → s ≡ storageTold k
     → s ≡ storageTold (record { call = Runs.addSnap tick table; answered = false } ∷ k)
 unfolding tablesLeft lastBase
 told-refused s k tick table e = e
 
--- what adding the table of an area leaves is what is told
+-- adding the table of an area leaves what follows from the calls
 pub told-adding : (c : Controller) (tick : ℤ) (table : List ℤ) (t : Table) (s : Storage) (k : List Told) (o : Outcome AddedSnap) → items table ≡ t
     → s ≡ storageTold k
     → let x : StoredSnap = record { tick = tick; snap = t } in addedTo x s o .storage ≡ storageTold (toldBy (Runs.addSnap tick table) (addedStep c x s o) k)

@@ -1,4 +1,4 @@
--- A controller's call on a store in form, by what it comes to. Assumes nothing.
+-- A controller's call on a store in form, by its outcome. Assumes nothing.
 use mathlib.Core.Path.{_≡_, refl}
 use mathlib.Core.Bool.{Bool, true, false, cond, _&&_}
 use mathlib.Core.List.{List, [], _∷_}
@@ -38,7 +38,7 @@ hasRoom n m x s =
     leb (length (storeInts (x ∷ s .snaps))) n
     && leb (length (writtenDelta (deltaFrom (baseOf x s .snap) (x .snap)))) m
 
--- what adding a table comes to, for a store area of n ints and a delta area of m
+-- the outcome of adding a table, for a store area of n ints and a delta area of m
 pub data Adds (n m : ℕ) (x : StoredSnap) (s : Storage) : Outcome AddedSnap → Type 0 where
   full : 100 ≤ length (s .snaps) → Adds n m x s (refuse storeFull)
   clashes : length (s .snaps) < 100 → alike (baseOf x s .snap) (x .snap) ≡ false → Adds n m x s (refuse deltaDifferingSizes)
@@ -55,7 +55,7 @@ pub made-is : (b t : Table) → alike b t ≡ true → createDelta b t ≡ retur
 unfolding createDelta
 made-is b t e = rw e
 
--- what the three tests come to: fewer than 100 tables, no clash, room
+-- the outcome of the three tests: fewer than 100 tables, no clash, room
 tests-are : (n m : ℕ) (x : StoredSnap) (s : Storage) (few same room : Bool) → ltb (length (s .snaps)) 100 ≡ few → alike (baseOf x s .snap) (x .snap) ≡ same → hasRoom n m x s ≡ room → Adds n m x s (require few storeFull >> (require same deltaDifferingSizes >> (require room capacityError >> return (record { base = baseOf x s .tick; delta = deltaFrom (baseOf x s .snap) (x .snap) }))))
 tests-are n m x s false same room f a r = full (ltb-false (length (s .snaps)) 100 f)
 tests-are n m x s true false room f a r = clashes (ltb-true (length (s .snaps)) 100 f) a
@@ -63,7 +63,7 @@ tests-are n m x s true true false f a r = lacks (ltb-true (length (s .snaps)) 10
 tests-are n m x s true true true f a r =
     fits (ltb-true (length (s .snaps)) 100 f) a (leb-true _ m (both (leb (length (storeInts (x ∷ s .snaps))) n) _ r .1))
 
--- adding a table comes to one of these
+-- adding a table has one of these outcomes
 pub adding-is : (n m : ℕ) (x : StoredSnap) (s : Storage) → Adds n m x s (adding n m x s)
 unfolding adding createDelta
 adding-is n m x s =
@@ -71,7 +71,7 @@ adding-is n m x s =
     (λ a. rw a (tests-are n m x s (ltb (length (s .snaps)) 100) true (hasRoom n m x s) refl a refl))
     (λ a. rw a (tests-are n m x s (ltb (length (s .snaps)) 100) false (hasRoom n m x s) refl a refl))
 
--- the step of a controller from what adding came to
+-- the step of a controller from the outcome of adding
 abbrev pub addedStep : Controller → StoredSnap → Storage → Outcome AddedSnap → ControllerStep
 addedStep c x s o = added (addStep (laidOut (c .area) (addedTo x s o)) (addedTo x s o .answer) (c .delta))
 
@@ -87,7 +87,7 @@ call-unformed c tick table s e d = rw (e, d) refl
 
 -- ---- the base tick is set
 
--- what setting a base tick comes to
+-- the outcome of setting a base tick
 pub data Sets (tick : ℤ) (s : Storage) : Keeps (Unit {0}) → Type 0 where
   unsets : {w : Counts} → signedLess tick (pos 0) ≡ true → Weird tick w → Sets tick s (record { answer = ok tt w; storage = withDeltaTick s none })
   sets : signedLess tick (pos 0) ≡ false → isHeld (baseFor tick (s .snaps)) ≡ true → Sets tick s (record { answer = return tt; storage = withDeltaTick (withSnaps s (dropFor tick (s .snaps))) (some tick) })
@@ -112,7 +112,7 @@ weird-is tick e =
     (λ q. (Warnings.none, rw (e, q) refl, minusOne q))
     (λ q. (Warnings.one WeirdNegativeDeltaTick, rw (e, q) refl, other q))
 
--- setting a base tick comes to one of these
+-- setting a base tick has one of these outcomes
 pub setting-is : (tick : ℤ) (s : Storage) → Sets tick s (setDeltaTick tick s)
 unfolding setDeltaTick
 setting-is tick s = go (isNegative tick) (isHeld (baseFor tick (s .snaps))) refl refl (weird-is tick)
@@ -122,7 +122,7 @@ setting-is tick s = go (isNegative tick) (isHeld (baseFor tick (s .snaps))) refl
     go false true e q w = sets e q
     go false false e q w = lacks e q
 
--- the step of a controller from what setting came to
+-- the step of a controller from the outcome of setting
 abbrev pub setStep : Controller → Keeps (Unit {0}) → ControllerStep
 setStep c k = baseSet (c .delta) (laidOut (c .area) k)
 

@@ -32,7 +32,7 @@ module _ (s : Session) (h : Holds s) where
   clean-at : {t : ℤ} {u : Table} → AcceptedAt (acceptedIn s) t u → Clean u
   clean-at a = subst Clean (a .table-is) (built-clean (all-among (h .built) (a .accepted)))
 
-  -- what is asked of the link holds
+  -- what the link requires holds
   link-holds : LinkHolds (AcceptedAt (acceptedIn s)) (linkOf s)
   link-holds =
       record {

@@ -1,4 +1,4 @@
--- Tables held, whose ticks fall: what is left where older ones are dropped, and when its oldest is of a tick. Assumes nothing.
+-- Held tables, whose ticks fall: what is left after older ones are dropped, and when its oldest has a tick. Assumes nothing.
 use mathlib.Core.Path.{_≡_, refl, sym, _∙_, ap, subst}
 use mathlib.Core.Bool.{true}
 use mathlib.Core.List.{List, [], _∷_}
@@ -68,14 +68,14 @@ held-found b l f h = go (find-base b (falls-drop b f) (dropped-atLeast b l))
         contra (held-hasTick (pos b) l (h .snap) (h .among) (h .tick-is))
         (sym (ap (hasTick (pos b)) (ticks-drop b f) ∙ hasTick-notBelow b f) ∙ q)
 
--- the oldest of some tables is of a tick
+-- the oldest of some tables has the tick b
 pub record Oldest (b : ℕ) (l : List StoredSnap) : Type 0 where
   pub first : StoredSnap
   pub others : List StoredSnap
   pub all-are : l ≡ first ∷ others
   pub tick-is : oldestOr first others .tick ≡ pos b
 
--- it is, where it is found at that tick
+-- it has, if it is found at that tick
 pub oldest-found : (b : ℕ) {k : ℕ} (l : List StoredSnap) → Falls k l → isHeld (oldestAt (pos b) l) ≡ true → Oldest b l
 unfolding oldestAt
 oldest-found b [] f e = contra e refl

@@ -77,7 +77,7 @@ third = entry 2 (pos 0) (table 7) (table 9)
 abbrev pub part : Accepted → ℕ → Message
 part a p = partOfTable [] (λ t. false) a p
 
--- the parts of tick 0 come the other way round; of tick 1 part 0 is lost; part 1 of tick 2 comes twice, and that of tick 1 again, late
+-- the parts of tick 0 come in reverse order; of tick 1, part 0 is lost; part 1 of tick 2 comes twice, and that of tick 1 again, late
 unfoldable pub messages : List Message
 messages =
     part first 1 ∷ part first 0 ∷ part second 1 ∷ part third 1 ∷ part third 1 ∷ part second 1 ∷ part third 0 ∷ []
@@ -86,7 +86,7 @@ messages =
 unfoldable pub received : List PrinterCall
 received = map (λ m. message m 28800) messages
 
--- ---- what the definitions come to
+-- ---- what the definitions give
 
 -- the tables accepted, what goes out for them, and how all calls are answered
 record Computed : Type 0 where
@@ -184,7 +184,7 @@ abbrev pub example : Session
 example =
     record { sizes = []; controller = controller; calls = calls; printer = printer; received = received; instead = λ t. false }
 
--- document 01's premises hold of it
+-- the premises of docs/FORMAT.md hold for it
 pub example-holds : Holds example
 unfolding controller printer
 example-holds =

@@ -128,7 +128,7 @@ messages =
     single zeroth ∷ part second 1 ∷ part second 0 ∷ part third 0 ∷ single first ∷ part third 1 ∷ emptyMessage fourth ∷ emptyMessage fifth
     ∷ single fifth ∷ []
 
--- ---- what the definitions come to
+-- ---- what the definitions give
 
 -- how the controller's calls are answered
 unfoldable pub callAnswers : Controller → List ControllerCall → List (Outcome (Option Added))
@@ -326,7 +326,7 @@ abbrev pub example : Session
 example =
     record { sizes = sizes; controller = controller; calls = calls; printer = printer; received = received; instead = instead }
 
--- document 01's premises hold of it
+-- the premises of docs/FORMAT.md hold for it
 pub example-holds : Holds example
 unfolding controller printer
 example-holds =

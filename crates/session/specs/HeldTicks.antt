@@ -1,4 +1,4 @@
--- Tables held, whose ticks are from 0 and fall strictly: what dropping and pushing out do to them, as the logbook says it. Assumes nothing.
+-- Held tables, whose ticks are from 0 and fall strictly: what dropping and pushing out do to them, as in the logbook. Assumes nothing.
 use mathlib.Core.Path.{_≡_, refl, sym, _∙_, ap, subst}
 use mathlib.Core.Bool.{true, false}
 use mathlib.Core.List.{List, [], _∷_, map}
@@ -138,7 +138,7 @@ last-without (suc j) (next {n = n} p (next {t = u} q f)) e =
     let r : same (pos n) (pos i) ≡ false = same-pos n i ∙ ne-eqb n i (omega arith) in
     rw (ap (same (pos n)) d ∙ r) (ap (λ (z : List ℤ). pos n ∷ z) (last-without j (next q f) (omega arith)))
 
--- a table more, and of 101 the oldest goes
+-- one more table; of 101 the oldest is dropped
 pub push-holding : {k n : ℕ} {t : Table} {l : List StoredSnap} → Falls k (snapAt n t ∷ l) → length l ≤ 100 → ticks (pushSnap (pos n) t l) ≡ holding (pos n) (ticks l)
 push-holding {n = n} {t = t} {l = l} f h =
     rw (length-ticks l)
@@ -175,7 +175,7 @@ same-tick : {j k : ℕ} (z : ℤ) → z ≡ pos j → same z (pos k) ≡ true �
 unfolding bits
 same-tick {j} {k} z d e = let q : eqb j k ≡ true = subst (λ (y : ℤ). same y (pos k) ≡ true) d e in d ∙ ap pos (eqb-true j k q)
 
--- where no tick is below b, the oldest end tells whether b is held
+-- if no tick is below b, the oldest end shows whether b is held
 pub find-base : (b : ℕ) {k : ℕ} {l : List StoredSnap} → Falls k l → AtLeast b l → Found b l
 unfolding oldestAt hasTick
 find-base b end a = missing refl refl

@@ -1,4 +1,4 @@
--- The logbook's newest tick and its parts, told by the messages so far. Assumes nothing.
+-- The logbook's newest tick and its parts, by the messages so far. Assumes nothing.
 use mathlib.Core.Path.{_≡_, refl, sym, _∙_, subst}
 use mathlib.Core.Bool.{true, false, _||_}
 use mathlib.Core.List.{List, [], _∷_, _++_}
@@ -63,7 +63,7 @@ module _ (g : Logbook) (t b : ℤ) (p c : ℕ) where
   unfolding note
   noted-twice e i = rw (e, i) refl
 
--- the numbers that a message feeds the logbook
+-- the numbers of a message that go to the logbook
 pub note-numbers : (g : Logbook) (x : SnapMsg) → noteMessage g x ≡ note g (tickOf x) (baseOf x) (partOf x) (countOf x)
 note-numbers g (Snap t d n p crc) = refl
 note-numbers g (SnapEmpty t d) = refl

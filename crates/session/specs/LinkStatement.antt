@@ -1,4 +1,4 @@
--- A link: what a printer is sent, what is asked of it, and what printer and logbook then agree on. It knows no controller. Assumes nothing.
+-- A link: what a printer is sent, what is required of it, and what printer and logbook then agree on. No controller is involved. Assumes nothing.
 use mathlib.Core.Path.{_≡_}
 use mathlib.Core.Bool.{Bool}
 use mathlib.Core.List.{List, _∷_, _++_}
@@ -27,7 +27,7 @@ pub record MadeOn (At : ℤ → Table → Type 0) (a : Accepted) : Type 0 where
   pub named : Base At (a .base) base
   pub made : createDelta base (a .table) ≡ return (a .delta)
 
--- what is asked of a link, but for the lengths of areas, where At tells the controller's table at a tick
+-- what is required of a link, except for the lengths of areas; At gives the controller's table at a tick
 pub record LinkHolds (At : ℤ → Table → Type 0) (k : Link) : Type 0 where
   pub one : {t : ℤ} {u v : Table} → At t u → At t v → u ≡ v
   pub number : {t : ℤ} {u : Table} → At t u → (n : ℕ) × (t ≡ pos n) × (n ≤ 2147483647)

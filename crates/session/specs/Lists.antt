@@ -1,4 +1,4 @@
--- What is among a list, and what all of a list have in common. Assumes nothing.
+-- The entries of a list, and properties that all of them have. Assumes nothing.
 use mathlib.Core.Path.{_≡_, refl, sym, subst}
 use mathlib.Core.Logic.{_⊎_, inl, inr}
 use mathlib.Core.Bool.{Bool, true, false, _||_}
@@ -22,12 +22,12 @@ either false f g = g refl
 pub eqb-self : (a : ℕ) → eqb a a ≡ true
 eqb-self a = eq-eqb a a refl
 
--- what is true at the end is true
+-- or with true is true
 pub or-true : (t : Bool) → (t || true) ≡ true
 or-true true = refl
 or-true false = refl
 
--- what is false at the end changes nothing
+-- or with false changes nothing
 pub or-false : (t : Bool) → (t || false) ≡ t
 or-false true = refl
 or-false false = refl
@@ -73,7 +73,7 @@ module _ {A : Type 0} where
       go (inl e) = e
       go (inr k) = absurd (among-nothing k)
 
-  -- what all of a list have, one of it has
+  -- what all entries of a list have, each has
   pub all-among : {P : A → Type 0} {a : A} {l : List A} → All P l → Among a l → P a
   all-among (more p ps) here = p
   all-among (more p ps) (there m) = all-among ps m
@@ -93,7 +93,7 @@ module _ {A : Type 0} where
   all-at [] ys m (more p ps) = p
   all-at (x ∷ xs) ys m (more p ps) = all-at xs ys m ps
 
-  -- what holds of all before, and of one more behind them
+  -- what holds of all before, and of one more after them
   pub one-more : {P : A → Type 0} {xs : List A} {m : A} → ((y : A) → Among y xs → P y) → P m → (y : A) → Among y (xs ++ m ∷ []) → P y
   one-more {P} {xs} {m} f q y h = go (among-append xs h)
     where

@@ -1,4 +1,4 @@
--- What the logbook makes of a message, by the message's tick and the newest. Assumes nothing.
+-- What a message does to the logbook, by the message's tick and the newest. Assumes nothing.
 use mathlib.Core.Path.{_≡_, refl}
 use mathlib.Core.Bool.{true, false}
 use mathlib.Core.List.{List, [], _∷_}

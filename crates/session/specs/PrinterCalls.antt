@@ -87,7 +87,7 @@ module _ (sizes : List ℤ) (instead : ℤ → Bool) (es : List Accepted) (At : 
       unfolding judgeManager heldStorage
       judged e = rw (agree-form sizes instead es At n (k .agree), keeps-storage, e) (given _ _)
 
-      -- where they are not, the call is refused so
+      -- if they are not, the call is refused for that
       too-short : enough ≡ false → Refuses (judgeManager (p .receiver) (p .store) (p .area) (length (p .parts)) (length (p .joined)) scratch) scratchTooShort
       unfolding judgeManager heldStorage
       too-short e = rw (agree-form sizes instead es At n (k .agree), keeps-storage, e) (refusal _ _)

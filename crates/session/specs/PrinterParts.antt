@@ -74,7 +74,7 @@ module _ (sizes : List ℤ) (instead : ℤ → Bool) (es : List Accepted) (At : 
   abbrev noting : Option ℤ → List ℕ → List StoredSnap → Option ℤ → Logbook
   noting newest came l k = record { newest = newest; came = came; held = ticks l; acknowledged = k }
 
-  -- what the receiver makes of the part
+  -- the result of taking the part
   abbrev putting : Option ℤ → List ℕ → Taken
   putting previous lengths =
       putPart previous (withPart (openedWith lengths) p (length (partBytes bytes p))) (layAt (900 * p) (partBytes bytes p) area) second
@@ -119,7 +119,7 @@ module _ (sizes : List ℤ) (instead : ℤ → Bool) (es : List Accepted) (At : 
           crc = crc (a .table);
         }
 
-    -- what the receiver makes of it
+    -- what the receiver answers to it
     abbrev pub partTaken : Receiver → Outcome Taken
     partTaken r = takeSnap r partNumbers (partBytes bytes p) area second
 

@@ -1,4 +1,4 @@
--- What the manager makes of what its receiver took, beside the logbook. Assumes nothing.
+-- What the manager does with what its receiver took, compared with the logbook. Assumes nothing.
 use mathlib.Core.Path.{_≡_, refl, sym, _∙_, subst}
 use mathlib.Core.Bool.{Bool, true, false}
 use mathlib.Core.List.{List, []}
@@ -39,7 +39,7 @@ use Rattle.session.specs.ReceiverSteps.{Gives, Refuses}
 
 -- ---- what a printer needs of an accepted table
 
--- its delta was made against its base; its packed form, under sizes that are its data's, is read, and applied, as it
+-- its delta was made against its base; its packed form, under sizes that match its data, is read and applied as that delta
 pub record Ready (sizes : List ℤ) (At : ℤ → Table → Type 0) (a : Accepted) : Type 0 where
   pub base : Table
   pub named : Base At (a .base) base
@@ -86,13 +86,13 @@ base-back n nm h (named at) =
     let (k, q, i) = nm .number at in
     rw q (distance-back {a = pos n} {b = pos k} (record { sfits = omega arith }) (record { sfits = omega arith }))
 
--- ---- the steps behind the receiver
+-- ---- the steps after the receiver
 
 -- the delta of a table's tick that is finished
 abbrev pub deltaOf : Accepted → ℕ → Option DataAndCrc → ReceivedDelta
 deltaOf a t c = record { deltaTick = a .base; tick = pos t; dataAndCrc = c }
 
--- what the receiver makes of the message that finishes it
+-- the result of the message that finishes it
 abbrev pub finishing : Accepted → ℕ → Option DataAndCrc → List ℕ → List ℕ → Taken
 finishing a t c area second =
     record { received = some (deltaOf a t c); receiver = finishedAt (pos t); parts = area; joined = second }
@@ -102,7 +102,7 @@ abbrev pub finishedWith : Accepted → ℕ → Option DataAndCrc → List ℕ �
 finishedWith a t c area second w =
     record { answer = ok (some (deltaOf a t c)) w; receiver = finishedAt (pos t); parts = area; joined = second }
 
--- what the manager makes of what its receiver took; n is the length of the store's area
+-- what the manager does with what its receiver took; n is the length of the store's area
 abbrev pub taken : List ℤ → ℕ → Receiver → Storage → List ℕ → List ℕ → List ℤ → Outcome Taken → Handled
 taken sizes n r s area second delta o =
     afterReceiving sizes n (leaves r area second o) s delta (leaves r area second o .answer)

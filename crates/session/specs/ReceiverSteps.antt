@@ -1,4 +1,4 @@
--- What the receiver makes of a message, whatever it counts as warnings. Assumes nothing.
+-- What the receiver does with a message, whatever warnings it counts. Assumes nothing.
 use mathlib.Core.Path.{_≡_, refl, ap}
 use mathlib.Core.Bool.{Bool, true, false, cond, not}
 use mathlib.Core.List.{List}

@@ -1,4 +1,4 @@
--- The lists of calls of a controller and of a printer, what they are answered and what they leave. Assumes nothing.
+-- The lists of calls of a controller and of a printer, their answers and what they leave. Assumes nothing.
 use mathlib.Core.Bool.{Bool, cond}
 use mathlib.Core.List.{List, [], _∷_, _++_}
 use mathlib.Core.Option.{Option, some, none}
@@ -70,7 +70,7 @@ pub record Accepted : Type 0 where
   pub table : Table
   pub delta : Delta
 
--- the table of an area that was added at a tick, with the base that was told and the delta that the delta area holds
+-- the table of an area that was added at a tick, with the base that was answered and the delta that the delta area holds
 abbrev pub acceptedAs : ℤ → List ℤ → Added → List ℤ → Accepted
 acceptedAs tick table a delta =
     record { tick = tick; base = a .base; table = items table; delta = deltaIn [] delta }

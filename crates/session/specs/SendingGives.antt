@@ -57,7 +57,7 @@ empty-cut tick base sum = cut-gives tick base [] sum (omega arith) ∙ unfold de
 
 -- ---- a table that was added
 
--- a delta area in form is written under sizes that are its data's
+-- a delta area in form is written under sizes that match its data
 writing-is : (sizes delta : List ℤ) (d : Delta) → deltaOf delta ≡ some d → sizesMatch sizes (d .updated) ≡ true
     → writing delta sizes ≡ return (deltaInts sizes d)
 unfolding writing heldDelta

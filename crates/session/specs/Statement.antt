@@ -1,4 +1,4 @@
--- Demand 3, beside document 01's sentences: what a session is, and what is claimed of it. Assumes nothing.
+-- Demand 3, with the rules for sessions in docs/FORMAT.md: what a session is, and what is claimed about it. Assumes nothing.
 use mathlib.Core.Path.{_≡_}
 use mathlib.Core.Bool.{Bool, true, false}
 use mathlib.Core.List.{List, [], _∷_, _++_, map}
@@ -40,7 +40,7 @@ pub data All {A : Type 0} (P : A → Type 0) : List A → Type 0 where
 
 -- ---- the session
 
--- "adds them at strictly rising ticks from 0": of the accepted tables, the newest first
+-- "at strictly rising ticks from 0": the accepted tables, the newest first
 pub data Rising : List Accepted → Type 0 where
   none : Rising []
   more : {a : Accepted} {l : List Accepted} (n : ℕ) → a .tick ≡ pos n → n ≤ 2147483647 → All (λ b. signedLess (b .tick) (a .tick) ≡ true) l → Rising l
@@ -64,7 +64,7 @@ carries (Snap t d n p crc) = true
 carries (SnapSingle t d crc) = true
 carries (SnapEmpty t d) = false
 
--- a delta that goes out in bytes: sizes known are those of its data, and "packed deltas are at most 28,800 bytes"
+-- a delta that goes out in bytes: known sizes match its data, and "packed deltas are at most 28,800 bytes"
 pub record Carried (sizes : List ℤ) (a : Accepted) : Type 0 where
   pub matches : sizesMatch sizes (a .delta .updated) ≡ true
   pub short : length (packed sizes a) ≤ packedBytes
@@ -77,7 +77,7 @@ pub record Sent (sizes : List ℤ) (instead : ℤ → Bool) (At : ℤ → Table 
   pub carried : carries (m .numbers) ≡ true → Carried sizes table
   pub equal : instead (table .tick) ≡ true → Base At (table .base) (table .table)
 
--- both lists of calls, from empty stores: an area of so many ints for each, and other areas of any content; sizes known are the same throughout
+-- both lists of calls, from empty stores: a store area of some length for each, and other areas of any content; known sizes stay the same
 pub record Session : Type 0 where
   pub sizes : List ℤ
   pub controller : Controller
@@ -90,7 +90,7 @@ pub record Session : Type 0 where
 abbrev pub acceptedIn : Session → List Accepted
 acceptedIn s = acceptedFrom (s .controller) (s .calls) []
 
--- what document 01 asks of a session, but for the lengths of areas; "the controller only builds tables with the builder"
+-- what docs/FORMAT.md requires of a session, except for the lengths of areas; "the controller adds only tables made with the builder"
 pub record Holds (s : Session) : Type 0 where
   pub area : ℕ
   pub delta : List ℤ
@@ -111,16 +111,16 @@ abbrev pub Suffices : {A : Type 0} → Outcome A → Type 0
 Suffices (ok a w) = Unit {0}
 Suffices (err n w) = (n ≡ capacityError → ⊥) × (n ≡ scratchTooShort → ⊥)
 
--- the step of the controller's call behind some others
+-- the step of the controller's call after some others
 abbrev pub stepAfter : Session → List ControllerCall → ControllerCall → ControllerStep
 stepAfter s xs x = controllerCall (afterCalls (s .controller) xs) x
 
--- no call of a printer is refused so
+-- no call of a printer is refused for that
 abbrev pub ReceivedSuffices : List ℤ → Printer → List PrinterCall → Type 0
 ReceivedSuffices sizes p cs =
     (xs ys : List PrinterCall) (m : Message) (n : ℕ) → cs ≡ xs ++ message m n ∷ ys → Suffices (printerCall sizes (afterReceived sizes p xs) m n .answer)
 
--- "scratch and lent areas suffice by the rules for 40 and 41": no call is refused so
+-- "areas and scratch suffice by the rules for 40 and 41": no call is refused for that
 pub record AreasSuffice (s : Session) : Type 0 where
   pub controller : (xs ys : List ControllerCall) (x : ControllerCall) → s .calls ≡ xs ++ x ∷ ys → Suffices (stepAfter s xs x .answer)
   pub printer : ReceivedSuffices (s .sizes) (s .printer) (s .received)
@@ -161,7 +161,7 @@ pub data BaseIn (s : Storage) : Table → Type 0 where
   held : {x : StoredSnap} → s .deltaTick ≡ some (x .tick) → Among x (s .snaps) → BaseIn s (x .snap)
   empty : s .deltaTick ≡ Option.none → BaseIn s []
 
--- what a negative base tick counts: one other than -1 is weird
+-- the warning for a negative base tick: one other than -1 is weird
 pub data Weird : ℤ → Counts → Type 0 where
   minusOne : {t : ℤ} → same t (negsuc 0) ≡ true → Weird t Warnings.none
   other : {t : ℤ} → same t (negsuc 0) ≡ false → Weird t (one WeirdNegativeDeltaTick)
@@ -178,7 +178,7 @@ pub data Answered (s : Storage) : ControllerCall → Outcome (Option Added) → 
   sets : {t : ℤ} → signedLess t (pos 0) ≡ false → HeldAt t (s .snaps) → Answered s (setDeltaTick t) (return Option.none)
   unknown : {t : ℤ} → signedLess t (pos 0) ≡ false → (HeldAt t (s .snaps) → ⊥) → Answered s (setDeltaTick t) (refuse unknownSnap)
 
--- what is told of the controller's store after some calls
+-- what follows from some calls about the controller's store
 abbrev pub controllerTold : Session → List ControllerCall → Storage
 controllerTold s xs = storageTold (toldFrom (s .controller) xs [])
 
@@ -189,7 +189,7 @@ pub record BaseRight (l : List Accepted) (a : Accepted) : Type 0 where
   pub older : signedLess (a .base) (a .tick) ≡ true
   pub made : createDelta base (a .table) ≡ return (a .delta)
 
--- the calls that send, on the areas that `add_snap` was lent and left, give the messages of its table; on no bytes they give its empty message
+-- the calls that send, on the areas that `add_snap` read and wrote, give the messages of its table; on no bytes they give its empty message
 pub record SentRight (sizes : List ℤ) (tick : ℤ) (table : List ℤ) (a : Added) (delta : List ℤ) : Type 0 where
   pub chunks : (out : List ℕ) → let x : Accepted = acceptedAs tick table a delta in Carried sizes x → length (packed sizes x) ≤ length out
       → sendCalls sizes tick (a .base) table delta out ≡ return (chunksOf sizes x)
@@ -197,7 +197,7 @@ pub record SentRight (sizes : List ℤ) (tick : ℤ) (table : List ℤ) (a : Add
 
 -- ---- the claim about the printer
 
--- the numbers of a message that the logbook is fed: a single or an empty one is part 0 of 1
+-- the numbers of a message that go to the logbook: a single or an empty one is part 0 of 1
 abbrev pub tickOf : SnapMsg → ℤ
 tickOf (Snap t d n p crc) = t
 tickOf (SnapSingle t d crc) = t
@@ -232,7 +232,7 @@ pub record Completes (xs : List Message) (l : List StoredSnap) (m : SnapMsg) : T
   pub newest : (x : Message) → Among x xs → signedLess (tickOf m) (tickOf (x .numbers)) ≡ false
   pub based : signedLess (baseOf m) (pos 0) ≡ false → HeldAt (baseOf m) l
 
--- what a printer holds beside its logbook: its area is in form, each table is, item for item, the one at its tick, and
+-- what a printer holds, by its logbook: its area is in form, each table is, item for item, the one at its tick, and
 -- the ticks held and the acknowledgement are the noted ones
 pub record PrinterHolds (At : ℤ → Table → Type 0) (p : Printer) (g : Logbook) : Type 0 where
   pub storage : Storage
@@ -257,10 +257,10 @@ logbookAfter xs = afterNotes freshLogbook (messagesIn xs)
 -- ---- the claim about both lists
 
 pub record Demand3 (s : Session) : Type 0 where
-  -- after each of its calls the controller's store is in form, and holds what the calls tell
+  -- after each of its calls the controller's store is in form, and holds what follows from the calls
   pub holds : (xs ys : List ControllerCall) → s .calls ≡ xs ++ ys
       → storageOf (afterCalls (s .controller) xs .store) (afterCalls (s .controller) xs .area) ≡ some (controllerTold s xs)
-  -- its calls are answered, and add_snap chose its base, as 01 defines
+  -- its calls are answered, and add_snap chose its base, as defined
   pub controller : (xs ys : List ControllerCall) (x : ControllerCall) → s .calls ≡ xs ++ x ∷ ys
       → Answered (controllerTold s xs) x (stepAfter s xs x .answer)
   pub bases : All (BaseRight (acceptedIn s)) (acceptedIn s)

@@ -31,7 +31,7 @@ use Rattle.session.specs.PrinterState.{Naming, AtTick, named-sounds, sto
 
 -- ---- answers
 
--- what a store's answer is to the logbook
+-- a store's answer as the logbook gives it
 abbrev pub storeAnswer : Outcome ℤ → Answer
 storeAnswer (ok t w) = acknowledges t
 storeAnswer (err n w) = refused n
@@ -59,7 +59,7 @@ weird b o t e =
     (plus w Warnings.none, rw (q, e) refl)
 
 module _ (sizes : List ℤ) (instead : ℤ → Bool) (es : List Accepted) (At : ℤ → Table → Type 0) (n : ℕ) where
-  -- what the store makes of a finished tick is what the logbook notes
+  -- what the store does with a finished tick is what the logbook notes
   pub record Stored (area : List ℕ) (t : ℕ) (k : Keeps ℤ) (x : Note) : Type 0 where
     pub answer : storeAnswer (k .answer) ≡ x .answer
     pub agree : Agree sizes instead es At n (finishedAt (pos t)) area (k .storage) (x .logbook)

@@ -1,4 +1,4 @@
--- An int as a count: what the code's tests and casts ask. Assumes nothing.
+-- An int as a count: what the code's tests and casts need. Assumes nothing.
 use Prim.Native.Nat.{ℕ, _<_, _^_}
 use mathlib.Core.Path.{_≡_, refl, sym, ap, _∙_}
 use mathlib.Core.Bool.{Bool, true, false, true≢false, false≢true}

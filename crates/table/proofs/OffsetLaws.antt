@@ -1,4 +1,4 @@
--- Offsets that are counted and joined: when all are behind the one before and at whole ints, and what that says of where items end. Assumes nothing.
+-- Counted and joined offsets: when all are above the one before and at whole ints, and what that says about where items end. Assumes nothing.
 use Prim.Native.Nat.{ℕ, zero, suc, _+_, _-_, _*_, _%_, _<_, _≤_, _^_}
 use mathlib.Core.Path.{_≡_, refl, sym, ap, _∙_}
 use mathlib.Core.Logic.{⊎-elim}
@@ -20,7 +20,7 @@ use Rattle.table.specs.Offsets.{behindAt, joined, tally}
 
 -- ---- counting
 
--- no more than all
+-- at most all
 pub tally-most : (p : ℕ → Bool) (k : ℕ) → tally p k ≤ k
 unfolding tally
 tally-most p zero = omega arith
@@ -30,7 +30,7 @@ tally-most p (suc k) = go (p k) (tally-most p k)
     go true l = omega arith
     go false l = omega arith
 
--- all, where it is so many
+-- if all are counted, p holds for all
 pub tally-all : (p : ℕ → Bool) (k : ℕ) → tally p k ≡ k → all p k ≡ true
 unfolding tally all
 tally-all p zero e = refl
@@ -40,7 +40,7 @@ tally-all p (suc k) e = go (p k) (tally-all p k) e
     go true h f = rw (h (omega arith))
     go false h f = absurd (omega (arith, tally-most p k))
 
--- and so many, where it is all
+-- if p holds for all, all are counted
 pub all-tally : (p : ℕ → Bool) (k : ℕ) → all p k ≡ true → tally p k ≡ k
 unfolding tally all
 all-tally p zero e = refl
@@ -53,7 +53,7 @@ pub tally-more : (p : ℕ → Bool) (k : ℕ) → tally p k + cond (p k) 1 0 ≡
 unfolding tally
 tally-more p k = rw add-one
 
--- every number below k has p
+-- p holds for every number below k
 pub all-of : (p : ℕ → Bool) (k : ℕ) → ((i : ℕ) → i < k → p i ≡ true) → all p k ≡ true
 unfolding all
 all-of p zero h = refl
@@ -61,7 +61,7 @@ all-of p (suc k) h = rw (all-of p k (λ i l. h i (omega arith)), h k (omega arit
 
 -- ---- joining
 
--- nothing is joined of anything else
+-- if the or of two numbers is 0, both are 0
 or-none : (x y : ℕ) → bitOr x y ≡ 0 → (x ≡ 0) × (y ≡ 0)
 or-none x y e =
     let s = or-add-and x y in
@@ -72,7 +72,7 @@ pub joined-more : (a : List ℤ) (k : ℕ) → bitOr (joined a k) (bits (getD a 
 unfolding joined
 joined-more a k = rw add-one
 
--- what is joined has no remainder: nor has any of it
+-- if the joined bits have no remainder, no offset has one
 pub joined-whole : (a : List ℤ) (k : ℕ) → joined a k % 4 ≡ 0 → (i : ℕ) → i < k → bits (getD a (3 + i) (pos 0)) % 4 ≡ 0
 unfolding joined
 joined-whole a zero e i l = absurd (omega arith)
@@ -80,7 +80,7 @@ joined-whole a (suc k) e i l =
     let q = or-none (joined a k % 4) (bits (getD a (3 + k) (pos 0)) % 4) (sym (or-mod (joined a k) (bits (getD a (3 + k) (pos 0))) 2) ∙ e) in
     ⊎-elim (λ (m : i ≡ k). ap (λ (j : ℕ). bits (getD a (3 + j) (pos 0)) % 4) m ∙ q .1) (λ (m : i < k). joined-whole a k (q .0) i m) (eq-or-lt-of-le (le-of-suc-le-suc l))
 
--- where none of it has one, nor has that
+-- if no offset has a remainder, the joined bits have none
 pub whole-joined : (a : List ℤ) (k : ℕ) → ((i : ℕ) → i < k → bits (getD a (3 + i) (pos 0)) % 4 ≡ 0) → joined a k % 4 ≡ 0
 unfolding joined
 whole-joined a zero h = refl
@@ -89,13 +89,13 @@ whole-joined a (suc k) h =
 
 -- ---- offsets as ints
 
--- a count is its int, where this is not negative
+-- a count equals its int if that is not negative
 pub count-is-int : (z : ℤ) → num z < 2 ^ 32 → z ≡ pos (num z)
 unfolding num
 count-is-int (pos n) l = refl
 count-is-int (negsuc n) l = absurd (omega arith)
 
--- what is above a count is one
+-- a number above a count is a count
 above-count : (x : ℕ) (z : ℤ) → signedLess (pos x) z ≡ true → (z ≡ pos (num z)) × (x < num z)
 unfolding num
 above-count x (pos y) e = (refl, ltb-true x y e)
@@ -122,9 +122,9 @@ module _ (a : List ℤ) (n s : ℕ) (h : Head a n s) where
   small : s < 2 ^ 31
   small = omega (arith, h .short)
 
-  -- all behind the one before, at whole ints, the last before the end
+  -- all are above the one before, at whole ints, and the last is before the end
   module _ (f : all (behindAt a) (n - 1) ≡ true) (g : joined a (n - 1) % 4 ≡ 0) (last : bits (getD a (1 + n) (pos 0)) < s) (m : s % 4 ≡ 0) (l : 0 < n) where
-    -- the next offset, where one is a count
+    -- the next offset, if this one is a count
     next-int : (i : ℕ) → i + 1 < n → getD a (2 + i) (pos 0) ≡ pos (edge a i) → (getD a (3 + i) (pos 0) ≡ pos (edge a (i + 1))) × (edge a i < edge a (i + 1))
     unfolding behindAt nat
     next-int i q o =
@@ -152,14 +152,14 @@ module _ (a : List ℤ) (n s : ℕ) (h : Head a n s) where
         let e : bits (getD a (3 + i) (pos 0)) ≡ edge a (i + 1) = ap bits (next-int i q (offset-int i (omega arith)) .0) ∙ bits-count (edge a (i + 1)) in
         sym (ap (λ (x : ℕ). x % 4) e) ∙ joined-whole a (n - 1) g i (omega arith)
 
-    -- that of item n - 1 - k is before the end
+    -- the offset of item n - 1 - k is before the end
     before : (k i : ℕ) → k + i ≡ n - 1 → edge a i < s
     before zero i e =
         let q : bits (getD a (1 + n) (pos 0)) ≡ edge a i = ap (λ (k : ℕ). bits (getD a k (pos 0))) (omega arith) ∙ ap bits (offset-int i (omega arith)) ∙ bits-count (edge a i) in
         omega (arith, q, last)
     before (suc k) i e = omega (arith, before k (i + 1) (omega arith), rises i (omega arith))
 
-    -- item i ends well
+    -- item i ends correctly
     end-well : (i : ℕ) → i < n → ends a i ≡ true
     end-well i q = well-ends a i (⊎-elim at-end inside (eq-or-lt-of-le (next-most i q)))
       where
@@ -178,7 +178,7 @@ module _ (a : List ℤ) (n s : ℕ) (h : Head a n s) where
     pub ends-all : all (ends a) n ≡ true
     ends-all = all-of (ends a) n end-well
 
-  -- where all items end well, all that is counted and compared is so
+  -- if all items end correctly, everything counted and compared holds
   module _ (e : all (ends a) n ≡ true) where
     pub end-of : (i : ℕ) → i < n → Ends a i
     end-of i l = ends-well a i (all-holds (ends a) i n l e)
@@ -206,7 +206,7 @@ module _ (a : List ℤ) (n s : ℕ) (h : Head a n s) where
         let w : bits (getD a (1 + n) (pos 0)) ≡ edge a (n - 1) = ap (λ (k : ℕ). bits (getD a k (pos 0))) (omega arith) ∙ bits-edge (n - 1) (omega arith) in
         omega (arith, w, edge-before (n - 1) (omega arith))
 
-    -- the offset of the item behind item i
+    -- the offset of the item after item i
     next-edge : (i : ℕ) → i < n - 1 → getD a (3 + i) (pos 0) ≡ pos (edge a (i + 1))
     next-edge i l = ap (λ (k : ℕ). getD a k (pos 0)) (omega arith) ∙ edge-int (i + 1) (omega arith)
 
@@ -222,21 +222,21 @@ module _ (a : List ℤ) (n s : ℕ) (h : Head a n s) where
         go : (i : ℕ) → i < n - 1 → bits (getD a (3 + i) (pos 0)) % 4 ≡ 0
         go i l = rw (next-edge i l, bits-count (edge a (i + 1))) (end-of i (omega arith) .aligned)
 
-  -- where an item does not end well, not all fit
+  -- if an item does not end correctly, not all fit
   pub no-ends : all (ends a) n ≡ false → all (fits a) n ≡ false
   no-ends e = fails (all (fits a) n) (λ f. false≢true (sym e ∙ all-of (ends a) n (λ i l. unfold fits in both (ends a i) _ (all-holds (fits a) i n l f) .0)))
 
 -- ---- offsets of an area in form
 
 module _ (a : List ℤ) (n : ℕ) (h : Held a n) where
-  -- that of an item
+  -- the offset of an item
   pub held-offset : (i : ℕ) → i < n → bits (getD a (2 + i) (pos 0)) ≡ edge a i
   unfolding nat
   held-offset i l =
       let w : num (getD a (2 + i) (pos 0)) ≡ edge a i = sym (Form.edge-nat a i (omega (arith, h .count-is))) in
       ap bits (count-is-int _ (omega (arith, w, edge-within a (h .shape) i (omega (arith, h .count-is)), h .shape .short)) ∙ ap pos w) ∙ bits-count (edge a i)
 
-  -- that of the end
+  -- the offset of the end
   pub held-end : bits (getD a 0 (pos 0)) ≡ edge a n
   unfolding nat
   held-end =

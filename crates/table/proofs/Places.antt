@@ -1,4 +1,4 @@
--- What the place of a key tells: the item that has it, and the i-th of the signed walk. Assumes nothing.
+-- What the place of a key says: the item that has it, and the i-th item of the walk. Assumes nothing.
 use Prim.Native.Nat.{ℕ, _+_, _-_, _<_, _≤_, _^_}
 use mathlib.Core.Path.{_≡_, refl, sym, ap, _∙_}
 use mathlib.Core.List.{List}
@@ -24,7 +24,7 @@ module _ (a : List ℤ) (n : ℕ) (h : Held a n) where
         ∙ rw (le-ltb n n (omega arith))
 
   module _ (m i : ℕ) (p : Place a (2 ^ 31) m) where
-    -- the first m items, and the others
+    -- the first m items, and the rest
     parts : m + (n - m) ≡ count a
     parts = omega (arith, h .count-is, p .within)
 

@@ -9,7 +9,7 @@ use Rattle.definitions.specs.Tables.{list, itemAt, valuesAt, allValues, crc}
 use Rattle.laws.specs.IntLaws.{wrappingAdd-zero, sum-fits}
 use Rattle.laws.specs.TableWalk.{crc-append, crc-cons}
 
--- the data of one item more is added to the sum
+-- the data of one more item is added to the sum
 pub data-more : (a : List ℤ) (i : ℕ) → wrappingAdd (crc (list (itemAt a) i)) (sum (valuesAt a i)) ≡ crc (list (itemAt a) (i + 1))
 unfolding list allValues
 data-more a i =

@@ -1,4 +1,4 @@
--- What the test of a form tells. Assumes nothing.
+-- What the answer of the form test means. Assumes nothing.
 use Prim.Native.Nat.{ℕ, _+_, _/_, _<_}
 use native.Mathlib.Omega.{arith}
 use mathlib.Core.Path.{_≡_, refl, sym, ap, ap₂, _∙_}
@@ -20,7 +20,7 @@ module _ (a : List ℤ) where
   pub good : (n k : ℕ) → Shape a → n ≡ count a → k ≡ 2 + count a + size a / 4 → form.Table n k ≡ formOf (tableOf a)
   good n k h p q = rw (some-is a h) (ap₂ form.Table (p ∙ sym (length-items a h)) (q ∙ sym (length-form a h)))
 
-  -- what `form`'s answer tells
+  -- what the answer of `form` means
   pub formed : (n k : ℕ) → form.Table n k ≡ formOf (tableOf a) → Held a n × (k ≡ 2 + count a + size a / 4)
   formed n k e = go (inForm a) refl
     where

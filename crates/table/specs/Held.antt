@@ -1,4 +1,4 @@
--- What is known of an area whose form was tested. Assumes nothing.
+-- What is known about an area whose form was tested. Assumes nothing.
 use mathlib.Core.Path.{_≡_}
 use mathlib.Core.Bool.{cond}
 use mathlib.Core.List.{List}
@@ -12,7 +12,7 @@ use Rattle.laws.specs.TableShape.{Shape}
 use Rattle.table.specs.declared.checked.TableForm.{TableForm}
 use Rattle.table.specs.declared.checked.TableForm.the-variants as form
 
--- what the test of a form answers
+-- the answer of the form test
 abbrev pub formOf : Option Table → TableForm
 formOf (some t) = form.Table (length t) (length (written t))
 formOf none = form.Bad
@@ -22,7 +22,7 @@ pub record Held (a : List ℤ) (n : ℕ) : Type 0 where
   pub count-is : n ≡ count a
   pub shape : Shape a
 
--- the first two ints passed their tests, and the first item begins at 0
+-- the first two ints passed their tests, and the first item's offset is 0
 pub record Head (a : List ℤ) (n s : ℕ) : Type 0 where
   pub count-is : n ≡ count a
   pub size-is : s ≡ size a
@@ -31,6 +31,6 @@ pub record Head (a : List ℤ) (n s : ℕ) : Type 0 where
   pub room : 2 + n + s / 4 ≤ length a
   pub first : edge a 0 ≡ 0
 
--- the data of item r of n, where there is one
+-- the data of item r of n, if there is one
 abbrev pub dataIn : List ℤ → ℕ → ℕ → Option (List ℤ)
 dataIn a n r = cond (ltb r n) (some (valuesAt a r)) none

@@ -1,4 +1,4 @@
--- The keys of an area's items, judged one behind the other. Assumes nothing.
+-- The keys of an area's items, judged one after the other. Assumes nothing.
 use mathlib.Core.Path.{_≡_}
 use mathlib.Core.Bool.{true, cond}
 use mathlib.Core.List.{List}
@@ -7,11 +7,11 @@ use lib.IntN.{ℤ}
 use Rattle.definitions.specs.Tables.{all, ends, fits, keyAt}
 use Rattle.table.specs.Held.{Head}
 
--- the key of the last of the first i items, or 2 ^ 32 where one of them does not fit
+-- the key of the last of the first i items, or 2 ^ 32 if one of them does not fit
 unfoldable pub lastKey : List ℤ → ℕ → ℕ
 lastKey a i = cond (all (fits a) i) (keyAt a (i - 1)) (2 ^ 32)
 
--- all n items end well, the first i of them, which are some, fit, and last is the key of the last of these
+-- all n items end correctly, the first i of them, at least one, fit, and last is the key of the last of these
 pub record Rising (a : List ℤ) (n s i last : ℕ) : Type 0 where
   pub head : Head a n s
   pub ended : all (ends a) n ≡ true

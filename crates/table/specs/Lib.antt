@@ -1,4 +1,4 @@
--- What the functions of `table` are given, and what the test of a form tells. Assumes nothing.
+-- What the functions of `table` require, and what the answer of the form test means. Assumes nothing.
 pub mod Held
 pub mod Offsets
 pub mod Keys

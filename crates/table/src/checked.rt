@@ -1,4 +1,4 @@
-// Table areas: the test of their form, and what may be asked of an area that passed it.
+// Table areas: the test of their form, and functions on an area that passed it.
 ghost use mathlib.Core.Path.{_≡_};
 ghost use mathlib.Core.Bool.{Bool, true, cond};
 ghost use mathlib.Core.Option.{some};
@@ -15,19 +15,19 @@ ghost use Rattle.table.specs.Held.{Head, Held, formOf, dataIn};
 ghost use Rattle.table.specs.Offsets.{behindAt, joined, tally};
 ghost use Rattle.table.specs.Keys.{Rising, lastKey};
 
-// Whether an area begins with a written table: how many items it has, and how many ints it takes.
+// Whether an area begins with a written table; if so, its number of items and of ints.
 pub enum TableForm {
     Table { items: usize, ints: usize },
     Bad,
 }
 
-// What the offsets of some items come to: how many begin behind the one before, and all bits of the offsets, joined by or.
+// A summary of some items' offsets: how many are above the one before, and the bitwise or of all of them.
 pub struct Offsets {
     pub behind: u32,
     pub bits: u32,
 }
 
-// The count at a place; a negative int is 2^32.
+// The count at place i; a negative int gives 2^32.
 pub fn nat_at(area: &[i32], i: usize) -> usize
     requires { ⌜ i < length (now area) ⌝ }
     ensures { λ r. ⌜ (r ≡ nat (now (area .entry)) i) × (r ≤ 2 ^ 32) × (mag (getD (now (area .entry)) i (pos 0)) < 2 ^ 31) ⌝ }
@@ -35,7 +35,7 @@ pub fn nat_at(area: &[i32], i: usize) -> usize
     ints::num(area[i])
 }
 
-// The bits at a place, which holds an int.
+// The bits of the int at place i.
 pub fn bits_at(area: &[i32], i: usize) -> usize
     requires { ⌜ i < length (now area) ⌝ }
     ensures { λ r. ⌜ (r ≡ bits (getD (now (area .entry)) i (pos 0))) × (r < 2 ^ 32) × (mag (getD (now (area .entry)) i (pos 0)) < 2 ^ 31) ⌝ }
@@ -43,7 +43,7 @@ pub fn bits_at(area: &[i32], i: usize) -> usize
     ints::to_bits(area[i]) as usize
 }
 
-// The count at a place that holds one: its bits.
+// The count at a place that holds one, by its bits.
 pub fn count_at(area: &[i32], i: usize) -> usize
     requires { ⌜ (i < length (now area)) × (nat (now area) i < 2 ^ 32) ⌝ }
     ensures { λ r. ⌜ r ≡ nat (now (area .entry)) i ⌝ }
@@ -51,7 +51,7 @@ pub fn count_at(area: &[i32], i: usize) -> usize
     bits_at(area, i)
 }
 
-// The byte offset of item i of n, or of the end of the last.
+// The byte offset of item i of n, or of the end of the last item.
 pub fn edge(area: &[i32], n: usize, i: usize) -> usize
     requires { ⌜ (n ≡ count (now area)) × (2 + n ≤ length (now area)) ⌝ }
     ensures { λ r. ⌜ (r ≡ Tables.edge (now (area .entry)) i) × (r ≤ 2 ^ 32) ⌝ }
@@ -63,7 +63,7 @@ pub fn edge(area: &[i32], n: usize, i: usize) -> usize
     }
 }
 
-// 1 where item i + 1 begins behind item i, else 0.
+// 1 if item i + 1 begins after item i, else 0.
 fn is_behind(area: &[i32], i: usize) -> u32
     requires { ⌜ 3 + i < length (now area) ⌝ }
     ensures { λ r. ⌜ (r ≡ cond (behindAt (now (area .entry)) i) 1 0) × (r ≤ 1) ⌝ }
@@ -74,8 +74,8 @@ fn is_behind(area: &[i32], i: usize) -> u32
     0
 }
 
-// Of the n items but the first: how many begin behind the one before, and all bits of their offsets. No turn leaves the loop, so that
-// the compiler can take several at once.
+// For all n items but the first: how many begin after the one before, and the bitwise or of their offsets. No turn leaves the loop, so that
+// the compiler can vectorize it.
 fn join_offsets(area: &[i32], n: usize) -> Offsets
     requires { ⌜ (2 + n ≤ length (now area)) × (n ≤ 1024) ⌝ }
     ensures { λ r. ⌜ (r .behind ≡ tally (behindAt (now (area .entry))) (n - 1)) × (r .bits ≡ joined (now (area .entry)) (n - 1)) ⌝ }
@@ -91,7 +91,7 @@ fn join_offsets(area: &[i32], n: usize) -> Offsets
     Offsets { behind, bits }
 }
 
-// Whether the items' offsets are as a written table has them.
+// Whether the items' offsets are those of a written table.
 fn ends_fit(area: &[i32], n: usize, size: usize) -> bool
     requires { ⌜ Head (now area) n size ⌝ }
     ensures { λ r. ⌜ r ≡ all (ends (now (area .entry))) n ⌝ }
@@ -115,7 +115,7 @@ fn ends_fit(area: &[i32], n: usize, size: usize) -> bool
     true
 }
 
-// The bits of the key of item i of n, where the offsets are as a written table has them; body is what stands behind these.
+// The bits of the key of item i of n, if the offsets are those of a written table; body is the area past the offsets.
 fn key_bits(area: &[i32], body: &[i32], n: usize, size: usize, i: usize) -> usize
     requires { ⌜ Head (now area) n size × (all (ends (now area)) n ≡ true) × (i < n) × (now body ≡ drop (2 + n) (now area)) ⌝ }
     ensures { λ r. ⌜ (r ≡ keyAt (now (area .entry)) i) × (r < 2 ^ 32) × (mag (getD (now (area .entry)) (start (now (area .entry)) i) (pos 0)) < 2 ^ 31) ⌝ }
@@ -124,7 +124,7 @@ fn key_bits(area: &[i32], body: &[i32], n: usize, size: usize, i: usize) -> usiz
     bits_at(body, here / 4)
 }
 
-// The key of item i, or 2^32 where it is not above the last one.
+// The key of item i, or 2^32 if it is not above the last one.
 fn after_item(area: &[i32], body: &[i32], n: usize, size: usize, i: usize, last: usize) -> usize
     requires { ⌜ Rising (now area) n size i last × (i < n) × (now body ≡ drop (2 + n) (now area)) ⌝ }
     ensures { λ r. ⌜ r ≡ lastKey (now (area .entry)) (i + 1) ⌝ }
@@ -136,7 +136,7 @@ fn after_item(area: &[i32], body: &[i32], n: usize, size: usize, i: usize, last:
     key
 }
 
-// The key of the second item from item i on, or 2^32 where one of the two is not above the one before.
+// The key of the second item from item i on, or 2^32 if one of the two is not above the one before.
 fn after_two(area: &[i32], body: &[i32], n: usize, size: usize, i: usize, last: usize) -> usize
     requires { ⌜ Rising (now area) n size i last × (i + 2 ≤ n) × (now body ≡ drop (2 + n) (now area)) ⌝ }
     ensures { λ r. ⌜ r ≡ lastKey (now (area .entry)) (i + 2) ⌝ }
@@ -148,7 +148,7 @@ fn after_two(area: &[i32], body: &[i32], n: usize, size: usize, i: usize, last: 
     after_item(area, body, n, size, i + 1, half)
 }
 
-// The key of the fourth item from item i on, or 2^32 where one of the four is not above the one before.
+// The key of the fourth item from item i on, or 2^32 if one of the four is not above the one before.
 fn after_four(area: &[i32], body: &[i32], n: usize, size: usize, i: usize, last: usize) -> usize
     requires { ⌜ Rising (now area) n size i last × (i + 4 ≤ n) × (now body ≡ drop (2 + n) (now area)) ⌝ }
     ensures { λ r. ⌜ r ≡ lastKey (now (area .entry)) (i + 4) ⌝ }
@@ -160,7 +160,7 @@ fn after_four(area: &[i32], body: &[i32], n: usize, size: usize, i: usize, last:
     after_two(area, body, n, size, i + 2, half)
 }
 
-// The key of the eighth item from item i on, or 2^32 where one of the eight is not above the one before.
+// The key of the eighth item from item i on, or 2^32 if one of the eight is not above the one before.
 fn after_eight(area: &[i32], body: &[i32], n: usize, size: usize, i: usize, last: usize) -> usize
     requires { ⌜ Rising (now area) n size i last × (i + 8 ≤ n) × (now body ≡ drop (2 + n) (now area)) ⌝ }
     ensures { λ r. ⌜ r ≡ lastKey (now (area .entry)) (i + 8) ⌝ }
@@ -172,7 +172,7 @@ fn after_eight(area: &[i32], body: &[i32], n: usize, size: usize, i: usize, last
     after_four(area, body, n, size, i + 4, half)
 }
 
-// Whether the keys from one item on are as a written table has them, where those before are, and start is the last of these.
+// Whether the keys from one item on are those of a written table, if the keys before are; start is the last of these.
 fn keys_fit_from(
     area: &[i32],
     body: &[i32],
@@ -196,7 +196,7 @@ fn keys_fit_from(
     true
 }
 
-// Whether the items' keys are as a written table has them, where the offsets are. A turn takes eight items, for speed.
+// Whether the items' keys are those of a written table, if the offsets are. Each turn takes eight items, for speed.
 fn keys_fit(area: &[i32], n: usize, size: usize) -> bool
     requires { ⌜ Head (now area) n size × (all (ends (now area)) n ≡ true) ⌝ }
     ensures { λ r. ⌜ r ≡ all (fits (now (area .entry))) n ⌝ }
@@ -218,7 +218,7 @@ fn keys_fit(area: &[i32], n: usize, size: usize) -> bool
     keys_fit_from(area, body, n, size, i, last)
 }
 
-// Whether the items' offsets and keys are as a written table has them.
+// Whether the items' offsets and keys are those of a written table.
 pub fn all_fit(area: &[i32], n: usize, size: usize) -> bool
     requires { ⌜ Head (now area) n size ⌝ }
     ensures { λ r. ⌜ r ≡ all (fits (now (area .entry))) n ⌝ }
@@ -258,7 +258,7 @@ pub fn form(area: &[i32]) -> TableForm
     }
 }
 
-// The place where item i of n begins, with its key.
+// The place where item i of n begins, which holds its key.
 fn key_place(area: &[i32], n: usize, i: usize) -> usize
     requires { ⌜ Held (now area) n × (i < n) ⌝ }
     ensures { λ r. ⌜ r ≡ start (now (area .entry)) i ⌝ }
@@ -296,7 +296,7 @@ pub fn data_at(area: &[i32], n: usize, i: usize) -> &[i32]
     &area[from..to]
 }
 
-// The place of a key among the n items, by halving: those before it have lesser keys, read as unsigned.
+// The place of a key among the n items, by binary search: the items before it have lesser keys, read as unsigned.
 pub fn place(area: &[i32], n: usize, key: i32) -> usize
     requires { ⌜ Held (now area) n ⌝ }
     ensures { λ r. ⌜ Place (now (area .entry)) (bits key) r ⌝ }
@@ -314,7 +314,7 @@ pub fn place(area: &[i32], n: usize, key: i32) -> usize
     lo
 }
 
-// The place of the item with a key among the n items, or n where there is none.
+// The place of the item with a key among the n items, or n if there is none.
 pub fn find(area: &[i32], n: usize, key: i32) -> usize
     requires { ⌜ Held (now area) n ⌝ }
     ensures { λ r. ⌜ Tables.find (bits key) (items (now (area .entry))) ≡ dataIn (now (area .entry)) n r ⌝ }
@@ -328,7 +328,7 @@ pub fn find(area: &[i32], n: usize, key: i32) -> usize
     n
 }
 
-// The sum of the data ints of the n items. Each item's data goes to the sum as a part of the area; where one item ends, the next begins.
+// The sum of the data ints of the n items, item by item. Each item begins where the one before it ends.
 pub fn crc(area: &[i32], n: usize) -> i32
     requires { ⌜ Held (now area) n ⌝ }
     ensures { λ r. ⌜ r ≡ Tables.crc (items (now (area .entry))) ⌝ }
@@ -346,7 +346,7 @@ pub fn crc(area: &[i32], n: usize) -> i32
     total
 }
 
-// The place of the first of the n items whose key is negative as signed, by halving. Such keys come last as a table is written, and first as it is walked.
+// The place of the first of the n items with a negative key, by binary search. Such keys come last in a written table, and first in a walk.
 pub fn walk_start(area: &[i32], n: usize) -> usize
     requires { ⌜ Held (now area) n ⌝ }
     ensures { λ r. ⌜ Place (now (area .entry)) (2 ^ 31) r ⌝ }
@@ -364,7 +364,7 @@ pub fn walk_start(area: &[i32], n: usize) -> usize
     lo
 }
 
-// The place of the i-th of the n items in the order of keys read as signed.
+// The place of the i-th of the n items in signed key order.
 pub fn walk_place(area: &[i32], n: usize, i: usize) -> usize
     requires { ⌜ Held (now area) n × (i < n) ⌝ }
     ensures { λ r. ⌜ (r < n) × (nth (walk (items (now (area .entry)))) i ≡ some (itemAt (now (area .entry)) r)) ⌝ }
@@ -376,7 +376,7 @@ pub fn walk_place(area: &[i32], n: usize, i: usize) -> usize
     at - n
 }
 
-// A count, as an int, into an area.
+// Writes a count, as an int, into an area.
 pub fn put(area: &mut [i32], i: usize, v: usize)
     requires { ⌜ (i < length (now area)) × (v < 2 ^ 31) ⌝ }
     ensures { λ _. ⌜ now (area .exit) ≡ set (now (area .entry)) i (pos v) ⌝ }

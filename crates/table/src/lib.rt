@@ -1,2 +1,2 @@
-// Areas that hold tables of keyed items: the functions on an area whose form was tested.
+// Areas that hold tables of keyed items: functions on an area whose form was tested.
 pub mod checked;

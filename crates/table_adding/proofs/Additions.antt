@@ -1,4 +1,4 @@
--- What adding an item to an area that holds n items comes to, case by case. Assumes nothing.
+-- The result of adding an item to an area that holds n items, case by case. Assumes nothing.
 use Prim.Native.Nat.{ℕ, _+_, _/_, _<_, _≤_}
 use mathlib.Core.Path.{_≡_, refl, sym, _∙_}
 use mathlib.Core.List.{List}
@@ -24,7 +24,7 @@ module _ (a : List ℤ) (k : ℕ) (v : List ℤ) where
   abbrev x : Item
   x = record { key = k; values = v }
 
-  -- what adding comes to: the answer, and the area then
+  -- the result of adding: the answer, and the area afterwards
   abbrev Comes : Outcome ℕ → List ℤ → Type 0
   Comes o l = storedTable a (addItem x (items a)) ≡ record { answer = o; out = l }
 

@@ -1,4 +1,4 @@
--- The steps that write an item, one after the other, on an area cut into parts. Assumes nothing.
+-- The steps that write an item, in order, on an area cut into parts. Assumes nothing.
 use Prim.Native.Nat.{ℕ, _+_, _-_}
 use mathlib.Core.Path.{_≡_, refl, sym, ap, ap₂, _∙_}
 use mathlib.Core.Bool.{Bool}
@@ -12,7 +12,7 @@ use Rattle.ints.specs.Copies.{copyAt}
 use Rattle.table_adding.specs.Adding.{raised, shifted}
 use Rattle.table_adding.proofs.Parts.{move, part-of, put-part, filled}
 
--- an area with a table of n items, cut where item p begins, and d + 2 ints behind the table
+-- an area with a table of n items, cut where item p begins, and d + 2 ints after the table
 pub record Cut (a : List ℤ) (n p from ints d : ℕ) : Type 0 where
   -- the header
   pub s₀ : ℤ
@@ -32,7 +32,7 @@ pub record Cut (a : List ℤ) (n p from ints d : ℕ) : Type 0 where
   pub B₂-long : from + length B₂ ≡ ints
   pub J-long : length J ≡ d + 2
 
--- how many ints are raised, and how many are filled, as the code has it
+-- how many ints are raised, and how many are filled, as the code computes it
 abbrev raises : ℕ → ℕ → ℕ
 raises n p = 3 + n - (3 + p)
 
@@ -40,7 +40,7 @@ abbrev fills : ℕ → ℕ → ℕ
 fills from d = from + 1 + (d + 1) - (from + 2)
 
 module _ (a : List ℤ) (n p from ints d : ℕ) where
-  -- what the steps leave: two shifts, m raised, the offset x, the key, v copied into f, the counts y and z
+  -- the area after the steps: two shifts, m raised, the offset x, the key, v copied into f, the counts y and z
   pub record Steps (v : List ℤ) (by : ℕ) (x key y z : ℤ) (l₁ l₂ m l₃ f l₄ l₅ : List ℤ) (b : Bool) : Type 0 where
     pub first : l₁ ≡ shifted a from ints (d + 1 + 1)
     pub second : l₂ ≡ shifted l₁ (2 + p) from 1
@@ -54,13 +54,13 @@ module _ (a : List ℤ) (n p from ints d : ℕ) (w : Cut a n p from ints d) wher
   abbrev P : List ℤ
   P = w .s₀ ∷ w .s₁ ∷ w .O₁
 
-  -- the area with h for the item's offset, o for those behind it, and k for the item
+  -- the area with h as the item's offset, o as those after it, and k as the item
   abbrev Open : ℤ → List ℤ → List ℤ → List ℤ
   Open h o k = P ++ (h ∷ (o ++ (w .B₁ ++ (k ++ (w .B₂ ++ w .R)))))
 
   -- ---- the two shifts
 
-  -- what they leave
+  -- the area after them
   record Opened (l : List ℤ) : Type 0 where
     pub h : ℤ
     pub z : ℤ
@@ -74,7 +74,7 @@ module _ (a : List ℤ) (n p from ints d : ℕ) (w : Cut a n p from ints d) wher
   abbrev T : List ℤ
   T = w .B₂ ++ w .R
 
-  -- one int before the offsets from p on, and d + 1 before the items from p on
+  -- a gap of one int before the offsets from p on, and of d + 1 before the items from p on
   gaps : (l g k : List ℤ) → l ≡ P ++ (g ++ (X ++ (k ++ T))) → length g ≡ 1 → length k ≡ d + 1 → Opened l
   gaps l (h ∷ []) (z ∷ k) e m n =
       record { h = h; z = z; k = k; is = e ∙ ap (λ (y : List ℤ). P ++ (h ∷ y)) (append-assoc (w .O₂) (w .B₁) ((z ∷ k) ++ T)); long = omega arith }
@@ -152,7 +152,7 @@ module _ (a : List ℤ) (n p from ints d : ℕ) (w : Cut a n p from ints d) wher
 
   -- ---- all steps
 
-  -- the part that is raised
+  -- the part whose counts are raised
   pub raised-part : (l₁ l₂ : List ℤ) → l₁ ≡ shifted a from ints (d + 1 + 1) → l₂ ≡ shifted l₁ (2 + p) from 1 → take (raises n p) (drop (3 + p) l₂) ≡ w .O₂
   raised-part l₁ l₂ e f =
       let o = opened l₁ l₂ e f in

@@ -1,4 +1,4 @@
--- A table with one item more: its parts before and behind the item, its length and its written form. Assumes nothing.
+-- A table with one more item: the parts before and after the item, the length and the written form. Assumes nothing.
 use Prim.Native.Nat.{ℕ, zero, suc, _+_, _-_, _*_, _<_, _≤_}
 use mathlib.Core.Path.{_≡_, refl, sym, ap, ap₂, _∙_}
 use mathlib.Core.Logic.{_≢_}
@@ -15,7 +15,7 @@ use Rattle.laws.specs.TableForm.{length-list, length-written, body-append, offs
 use Rattle.laws.specs.TableRoundTrip.{noItem}
 use Rattle.table_adding.specs.Adding.{raised, New}
 
--- ---- in its place
+-- ---- inserting in place
 
 list-split : (f : ℕ → Item) (p m : ℕ) → list f (p + m) ≡ list f p ++ list (λ i. f (p + i)) m
 unfolding list
@@ -39,7 +39,7 @@ module _ (x : Item) where
   insert-before [] h = refl
   insert-before (y ∷ u) h = rw (lt-ltb (x .key) (y .key) (h (omega arith)))
 
-  -- behind lesser ones
+  -- after lesser keys
   insert-behind : (f : ℕ → Item) (p : ℕ) (u : Table) → ((i : ℕ) → i < p → f i .key < x .key) → insert x (list f p ++ u) ≡ list f p ++ insert x u
   unfolding insert list
   insert-behind f zero u h = refl
@@ -73,7 +73,7 @@ module _ (a : List ℤ) (n k p : ℕ) (w : New a n k p) where
 
 -- ---- the written form
 
--- offsets from further up
+-- offsets that start further up
 raise-offsets : (g o : ℕ) (t : Table) → map (raised g) (offsets o t) ≡ offsets (o + g) t
 unfolding offsets num
 raise-offsets g o [] = refl
@@ -81,7 +81,7 @@ raise-offsets g o (x ∷ t) =
     let e : o + 4 * suc (length (x .values)) + g ≡ o + g + 4 * suc (length (x .values)) = omega arith in
     ap (λ (m : List ℤ). pos (o + g) ∷ m) (raise-offsets g (o + 4 * suc (length (x .values))) t ∙ ap (λ (n : ℕ). offsets n t) e)
 
--- no offset is beyond the data
+-- no offset is past the data
 pub offset-within : (o : ℕ) (t : Table) (i : ℕ) → i < length (offsets o t) → nat (offsets o t) i ≤ o + 4 * length (body t)
 unfolding nat num offsets body
 offset-within o [] i l = absurd (omega arith)
@@ -112,7 +112,7 @@ module _ (t u : Table) (x : Item) where
       let g : 4 * suc (length (x .values)) ≡ 4 * (length (x .values) + 1) = omega arith in
       rw (offsets-append, z, g, raise-offsets)
 
-  -- one item more
+  -- one more item
   pub length-with : length (t ++ (x ∷ u)) ≡ length (t ++ u) + 1
   length-with = omega (arith, length-append t (x ∷ u), length-append t u)
 
@@ -121,11 +121,11 @@ module _ (t u : Table) (x : Item) where
       rw (body-with, body-append)
       (omega (arith, length-append (body t) (fromBits (x .key) ∷ (x .values ++ body u)), length-append (x .values) (body u), length-append (body t) (body u)))
 
-  -- its offset, its key and its data more
+  -- longer by its offset, its key and its data
   pub length-written-with : length (written (t ++ (x ∷ u))) ≡ length (written (t ++ u)) + (length (x .values) + 2)
   length-written-with = omega (arith, length-written (t ++ (x ∷ u)), length-written (t ++ u), length-with, length-body-with)
 
-  -- and with an item between them
+  -- the parts with an item between them
   pub written-with : (R : List ℤ) → written (t ++ (x ∷ u)) ++ R
       ≡ pos (4 * length (body (t ++ (x ∷ u)))) ∷ pos (length (t ++ (x ∷ u))) ∷ (offsets 0 t ++ (pos (4 * length (body t)) ∷ (map (raised (4 * (length (x .values) + 1))) (offsets (4 * length (body t)) u) ++ (body t ++ ((fromBits (x .key) ∷ x .values) ++ (body u ++ R))))))
   unfolding written

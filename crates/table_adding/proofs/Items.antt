@@ -1,4 +1,4 @@
--- What the steps that write an item leave is the written form of the table with the item. Assumes nothing.
+-- The steps that write an item leave the written form of the table with the item. Assumes nothing.
 use Prim.Native.Nat.{ℕ, _+_, _-_, _*_, _<_, _≤_}
 use mathlib.Core.Path.{_≡_, refl, sym, ap, ap₂, _∙_}
 use mathlib.Core.Bool.{Bool}
@@ -28,7 +28,7 @@ module _ (a : List ℤ) (n ints k p : ℕ) (v : List ℤ) (r : Room a n ints k p
   abbrev u : Table
   u = behind a n p
 
-  -- the item that is added
+  -- the added item
   abbrev x : Item
   x = record { key = k; values = v }
 
@@ -49,7 +49,7 @@ module _ (a : List ℤ) (n ints k p : ℕ) (v : List ℤ) (r : Room a n ints k p
       let h = r .new .held in
       omega (arith, length-body a (h .shape) p (r .new .place .within), start-first a (h .shape), h .count-is)
 
-  -- the table and what stands behind it
+  -- the table and what follows it
   whole : a ≡ written (t ++ u) ++ drop ints a
   whole =
       restores a (r .new .held .shape)
@@ -85,7 +85,7 @@ module _ (a : List ℤ) (n ints k p : ℕ) (v : List ℤ) (r : Room a n ints k p
       J-long = simp (length-take, length-drop) (omega (arith, r .fits));
     }
 
-    -- what is raised are offsets within the data
+    -- the raised ints are offsets within the data
     pub small : (l₁ l₂ : List ℤ) → l₁ ≡ shifted a from ints (d + 1 + 1) → l₂ ≡ shifted l₁ (2 + p) from 1
         → (i : ℕ) → i < length (take (3 + n - (3 + p)) (drop (3 + p) l₂)) → nat (take (3 + n - (3 + p)) (drop (3 + p) l₂)) i ≤ 65536
     unfolding cut
@@ -93,7 +93,7 @@ module _ (a : List ℤ) (n ints k p : ℕ) (v : List ℤ) (r : Room a n ints k p
         let is = raised-part a n p from ints d cut l₁ l₂ e f in
         rw is (omega (arith, offset-within (4 * length (body t)) u i (omega (arith, ap length is)), length-bodies, r .short))
 
-    -- what all steps leave
+    -- the area after all steps
     pub wrote : (l₁ l₂ m l₃ f l₄ l₅ : List ℤ) (b : Bool)
         → Steps a n p from ints d v (4 * (d + 1)) (pos (4 * (from - (2 + n)))) (fromBits k) (pos (4 * (ints - (2 + n) + (d + 1)))) (pos (n + 1)) l₁ l₂ m l₃ f l₄ l₅ b
         → l₅ ≡ lay (written (insert x (items a))) a

@@ -1,4 +1,4 @@
--- An area put together of parts: one moved up, one lent and changed, one filled. Assumes nothing.
+-- An area composed of parts: one moved up, one lent and changed, one filled. Assumes nothing.
 use Prim.Native.Nat.{ℕ, _+_, _-_, _≤_}
 use mathlib.Core.Path.{_≡_, sym, ap, _∙_}
 use mathlib.Core.Bool.{Bool}
@@ -15,7 +15,7 @@ use Rattle.ints.specs.Copies.{Copied, copyAt}
 use Rattle.table_adding.specs.Adding.{shifted}
 use Rattle.table_adding.proofs.Turns.{layAt-between}
 
--- M was moved up; what stands in the gap before it does not matter
+-- M was moved up; the contents of the gap before it do not matter
 pub record Moved (L M R : List ℤ) (by : ℕ) (l : List ℤ) : Type 0 where
   pub gap : List ℤ
   pub is : l ≡ L ++ (gap ++ (M ++ R))
@@ -42,14 +42,14 @@ move L M J R from to by a l e f g c q =
     }
 
 module _ (Q M S : List ℤ) (x k : ℕ) (e : length Q ≡ x) (f : length M ≡ k) where
-  -- the part in the middle, and another one put in its place
+  -- the part in the middle, and another one in its place
   pub part-of : take k (drop x (Q ++ (M ++ S))) ≡ M
   part-of = ap (take k) (drop-at Q (M ++ S) x e) ∙ take-at M S k f
 
   pub put-part : (ys : List ℤ) → putMid x k (Q ++ (M ++ S)) ys ≡ Q ++ (ys ++ S)
   put-part ys = rw (take-at Q (M ++ S) x e, drop-at Q (M ++ S) x e, drop-at M S k f)
 
--- a part filled whole
+-- a part that is filled entirely
 pub filled : (part v f : List ℤ) (b : Bool) → length part ≡ length v → copyAt part 0 v ≡ record { fits = b; out = f } → f ≡ v
 unfolding copyAt
 filled part v f b e h =

@@ -13,10 +13,10 @@ use Rattle.definitions.specs.Tables.{num, nat}
 use Rattle.laws.specs.AreaLaws.{lay-append, layAt-nothing}
 use Rattle.table_adding.specs.Adding.{raised, shifted}
 
--- ---- laid at a place
+-- ---- laying at a place
 
 module _ {E : Type 0} where
-  -- what fits stands between what was before it and behind it
+  -- what fits comes between what was before it and after it
   pub layAt-between : (n : ℕ) (xs area : List E) → n + length xs ≤ length area → layAt n xs area ≡ take n area ++ (xs ++ drop (n + length xs) area)
   layAt-between zero xs area h = rw zero-add (lay-append xs area (omega arith))
   layAt-between (suc n) xs [] h = let z : ⊥ = omega arith in absurd z
@@ -24,14 +24,14 @@ module _ {E : Type 0} where
       let e : suc n + length xs ≡ suc (n + length xs) = omega arith in
       rw e (ap (λ (l : List E). a ∷ l) (layAt-between n xs area (omega arith)))
 
-  -- below the place nothing changed
+  -- nothing changes below the place
   getD-layAt : (n : ℕ) (xs area : List E) (i : ℕ) (d : E) → i < n → getD (layAt n xs area) i d ≡ getD area i d
   getD-layAt zero xs area i d h = let z : ⊥ = omega arith in absurd z
   getD-layAt (suc n) xs [] i d h = refl
   getD-layAt (suc n) xs (a ∷ area) zero d h = refl
   getD-layAt (suc n) xs (a ∷ area) (suc i) d h = getD-layAt n xs area i d (omega arith)
 
-  -- the others are laid, and the first entry is stored before them
+  -- laying the rest and storing the first entry before it
   set-layAt : (n : ℕ) (x : E) (xs area : List E) → n < length area → set (layAt (suc n) xs area) n x ≡ layAt n (x ∷ xs) area
   set-layAt n x xs [] h = let z : ⊥ = omega arith in absurd z
   set-layAt zero x xs (a ∷ area) h = refl
@@ -67,7 +67,7 @@ module _ (a : List ℤ) (to by : ℕ) where
         let v′ : v ≡ getD a (i - 1) (pos 0) = f ∙ ap (λ (m : List ℤ). getD m (i - 1) (pos 0)) b′ ∙ same (i - 1) in
         ap₂ (λ (m : List ℤ) (z : ℤ). set m (i - 1 + by) z) b′ v′ ∙ more (i - 1) (omega arith)
 
--- ---- counts made larger
+-- ---- raised counts
 
 module _ (by : ℕ) where
   raise-take : (a : List ℤ) (i : ℕ) → i < length a → map (raised by) (take (i + 1) a) ≡ map (raised by) (take i a) ++ raised by (getD a i (pos 0)) ∷ []
@@ -81,7 +81,7 @@ module _ (by : ℕ) where
     abbrev done : List ℤ
     done = map (raised by) (take i a)
 
-    -- what is at i before the turn
+    -- the int at i before the turn
     here : b ≡ done ++ getD a i (pos 0) ∷ drop (suc i) a
     here = e ∙ ap (λ (m : List ℤ). done ++ m) (drop-cons a i (pos 0) l)
 

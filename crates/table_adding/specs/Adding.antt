@@ -1,4 +1,4 @@
--- What the steps of adding an item do to an area, and what they are given. Assumes nothing.
+-- What the steps of adding an item require and do to an area. Assumes nothing.
 use mathlib.Core.Path.{_≡_}
 use mathlib.Core.List.{List}
 use Prim.Native.Nat.{ℕ, _+_, _-_, _/_, _<_, _≤_}
@@ -9,21 +9,21 @@ use Rattle.definitions.specs.Tables.{num, count, size, keyAt}
 use Rattle.laws.specs.TableFind.{Place}
 use Rattle.table.specs.Held.{Held}
 
--- a count made larger
+-- a count plus a number
 abbrev pub raised : ℕ → ℤ → ℤ
 raised by z = pos (num z + by)
 
--- the ints between two places laid further up; what stood there is lost
+-- the ints between two places moved up; what they overwrite is lost
 unfoldable pub shifted : List ℤ → ℕ → ℕ → ℕ → List ℤ
 shifted a from to by = layAt (from + by) (take (to - from) (drop from a)) a
 
--- an area holds a table of n items, none of which has the key k; p is its place
+-- an area holds a table of n items, none of which has the key k; p is the place of k
 pub record New (a : List ℤ) (n k p : ℕ) : Type 0 where
   pub held : Held a n
   pub place : Place a k p
   pub fresh : p < n → keyAt a p ≡ k → ⊥
 
--- and there is room for an offset, the key and d ints of data more; the table takes so many ints
+-- and there is room for one more offset, a key and d ints of data; ints is the table's length
 pub record Room (a : List ℤ) (n ints k p d : ℕ) : Type 0 where
   pub new : New a n k p
   pub takes : ints ≡ 2 + count a + size a / 4

@@ -1,2 +1,2 @@
--- What the functions of `table_adding` are given and do. Assumes nothing.
+-- What the functions of `table_adding` require and do. Assumes nothing.
 pub mod Adding

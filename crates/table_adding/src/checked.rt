@@ -14,7 +14,7 @@ ghost use Rattle.table_adding.specs.Adding.{raised, shifted, Room};
 ghost use Rattle.format.specs.Answers.{storedInts};
 ghost use Rattle.table.specs.Held.{Held};
 
-// Moves the ints between two places further up, the last one first.
+// Moves the ints between two places up, the last one first.
 pub fn shift(area: &mut [i32], from: usize, to: usize, by: usize)
     requires { ⌜ (from ≤ to) × (to + by ≤ length (now area)) ⌝ }
     ensures { λ _. ⌜ now (area .exit) ≡ shifted (now (area .entry)) from to by ⌝ }
@@ -26,7 +26,7 @@ pub fn shift(area: &mut [i32], from: usize, to: usize, by: usize)
     }
 }
 
-// Makes each of the counts of a part larger.
+// Adds by to each count of a part of the area.
 pub fn raise(part: &mut [i32], by: usize)
     requires { ⌜ (by < 2 ^ 31) × ((i : ℕ) → i < length (now part) → nat (now part) i + by < 2 ^ 31) ⌝ }
     ensures { λ _. ⌜ now (part .exit) ≡ map (raised by) (now (part .entry)) ⌝ }
@@ -38,17 +38,17 @@ pub fn raise(part: &mut [i32], by: usize)
     }
 }
 
-// Writes an item at place p of the n items, whose table takes so many ints.
+// Writes an item at place p among the n items; ints is the length of their table.
 pub fn write_item(area: &mut [i32], n: usize, ints: usize, p: usize, key: i32, data: &[i32])
     requires { ⌜ Room (now area) n ints (bits key) p (length (now «data»)) ⌝ }
     ensures { λ _. ⌜ now (area .exit) ≡ lay (written (insert (record { key = bits key; values = now («data» .entry) }) (items (now (area .entry))))) (now (area .entry)) ⌝ }
 {
     let more = data.len() + 1;
     let from = table::checked::start_at(area, n, p);
-    // Room for the item's offset, its key and its data.
+    // Room for the item's offset, key and data.
     shift(area, from, ints, more + 1);
     shift(area, 2 + p, from, 1);
-    // The items behind it begin further up.
+    // The items after it begin further up.
     raise(&mut area[3 + p..3 + n], 4 * more);
     table::checked::put(area, 2 + p, 4 * (from - (2 + n)));
     area[from + 1] = key;
@@ -57,7 +57,7 @@ pub fn write_item(area: &mut [i32], n: usize, ints: usize, p: usize, key: i32, d
     table::checked::put(area, 1, n + 1);
 }
 
-// Adds an item to the n items of a table, which takes so many ints; a refused call leaves the area as it was.
+// Adds an item to the n items of a table; ints is the table's length. A refused call leaves the area as it was.
 pub fn add(area: &mut [i32], n: usize, ints: usize, key: i32, data: &[i32]) -> Stored
     requires { ⌜ Held (now area) n × (ints ≡ 2 + count (now area) + size (now area) / 4) ⌝ }
     ensures { λ r. ⌜ storedTable (now (area .entry)) (addItem (record { key = bits key; values = now («data» .entry) }) (items (now (area .entry)))) ≡ record { answer = storedInts r; out = now (area .exit) } ⌝ }

@@ -1,4 +1,4 @@
--- What reading a table of ints comes to: by its header, or by its form. Assumes nothing.
+-- The result of reading a table of ints, by its header or its form. Assumes nothing.
 use mathlib.Core.Path.{_≡_, sym, ap, subst, _∙_}
 use mathlib.Core.Bool.{Bool, false}
 use mathlib.Core.List.{List}
@@ -29,7 +29,7 @@ use Rattle.table_reading.specs.Counted.{table-after, warned}
 use Rattle.table_reading.specs.declared.checked.Header.{Header}
 use Rattle.table_reading.specs.declared.checked.Header.the-variants as header
 
--- a table after which more follows or not
+-- a table that may be followed by more ints
 pub with-excess : (x : Bool) (o : Outcome Table) (out last : List ℤ) (r : Stored) → storedTable out o ≡ record { answer = storedInts r; out = last } → storedTable out (warnIf x ExcessSnapData >> o) ≡ record { answer = storedWith r (excess x); out = last }
 with-excess x o out last r e =
     ap (storedTable out) (warned x o)

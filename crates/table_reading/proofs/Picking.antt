@@ -1,4 +1,4 @@
--- The items with the places of some pairs: what is found among them, one more, and the ints that they take. Assumes nothing.
+-- The items at the places of some pairs: finding a key, adding one, and the ints that they take. Assumes nothing.
 use mathlib.Core.Path.{_≡_, refl, sym, ap, _∙_}
 use mathlib.Core.Bool.{Bool, true, false, cond, _||_, true≢false}
 use mathlib.Core.List.{List, [], _∷_, _++_, map}
@@ -34,7 +34,7 @@ or-false true y e = absurd (true≢false e)
 or-false false y e = (refl, e)
 
 module _ (a : List ℤ) where
-  -- the items with the places of some pairs
+  -- the items at the places of some pairs
   abbrev pub at-places : List ℕ → Table
   at-places l = picked a (map place l)
 
@@ -56,7 +56,7 @@ module _ (a : List ℤ) where
       go true q = (k, p, h)
       go false q = (h .0, h .1, q)
 
-  -- a key is among the items where it is among the pairs
+  -- a key is among the items if it is among the pairs
   pub find-has : (c k : ℕ) (l : List ℕ) → Keyed c l → isSome (find k (at-places l)) ≡ hasKey k l
   unfolding find hasKey
   find-has c k [] h = refl
@@ -90,7 +90,7 @@ module _ (a : List ℤ) where
       (λ (q : key y < key x). behind x y l k (h .0) q (insert-new c x l k (o .1) (h .2))))
       (order (key x) (key y))
 
-  -- the ints of one item more
+  -- the ints of one more item
   pub length-insert-body : (x : ℕ) (l : List ℕ) → length (body (at-places (insert x l))) ≡ suc (length (valuesAt a (place x))) + length (body (at-places l))
   unfolding insert body
   length-insert-body x [] = omega (arith, length-append (valuesAt a (place x)) [])

@@ -1,4 +1,4 @@
--- What listed keys, sorted, say of the table: a key that comes twice, the refusal that ended the list, or the index. Assumes nothing.
+-- What the sorted list of keys says about the table: a repeated key, the refusal that ended the list, or the index. Assumes nothing.
 use mathlib.Core.Path.{_≡_, refl, sym, ap, subst, _∙_}
 use mathlib.Core.Bool.{Bool, true, false, not, _&&_, true≢false, false≢true}
 use mathlib.Core.List.{List, [], _∷_, _++_, map}
@@ -28,7 +28,7 @@ use Rattle.table_reading.proofs.Picking.{Keyed}
 use Rattle.table_reading.proofs.Sorted.{to-the-end, sorted, table, keyed, length-sorted, takes, told, read-sorted, rise-one, step, add-dup, add-full, add-long}
 
 module _ (a : List ℤ) (n len : ℕ) where
-  -- ---- a key that comes twice
+  -- ---- a repeated key
 
   twice-at : (c : ℕ) → Fine a n len c → keysRise (sorted a c) ≡ false → readItems a c ≡ refuse duplicateKey
   twice-at c x r = read-sorted a n len c x ∙ ap (told a n len c) r

@@ -1,4 +1,4 @@
--- Items in any order, by their sorted keys: what reading them one by one comes to. Assumes nothing.
+-- Items in any order, by their sorted keys: the result of reading them one by one. Assumes nothing.
 use mathlib.Core.Path.{_≡_, refl, sym, ap, subst, _∙_}
 use mathlib.Core.Bool.{Bool, true, false, cond, not, _&&_}
 use mathlib.Core.List.{List, [], _∷_, _++_, map}
@@ -122,7 +122,7 @@ module _ (a : List ℤ) where
           short = omega (arith, x .short, w .rises);
         }
 
-    -- edges of items that end well are whole ints
+    -- edges of items that end correctly are at whole ints
     aligned : (c : ℕ) → Fine a n len c → edge a c % 4 ≡ 0
     aligned zero x = rw (x .first)
     aligned (suc c) x = ap (λ (k : ℕ). edge a k % 4) (sym (add-one c)) ∙ ends-well a c (x .well c (omega arith)) .aligned
@@ -195,7 +195,7 @@ module _ (a : List ℤ) where
       pub add-dup : hasKey (keyAt a c) (sorted c) ≡ true → addItem (itemAt a c) (table c) ≡ refuse duplicateKey
       add-dup u = dup (itemAt a c) (table c) (found ∙ u)
 
-    -- what reading the first c items comes to, by whether their keys differ
+    -- the result of reading the first c items, by whether their keys differ
     abbrev pub told : ℕ → Bool → Outcome Table
     told c b = cond b (return (table c)) (refuse duplicateKey)
 

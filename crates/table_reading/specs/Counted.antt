@@ -1,4 +1,4 @@
--- What storing a table comes to whose reading counted warnings. Assumes nothing.
+-- The result of storing a table whose reading counted warnings. Assumes nothing.
 use mathlib.Core.Path.{_≡_, refl, ap, _∙_}
 use mathlib.Core.Bool.{Bool, true, false}
 use mathlib.Core.List.{List}

@@ -1,4 +1,4 @@
--- Classes of rows by their first numbers, and by one number more. Assumes nothing.
+-- Classes of rows by their first numbers, and by one more number. Assumes nothing.
 use mathlib.Core.Path.{_≡_, refl, sym, ap, subst, _∙_}
 use mathlib.Core.List.{List, [], _∷_, _++_}
 use mathlib.Core.Logic.{⊎-elim}
@@ -27,7 +27,7 @@ module _ (g : ℕ → ℕ → ℕ) where
   agree-trans : (k i j l : ℕ) → Agree g k i j → Agree g k j l → Agree g k i l
   agree-trans k i j l a b h m = a h m ∙ b h m
 
-  -- at first all rows are alike
+  -- at first all rows are in one class
   pub firsts-none : (m : ℕ) (c : List ℕ) → ((j : ℕ) → j < m → getD c j 0 ≡ 0) → Firsts g 0 m c
   firsts-none m c z j h =
       record { same = λ x l. absurd (omega arith); least = λ i l a. omega (arith, z j h) }
@@ -50,7 +50,7 @@ module _ (g : ℕ → ℕ → ℕ) where
         (λ (l : getD c j 0 < getD c i 0). absurd (f i a .least (getD c j 0) l (agree-trans k (getD c j 0) j i (f j b .same) (agree-sym k i j e)))))
         (order (getD c i 0) (getD c j 0))
 
-    -- where each row is the first of its class, no two rows are alike
+    -- if each row is the first of its class, no two rows agree
     pub settled : (n : ℕ) → k ≤ n → ((j : ℕ) → j < m → getD c j 0 ≡ j) → Firsts g n m c
     settled n l z j h =
         record {
@@ -63,7 +63,7 @@ module _ (g : ℕ → ℕ → ℕ) where
       split : (i j : ℕ) → i < m → j < m → keyWith g c k i ≡ keyWith g c k j → (getD c i 0 ≡ getD c j 0) × (g i k ≡ g j k)
       split i j a b e = (omega (arith, small i a, small j b), omega (arith, small i a, small j b))
 
-      -- are alike in one number more
+      -- agree in one more number
       more : (i j : ℕ) → Agree g k i j → g i k ≡ g j k → Agree g (k + 1) i j
       more i j a e h l = ⊎-elim (λ (q : h ≡ k). subst (λ (x : ℕ). g i x ≡ g j x) (sym q) e) (λ (y : h < k). a h y) (eq-or-lt-of-le (omega arith))
 
@@ -92,7 +92,7 @@ module _ (g : ℕ → ℕ → ℕ) where
                 omega (arith, u .is);
           }
 
--- ---- keys, one after the other
+-- ---- keys, one by one
 
 pub none-listed : (g : ℕ → ℕ → ℕ) (c : List ℕ) (i : ℕ) (l : List ℤ) → pairs l 0 ≡ keyed g c i 0
 unfolding list
@@ -102,7 +102,7 @@ pub listed-more : (g : ℕ → ℕ → ℕ) (c : List ℕ) (i j v : ℕ) (before
 listed-more g c i j v before now e q k =
     q ∙ ap (λ (l : List ℕ). l ++ pair v j ∷ []) e ∙ ap (λ (x : ℕ). keyed g c i j ++ pair x j ∷ []) k ∙ rw (add-one j) (unfold list in refl)
 
--- the bits of a number that was made an int
+-- the bits of a number cast to an int
 pub cast-bits : (v : ℕ) → v < 2 ^ 32 → bits (toZ w32 v) ≡ v
 unfolding bits
 cast-bits v h = ofZ-toZ {w = w32} (record { fits = h })

@@ -21,7 +21,7 @@ use Rattle.types.specs.Picks.{Picks, tableIn, picked-list}
 use Rattle.types.specs.Answers.{judgedTable}
 
 module _ (a : List ℤ) (n ints : ℕ) (h : Held a n) (t : ints ≡ 2 + count a + size a / 4) where
-  -- the items lie within the area
+  -- the items are within the area
   pub form-ints : Ints a n (ints - (2 + n))
   form-ints =
       record {

@@ -1,4 +1,4 @@
--- What the walk over kinds, turn by turn, and the whole walk come to. Assumes nothing.
+-- The results of judging kinds, turn by turn, and of the whole walk. Assumes nothing.
 use mathlib.Core.Path.{_≡_, refl, sym, ap, _∙_}
 use mathlib.Core.Bool.{true, false}
 use mathlib.Core.List.{List, [], _∷_, _++_}
@@ -28,7 +28,7 @@ use Rattle.types.proofs.Naming.{kindsBefore}
 -- ---- the items of type 0, one by one
 
 module _ (t : Table) (f : ℕ → Item) (z j e : ℕ) where
-  -- what is left to do, after some warnings
+  -- what remains to be done, after some warnings
   abbrev pub left : Outcome (Unit {0})
   left = after (uuidExcess e) (judgeTypes t (kindsBefore f j) (seg f j (z - j)))
 
@@ -93,7 +93,7 @@ module _ (a : List ℤ) (n : ℕ) (index : List ℕ) (high z : ℕ) (lh : Lower 
   abbrev t : Table
   t = tableIn a n index
 
-  -- the items from 8000 hex, and those from 1 up
+  -- the items of types from 8000 hex up, and those from 1 up
   abbrev late : Table
   late = seg f high (n - high)
 
@@ -121,7 +121,7 @@ module _ (a : List ℤ) (n : ℕ) (index : List ℕ) (high z : ℕ) (lh : Lower 
       ∙ ap (λ (o : Outcome (Unit {0})). lacked (anyLacks t late) >> o) (plain-behind t (seg f 0 z) early q []
       ∙ ap (λ (o : Outcome (Unit {0})). judgeTypes t [] (seg f 0 z) >> o) (plain t [] early q)))
 
-  -- a kind is missing of a type from 8000 hex
+  -- a type from 8000 hex up lacks its kind
   pub first-missing : anyLacks t late ≡ true → typed t ≡ err missingUuidType (uuidExcess 0)
   first-missing e = typed-is ∙ rw e
 
@@ -131,7 +131,7 @@ module _ (a : List ℤ) (n : ℕ) (index : List ℕ) (high z : ℕ) (lh : Lower 
     kinds-refused m w k = typed-is ∙ rw (e, k) (ap (err m) (none-plus (uuidExcess w)))
 
     module _ (w : ℕ) (k : judgeTypes t [] (seg f 0 z) ≡ ok tt (uuidExcess w)) where
-      -- another kind is missing
+      -- another type lacks its kind
       pub later-missing : anyLacks t early ≡ true → typed t ≡ err missingUuidType (uuidExcess w)
       later-missing d = typed-is ∙ rw (e, k, d) (ap (err missingUuidType) (ap (plus Warnings.none) (plus-none (uuidExcess w)) ∙ none-plus (uuidExcess w)))
 

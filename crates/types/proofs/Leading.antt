@@ -1,4 +1,4 @@
--- The least place of the pairs with a key, pair after pair. Assumes nothing.
+-- The least place of the pairs with a key, pair by pair. Assumes nothing.
 use mathlib.Core.Path.{_≡_, refl, sym, ap, subst, _∙_}
 use mathlib.Core.Bool.{Bool, true, false}
 use mathlib.Core.List.{List}
@@ -14,7 +14,7 @@ use Rattle.sorting.specs.Pairs.{key, place}
 use Rattle.types.specs.Kinds.{SortedPairs, Leader, Leaders}
 
 module _ (f : ℕ → ℕ) (m : ℕ) (s : SortedPairs f m) where
-  -- a pair whose key is not that of the pair before
+  -- a pair whose key differs from that of the pair before
   pub leads : (i : ℕ) → i < m → (0 < i → key (f i) ≡ key (f (i - 1)) → ⊥) → Leader f m i (place (f i))
   leads i h d =
       record {
@@ -32,7 +32,7 @@ module _ (f : ℕ → ℕ) (m : ℕ) (s : SortedPairs f m) where
             (below p i);
       }
 
-  -- a pair whose key is
+  -- a pair whose key equals it
   pub leads-on : (i v : ℕ) → key (f i) ≡ key (f (i - 1)) → Leader f m (i - 1) v → Leader f m i v
   leads-on i v e l =
       record { at = l .at; within = l .within; place-is = l .place-is; same = l .same ∙ sym e; least = λ p h q. l .least p h (q ∙ e) }

@@ -1,4 +1,4 @@
--- Kinds that were named before, by the classes of the items that name them. Assumes nothing.
+-- Kinds named before, by the classes of the items that name them. Assumes nothing.
 use mathlib.Core.Path.{_≡_, refl, sym, ap, subst, _∙_}
 use mathlib.Core.Bool.{Bool, true, false, _||_, false≢true}
 use mathlib.Core.List.{List, [], _∷_}
@@ -19,7 +19,7 @@ use Rattle.types.specs.Picks.{valuesOf, itemOf}
 use Rattle.types.specs.Kinds.{half, halves, Whole, Firsts}
 use Rattle.types.proofs.Classes.{first-le}
 
--- ---- ints of the same bits, place by place
+-- ---- ints with the same bits, place by place
 
 same-at : (l m : List ℤ) → length l ≡ length m → ((i : ℕ) → i < length l → bits (getD l i (pos 0)) ≡ bits (getD m i (pos 0))) → sameInts l m ≡ true
 unfolding sameInts
@@ -68,7 +68,7 @@ module _ (v w : List ℤ) (lv : 4 ≤ length v) (lw : 4 ≤ length w) where
       ap bits (sym (getD-take 4 v (h / 2) (pos 0) k)) ∙ at-same (take 4 v) (take 4 w) e (h / 2) (omega (arith, length-take-le 4 v lv)) ∙ ap bits (getD-take 4 w (h / 2) (pos 0) k) in
       rw q
 
--- ---- kinds that were named before item j
+-- ---- kinds named before item j
 
 abbrev pub kindsBefore : (ℕ → Item) → ℕ → List (List ℤ)
 kindsBefore f zero = []

@@ -11,7 +11,7 @@ use Rattle.definitions.specs.Types.{judgeTypes, typed}
 use Rattle.laws.specs.TableShape.{keys-le}
 use Rattle.table.specs.Held.{Held}
 
--- keys of the types from 1 up and below 4000 hex
+-- keys of types from 1 up and below 4000 hex
 abbrev Ordinals : Table → Type 0
 Ordinals [] = Unit {0}
 Ordinals (x ∷ t) = (65536 ≤ x .key) × (x .key < 2 ^ 30) × Ordinals t
@@ -20,7 +20,7 @@ ordinals-more : (t : Table) (x : Item) → Ordinals t → 65536 ≤ x .key → x
 ordinals-more [] x o l h = (l, h, tt)
 ordinals-more (y ∷ t) x o l h = (o .0, o .1, ordinals-more t x (o .2) l h)
 
--- none is negative as signed
+-- none is negative
 walk-same : (t : Table) → Ordinals t → (negatives t ≡ []) × (positives t ≡ t)
 unfolding negatives positives
 walk-same [] o = (refl, refl)
@@ -42,7 +42,7 @@ sound-types t o =
     let w = walk-same t o in
     ap (λ (l : Table). judgeTypes t [] l >> return t) (ap₂ _++_ (w .0) (w .1)) ∙ ap (λ (r : Outcome (Unit {0})). r >> return t) (judges t t o)
 
--- a table in form, by its first key and its last
+-- a table in form, by its first and last key
 module _ (a : List ℤ) (n : ℕ) (h : Held a n) where
   first-items : (k : ℕ) → k ≤ n → (0 < k → 65536 ≤ keyAt a 0) → (0 < k → keyAt a (n - 1) < 2 ^ 30) → Ordinals (list (itemAt a) k)
   unfolding list

@@ -1,4 +1,4 @@
--- Where the items of an index stand. Assumes nothing.
+-- Where the items of an index are. Assumes nothing.
 use mathlib.Core.Path.{_≡_, sym, ap, _∙_}
 use mathlib.Core.List.{List}
 use mathlib.Core.Logic.{⊎-elim}
@@ -13,7 +13,7 @@ use Rattle.laws.specs.TableShape.{ends-well}
 use Rattle.types.specs.Picks.{Picks, keyIn}
 
 module _ (a : List ℤ) (n : ℕ) (index : List ℕ) (x : Picks a n index) where
-  -- edges are whole ints
+  -- edges are at whole ints
   aligned : (k : ℕ) → k ≤ n → edge a k % 4 ≡ 0
   aligned zero h = rw (x .indexed .first)
   aligned (suc k) h = ap (λ (i : ℕ). edge a i % 4) (sym (add-one k)) ∙ ends-well a k (x .indexed .well k h) .aligned

@@ -1,4 +1,4 @@
--- Pairs of keys and row numbers, sorted: they rise, each is a row's, and each row has one. Assumes nothing.
+-- Pairs of keys and row numbers, sorted: they rise, each belongs to a row, and each row has one. Assumes nothing.
 use mathlib.Core.Path.{_≡_, refl, sym, ap, subst, _∙_}
 use mathlib.Core.Bool.{Bool, true, false, cond}
 use mathlib.Core.List.{List, [], _∷_}
@@ -41,7 +41,7 @@ at-in [] x h = absurd h
 at-in (y ∷ l) x (inl e) = record { row = 0; inside = omega arith; is = e }
 at-in (y ∷ l) x (inr h) = let r = at-in l x h in record { row = suc (r .row); inside = omega (arith, r .inside); is = r .is }
 
--- one entry more
+-- one more entry
 in-insert : (x y : ℕ) (l : List ℕ) → In x (insert y l) → In x (y ∷ l)
 unfolding insert
 in-insert x y [] h = h
@@ -77,7 +77,7 @@ sort-in x [] h = absurd h
 sort-in x (y ∷ l) (inl e) = subst (In x) (sym (sort-cons y l)) (insert-in x y (sort l) (inl e))
 sort-in x (y ∷ l) (inr h) = subst (In x) (sym (sort-cons y l)) (insert-in x y (sort l) (inr (sort-in x l h)))
 
--- a list that rises, place by place
+-- a rising list, place by place
 first-least : (x y : ℕ) (l : List ℕ) → rises (x ∷ l) ≡ true → In y l → x ≤ y
 unfolding rises atMostFirst
 first-least x y [] e h = absurd h
@@ -125,7 +125,7 @@ module _ (f g : ℕ → ℕ) (m : ℕ) (e : list f m ≡ sort (list g m)) where
       record { row = r .row; inside = omega (arith, r .inside, length-sorted); is = r .is ∙ at-list (r .row) (omega (arith, r .inside, length-sorted)) }
 
 module _ (f k : ℕ → ℕ) (m : ℕ) (few : m ≤ 1024) (e : list f m ≡ sort (list (λ j. pair (k j) j) m)) where
-  -- the parts of a pair
+  -- the key and place of a pair
   pub parts : (q : ℕ) → q < m → (place (f q) < m) × (key (f q) ≡ k (place (f q)))
   parts q h =
       let r = sorted-value f (λ j. pair (k j) j) m e q h in

@@ -25,7 +25,7 @@ abbrev pub Plain : List Item → Type 0
 Plain [] = Unit {0}
 Plain (x ∷ l) = (65536 ≤ x .key) × Plain l
 
--- what such items come to
+-- the outcome for such items
 abbrev pub lacked : Bool → Outcome (Unit {0})
 lacked b = cond b (refuse missingUuidType) (return tt)
 
@@ -101,7 +101,7 @@ module _ (t : Table) where
 
 -- ---- one item of type 0
 
--- one where b holds
+-- one if b holds
 abbrev pub oneIf : Bool → ℕ
 oneIf b = cond b 1 0
 

@@ -8,7 +8,7 @@ use Rattle.types.specs.declared.checked.Types.{Types}
 use Rattle.types.specs.declared.checked.Types.the-variants as types
 use Rattle.types.specs.declared.checked.Judged.{Judged}
 
--- so many kinds with more than four ints
+-- n items of type 0 with more than four ints
 abbrev pub uuidExcess : ℕ → Counts
 uuidExcess n =
     record {
@@ -27,15 +27,15 @@ uuidExcess n =
       weirdNegativeDeltaTick = 0;
     }
 
--- an answer on types, with what was counted
+-- an answer on types, with its warning counts
 abbrev pub typesWith : {A : Type 0} → A → Types → Counts → Outcome A
 typesWith a types.Sound w = ok a w
 typesWith a (types.Refused e) w = err (number e) w
 
--- what judging comes to
+-- the outcome of judging
 abbrev pub judged : Judged → Outcome (Unit {0})
 judged r = typesWith tt (r .types) (uuidExcess (r .excess))
 
--- the same of a table
+-- the same, for a table
 abbrev pub judgedTable : Table → Judged → Outcome Table
 judgedTable t r = typesWith t (r .types) (uuidExcess (r .excess))

@@ -1,4 +1,4 @@
--- What the functions of `types` are given, and what they promise. Assumes nothing.
+-- What the functions of `types` require, and what they promise. Assumes nothing.
 pub mod Picks
 pub mod Kinds
 pub mod Answers

@@ -1,4 +1,4 @@
--- A table whose items are picked from ints by an index, and which of them lack their kind. Assumes nothing.
+-- A table whose items an index picks from ints, and which of them lack their kind. Assumes nothing.
 use mathlib.Core.Path.{_≡_, refl, sym, ap, _∙_}
 use mathlib.Core.Bool.{Bool, false, not, _||_}
 use mathlib.Core.List.{List, [], _∷_}
@@ -14,7 +14,7 @@ use Rattle.laws.specs.ListLaws.{list-ext, list-cons}
 use Rattle.table.specs.Held.{Held}
 use Rattle.table_reading.specs.Reading.{Indexed, picked}
 
--- all n items of a table were read, and stand in an index in the order of their keys read as unsigned
+-- all n items of a table were read, and an index has them in unsigned key order
 pub record Picks (a : List ℤ) (n : ℕ) (index : List ℕ) : Type 0 where
   pub len : ℕ
   pub indexed : Indexed a n len index n
@@ -40,24 +40,24 @@ abbrev pub seg : (ℕ → Item) → ℕ → ℕ → Table
 seg f i zero = []
 seg f i (suc k) = f i ∷ seg f (suc i) k
 
--- r of n numbers that rise are below k
+-- r of n rising numbers are below k
 pub record Lower (f : ℕ → ℕ) (n k r : ℕ) : Type 0 where
   pub within : r ≤ n
   pub below : (i : ℕ) → i < r → f i < k
   pub above : (i : ℕ) → r ≤ i → i < n → k ≤ f i
 
--- whether an item is of a kind that no item of a table names
+-- whether an item has a kind that no item of a table names
 unfoldable pub lacksKind : Table → Item → Bool
 lacksKind t x = not (ltb (typeOf x) 16384 || isSome (find (keyOf 0 (typeOf x)) t))
 
--- whether one of some items is
+-- whether one of some items has
 unfoldable pub anyLacks : Table → List Item → Bool
 anyLacks t [] = false
 anyLacks t (x ∷ l) = lacksKind t x || anyLacks t l
 
 -- ---- the table is the one that was read
 
--- numbers, one by one
+-- the picked items, one by one
 map-list : (a : List ℤ) (l : List ℕ) → picked a l ≡ list (λ j. itemAt a (getD l j 0)) (length l)
 unfolding list
 map-list a [] = refl
@@ -65,7 +65,7 @@ map-list a (x ∷ l) =
     ap (λ (t : Table). itemAt a x ∷ t) (map-list a l)
     ∙ sym (list-cons (λ j. itemAt a (getD (x ∷ l) j 0)) (length l))
 
--- the items that were picked
+-- the picked items
 pub picked-list : (a : List ℤ) (n len : ℕ) (index : List ℕ) → Indexed a n len index n → picked a (take n index) ≡ tableIn a n index
 picked-list a n len index x =
     let e : length (take n index) ≡ n = length-take-le n index (omega (arith, x .few, x .long)) in

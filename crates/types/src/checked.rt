@@ -1,5 +1,5 @@
-// The types of a table whose items are picked from ints by an index: every type from 4000 hex up has its item of type 0, and each of these
-// names a kind of its own.
+// The types of a table whose items an index picks from ints. They are sound if every type from 4000 hex up has an item of type 0 and each of
+// these names a different kind.
 ghost use mathlib.Core.Path.{_≡_};
 ghost use mathlib.Core.Bool.{true};
 ghost use mathlib.Core.List.{[]};
@@ -29,7 +29,7 @@ pub enum Types {
     Refused(Error),
 }
 
-// Whether types are sound, and how many kinds have more than four ints, up to the refusal.
+// Whether types are sound, and how many items of type 0 had more than four ints, up to the refusal.
 pub struct Judged {
     pub types: Types,
     pub excess: usize,
@@ -55,7 +55,7 @@ pub fn data_of<'a>(src: &'a [i32], n: usize, index: &[u16], j: usize) -> &'a [i3
     &src[from..to]
 }
 
-// How many items have keys below k, by halving.
+// How many items have keys below k, by binary search.
 pub fn lower(src: &[i32], n: usize, index: &[u16], k: usize) -> usize
     requires { ⌜ Picks (now src) n (now index) ⌝ }
     ensures { λ r. ⌜ Lower (keyIn (now (src .entry)) (now (index .entry))) n k r ⌝ }
@@ -73,7 +73,7 @@ pub fn lower(src: &[i32], n: usize, index: &[u16], k: usize) -> usize
     lo
 }
 
-// Whether there is an item with a key.
+// Whether an item has the key k.
 pub fn has_key(src: &[i32], n: usize, index: &[u16], k: usize) -> bool
     requires { ⌜ Picks (now src) n (now index) ⌝ }
     ensures { λ r. ⌜ r ≡ isSome (find k (tableIn (now (src .entry)) n (now (index .entry)))) ⌝ }
@@ -85,7 +85,7 @@ pub fn has_key(src: &[i32], n: usize, index: &[u16], k: usize) -> bool
     false
 }
 
-// Whether item j, which is not of type 0, is of a kind that no item names.
+// Whether item j, which is not of type 0, has a kind that no item names.
 pub fn lacks_kind(src: &[i32], n: usize, index: &[u16], j: usize) -> bool
     requires { ⌜ Picks (now src) n (now index) × (j < n) ⌝ }
     ensures { λ r. ⌜ r ≡ lacksKind (tableIn (now (src .entry)) n (now (index .entry))) (itemOf (now (src .entry)) (now (index .entry)) j) ⌝ }
@@ -97,7 +97,7 @@ pub fn lacks_kind(src: &[i32], n: usize, index: &[u16], j: usize) -> bool
     !has_key(src, n, index, type_id)
 }
 
-// Whether one of the items from a place up to another is of a kind that no item names.
+// Whether one of the items from one place to another has a kind that no item names.
 pub fn any_lacks(src: &[i32], n: usize, index: &[u16], from: usize, to: usize) -> bool
     requires { ⌜ Picks (now src) n (now index) × (from ≤ to) × (to ≤ n) ⌝ }
     ensures { λ r. ⌜ r ≡ anyLacks (tableIn (now (src .entry)) n (now (index .entry))) (seg (itemOf (now (src .entry)) (now (index .entry))) from (to - from)) ⌝ }
@@ -112,7 +112,7 @@ pub fn any_lacks(src: &[i32], n: usize, index: &[u16], from: usize, to: usize) -
     false
 }
 
-// The i-th half of some ints, the higher one of each first.
+// The i-th 16-bit half of some ints, the upper half of each int first.
 pub fn half(data: &[i32], i: usize) -> usize
     requires { ⌜ i / 2 < length (now «data») ⌝ }
     ensures { λ r. ⌜ (r ≡ half (now («data» .entry)) i) × (r < 65536) ⌝ }
@@ -124,7 +124,7 @@ pub fn half(data: &[i32], i: usize) -> usize
     bits % 65536
 }
 
-// Of the first m items the class and the i-th half as one key, with the item's number, into pairs.
+// Lists class and i-th half of each of the first m items, as one key with the item's number, as pairs.
 pub fn list_halves(
     src: &[i32],
     n: usize,
@@ -157,7 +157,7 @@ pub fn pair_key(list: &[i32], i: usize) -> usize
     (key * 4294967296 + place) / 4294967296
 }
 
-// The least place of the pairs with the key of pair i, where that of the pair before is known.
+// The least place of the pairs with the key of pair i; before is that for the pair before it.
 pub fn leader(list: &[i32], m: usize, i: usize, before: usize) -> usize
     requires { ⌜ (2 * m ≤ length (now list)) × (i < m) × SortedPairs (pairAt (now list)) m × (0 < i → Leader (pairAt (now list)) m (i - 1) before) ⌝ }
     ensures { λ r. ⌜ Leader (pairAt (now (list .entry))) m i r ⌝ }
@@ -172,7 +172,7 @@ pub fn leader(list: &[i32], m: usize, i: usize, before: usize) -> usize
     before
 }
 
-// The least place of the pairs with each pair's key, into classes at the pair's place.
+// Writes the least place of the pairs with the same key into classes, at each pair's place.
 pub fn take_leaders(list: &[i32], m: usize, classes: &mut [u16])
     requires { ⌜ (2 * m ≤ length (now list)) × (m ≤ 1024) × (length (now classes) ≡ 1024) × SortedPairs (pairAt (now list)) m ⌝ }
     ensures { λ _. ⌜ Leaders (pairAt (now (list .entry))) m m (now (classes .exit)) ⌝ }
@@ -187,7 +187,7 @@ pub fn take_leaders(list: &[i32], m: usize, classes: &mut [u16])
     }
 }
 
-// Classes by the first i halves of each kind become classes by one half more.
+// Refines classes by the first i halves of each kind to classes by one more half.
 pub fn refine(
     src: &[i32],
     n: usize,
@@ -220,7 +220,7 @@ pub fn all_first(classes: &[u16], m: usize) -> bool
     true
 }
 
-// For each of the first m items the first one of the same kind, into classes, which are zeros.
+// For each of the first m items, writes the first one of the same kind into classes, which holds zeros.
 pub fn classify(src: &[i32], n: usize, index: &[u16], m: usize, classes: &mut [u16])
     requires { ⌜ Picks (now src) n (now index) × Whole (now src) (now index) n m × (length (now classes) ≡ 1024) × Firsts (halves (now src) (now index)) 0 m (now classes) ⌝ }
     ensures { λ _. ⌜ Firsts (halves (now (src .entry)) (now (index .entry))) 8 m (now (classes .exit)) ⌝ }
@@ -236,7 +236,7 @@ pub fn classify(src: &[i32], n: usize, index: &[u16], m: usize, classes: &mut [u
     }
 }
 
-// How many of the first z items have four ints or more, up to the first that has not.
+// How many of the first z items have four ints or more, up to the first that does not.
 pub fn count_whole(src: &[i32], n: usize, index: &[u16], z: usize) -> usize
     requires { ⌜ Picks (now src) n (now index) × (z ≤ n) ⌝ }
     ensures { λ r. ⌜ WholeUpTo (now (src .entry)) (now (index .entry)) n z r ⌝ }
@@ -251,7 +251,7 @@ pub fn count_whole(src: &[i32], n: usize, index: &[u16], z: usize) -> usize
     z
 }
 
-// Whether the first z items, which are of type 0, name kinds that differ, where the first m of them are whole and each has its class.
+// Whether the first z items, all of type 0, name different kinds. The first m of them are whole, and classes has their classes.
 pub fn walk_kinds(
     src: &[i32],
     n: usize,
@@ -287,7 +287,7 @@ pub fn walk_kinds(
     }
 }
 
-// Whether the first z items, which are of type 0, name kinds that differ.
+// Whether the first z items, all of type 0, name different kinds.
 pub fn judge_kinds(src: &[i32], n: usize, index: &[u16], z: usize) -> Judged
     requires { ⌜ Picks (now src) n (now index) × KindsFirst (now src) (now index) n z ⌝ }
     ensures { λ r. ⌜ judgeTypes (tableIn (now (src .entry)) n (now (index .entry))) [] (seg (itemOf (now (src .entry)) (now (index .entry))) 0 z) ≡ judged r ⌝ }
@@ -298,7 +298,7 @@ pub fn judge_kinds(src: &[i32], n: usize, index: &[u16], z: usize) -> Judged
     walk_kinds(src, n, index, z, m, &classes)
 }
 
-// Whether the types of a table are sound, in the order of keys read as signed.
+// Whether the types of a table are sound, judged in signed key order.
 pub fn judge(src: &[i32], n: usize, index: &[u16]) -> Judged
     requires { ⌜ Picks (now src) n (now index) ⌝ }
     ensures { λ r. ⌜ typed (tableIn (now (src .entry)) n (now (index .entry))) ≡ judgedTable (tableIn (now (src .entry)) n (now (index .entry))) r ⌝ }
@@ -332,7 +332,7 @@ pub fn judge(src: &[i32], n: usize, index: &[u16]) -> Judged
     }
 }
 
-// The same of a table in form, which has n items and takes so many ints, by an index of its items.
+// The same for a table in form of n items and the given number of ints, by an index of its items.
 fn judge_index(area: &[i32], n: usize, ints: usize) -> Judged
     requires { ⌜ Held (now area) n × (ints ≡ 2 + count (now area) + size (now area) / 4) ⌝ }
     ensures { λ r. ⌜ typed (items (now (area .entry))) ≡ judgedTable (items (now (area .entry))) r ⌝ }
@@ -348,7 +348,7 @@ fn judge_index(area: &[i32], n: usize, ints: usize) -> Judged
     judge(area, n, &index)
 }
 
-// Whether all types of a table in form are numbers, by its first key and its last.
+// Whether all types of a table in form are numbers, by its first and last key.
 fn all_ordinal(area: &[i32], n: usize) -> bool
     requires { ⌜ Held (now area) n ⌝ }
     ensures { λ r. ⌜ (r ≡ true → typed (items (now (area .entry))) ≡ return (items (now (area .entry)))) ⌝ }
@@ -362,7 +362,7 @@ fn all_ordinal(area: &[i32], n: usize) -> bool
     ints::to_bits(key_at(area, n, n - 1)) < 1073741824
 }
 
-// Whether the types of a table in form are sound, which has n items and takes so many ints.
+// Whether the types of a table in form, of n items and the given number of ints, are sound.
 pub fn judge_form(area: &[i32], n: usize, ints: usize) -> Judged
     requires { ⌜ Held (now area) n × (ints ≡ 2 + count (now area) + size (now area) / 4) ⌝ }
     ensures { λ r. ⌜ typed (items (now (area .entry))) ≡ judgedTable (items (now (area .entry))) r ⌝ }

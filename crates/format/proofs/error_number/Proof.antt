@@ -1,4 +1,4 @@
--- `format::error_number` meets its contract: each arm by the variant that it names. Assumes nothing.
+-- `format::error_number` meets its contract: each arm by its variant. Assumes nothing.
 use borrow.Author.Needs.{needs}
 use Rattle.format.proofs.error_number.Statement.{statement}
 use Rattle.format.proofs.error_number.Tie as tie

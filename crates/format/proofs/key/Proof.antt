@@ -1,4 +1,4 @@
--- `format::key` meets its contract: type and id are 16 bits each. Assumes nothing.
+-- `format::key` meets its contract: type and id have 16 bits each. Assumes nothing.
 use native.Mathlib.Omega.{arith}
 use mir.Facts.{toZ-ofZ}
 use Rattle.laws.specs.IntLaws.{bits-fromBits}

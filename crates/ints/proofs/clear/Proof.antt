@@ -1,4 +1,4 @@
--- `ints::clear` meets its contract. The loop's invariant: with the rest cleared, the area is as cleared at the start. Assumes nothing.
+-- `ints::clear` meets its contract. The loop's invariant: clearing the rest gives the cleared area. Assumes nothing.
 use mathlib.Core.Path.{_≡_, refl, ap, sym, _∙_}
 use mathlib.Core.List.{List, [], _∷_}
 use Prim.Native.Nat.{ℕ, zero, suc, _+_, _-_, _≤_, _<_}

@@ -1,4 +1,4 @@
--- `ints::copy_into` meets its contract. The loop's invariant: with the rest laid from here on, the area is as with all laid at the start.
+-- `ints::copy_into` meets its contract. The loop's invariant: laying the rest from here on gives the area with all ints laid.
 -- Assumes nothing.
 use mathlib.Core.Path.{_≡_, refl, ap, sym, _∙_}
 use mathlib.Core.List.{List}
@@ -18,12 +18,12 @@ use Rattle.ints.proofs.copy_into.Statement.{statement}
 use Rattle.ints.proofs.copy_into.Tie as tie
 
 module _ (out : List ℤ) (at : ℕ) (xs : List ℤ) where
-  -- there is no room
+  -- it does not fit
   full : length out < at + length xs → copyAt out at xs ≡ record { fits = false; out = out }
   unfolding copyAt
   full h = rw (lt-leb (at + length xs) (length out) h)
 
-  -- all of it was laid
+  -- all of it is laid
   done : (now : List ℤ) → at + length xs ≤ length out → now ≡ layAt at xs out → copyAt out at xs ≡ record { fits = true; out = now }
   unfolding copyAt
   done now h e = rw (le-leb (at + length xs) (length out) h, e)

@@ -1,4 +1,4 @@
--- `ints::sum` meets its contract. The loop's invariant: the total and the sum of what is left make the whole sum.
+-- `ints::sum` meets its contract. The loop's invariant: the total plus the sum of the rest is the whole sum.
 -- Assumes nothing.
 use mathlib.Core.Path.{_≡_, ap, sym, _∙_}
 use Prim.Native.Nat.{ℕ, _+_, _≤_, _<_, _^_, _-_}

@@ -1,4 +1,4 @@
--- `checked::deleted_fit` meets its contract. The loop's invariant: the keys passed fit, and the next one is to be above the last of them.
+-- `checked::deleted_fit` meets its contract. The loop's invariant: the keys so far fit, and the next one must be above the last of them.
 -- Assumes nothing.
 use Prim.Native.Nat.{ℕ, suc, _+_, _-_, _<_, _≤_, _^_}
 use mathlib.Core.Path.{_≡_, refl, sym, ap, _∙_, subst}

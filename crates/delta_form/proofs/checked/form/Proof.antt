@@ -1,4 +1,4 @@
--- `checked::form` meets its contract: each test is one that the form has. Assumes nothing.
+-- `checked::form` meets its contract: each test is part of the form. Assumes nothing.
 use borrow.Author.Tests.{not-true, not-false}
 use mathlib.Core.Path.{sym, _∙_}
 use denote.Ref.{now}

@@ -1,4 +1,4 @@
--- `checked::known_size` meets its contract: by whether the list goes that far. Assumes nothing.
+-- `checked::known_size` meets its contract: by whether the list is long enough. Assumes nothing.
 use native.Mathlib.Omega.{arith}
 use Rattle.delta_form.proofs.Sizes.{listed, not-listed}
 use borrow.Author.Needs.{needs}

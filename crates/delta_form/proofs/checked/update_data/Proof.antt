@@ -1,4 +1,4 @@
--- `checked::update_data` meets its contract: the differences lie within the area. Assumes nothing.
+-- `checked::update_data` meets its contract: the differences are within the area. Assumes nothing.
 use Prim.Native.Nat.{_+_, _-_}
 use mathlib.Core.Path.{_≡_}
 use native.Mathlib.Omega.{arith}

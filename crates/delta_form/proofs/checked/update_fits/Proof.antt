@@ -1,4 +1,4 @@
--- `checked::update_fits` meets its contract: each test is one that the form has. Assumes nothing.
+-- `checked::update_fits` meets its contract: each test is part of the form. Assumes nothing.
 use Rattle.delta_form.proofs.Turns.{no-end, end-is}
 use Prim.Native.Nat.{_+_}
 use mathlib.Core.Path.{ap₂, _∙_}

@@ -12,7 +12,7 @@ use borrow.Author.Needs.{needs}
 use Rattle.delta_form.proofs.checked.updates_fit.Statement.{statement}
 use Rattle.delta_form.proofs.checked.updates_fit.Tie as tie
 
--- the first update lies within the area
+-- the first update is within the area
 lies : (c : tie.Else2) → let s = c .before .before .before .args in Update (now (s .sizes)) (now (s .area)) (s .start) × (c .before .update-fits .result ≡ updateEnd (now (s .sizes)) (now (s .area)) (s .start))
 lies c = end-found _ _ _ _ (c .before .update-fits .ensures) (c .if2 .left)
 

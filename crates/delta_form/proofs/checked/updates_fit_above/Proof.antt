@@ -1,4 +1,4 @@
--- `checked::updates_fit_above` meets its contract. The loop's invariant: the answer is that of the updates that are left, above the last key.
+-- `checked::updates_fit_above` meets its contract. The loop's invariant: the answer is that for the remaining updates, above the last key.
 -- Assumes nothing.
 use Prim.Native.Nat.{_+_, _<_, _≤_, _^_}
 use mathlib.Core.Path.{_≡_, refl, sym, ap, _∙_}
@@ -24,7 +24,7 @@ Inv-loop area sizes start n before p₀ last₀ left₀ p last left =
 abbrev μ-loop : tie.MeasureT-loop
 μ-loop area sizes start n before p₀ last₀ left₀ p last left = left
 
--- the update that is looked at lies within the area
+-- the current update is within the area
 lies : (c : tie.Else1 Inv-loop μ-loop) → let l = c .before .before .before in let sizes = now (l .before .args .sizes) in let a = now (l .before .args .area) in Update sizes a (l .loop .p) × (c .before .update-fits .result ≡ updateEnd sizes a (l .loop .p))
 lies c = end-found _ _ _ _ (c .before .update-fits .ensures) (c .if1 .left)
 

@@ -1,4 +1,4 @@
--- `delta_index::checked::is_last` meets its contract, by the key of the pair behind. Assumes nothing.
+-- `delta_index::checked::is_last` meets its contract, by the key of the next pair. Assumes nothing.
 use borrow.Author.Needs.{needs}
 use Prim.Native.Nat.{_+_}
 use native.Mathlib.Omega.{arith}

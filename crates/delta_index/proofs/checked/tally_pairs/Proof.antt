@@ -1,4 +1,4 @@
--- `delta_index::checked::tally_pairs` meets its contract. The loop's invariant: what was counted, and what the entries from i on add to it, are all. Assumes nothing.
+-- `delta_index::checked::tally_pairs` meets its contract. The loop's invariant: the counts plus those of the entries from i on are the totals. Assumes nothing.
 use borrow.Author.Needs.{needs}
 use mathlib.Core.Path.{sym, _∙_, ap}
 use mathlib.Core.Bool.{not}

@@ -1,4 +1,4 @@
--- `delta_index::checked::write_deleted` meets its contract. The loop's invariant: the deleted keys from entry i on are still to be laid. Assumes nothing.
+-- `delta_index::checked::write_deleted` meets its contract. The loop's invariant: the deleted keys from entry i on remain to be laid. Assumes nothing.
 use borrow.Author.Needs.{needs}
 use mathlib.Core.Path.{sym, _∙_, ap}
 use Prim.Native.Nat.{ℕ, _+_, _-_, _≤_}

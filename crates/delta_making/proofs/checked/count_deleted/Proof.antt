@@ -1,4 +1,4 @@
--- `checked::count_deleted` meets its contract. The loop's invariant: what was counted and what the target lacks of the other items is what it lacks of all. Assumes nothing.
+-- `checked::count_deleted` meets its contract. The loop's invariant: the count plus the missing keys of the remaining items is the total. Assumes nothing.
 use Prim.Native.Nat.{ℕ, _+_, _-_, _≤_}
 use mathlib.Core.Path.{_≡_, ap, _∙_, subst}
 use native.Mathlib.Nat.{zero-add}
@@ -28,7 +28,7 @@ Inv-loop base nb target nt i₀ p₀ deleted₀ i p deleted =
 abbrev μ-loop : tie.MeasureT-loop
 μ-loop base nb target nt i₀ p₀ deleted₀ i p deleted = nb - i
 
--- the key of the i-th item as it is passed on
+-- the key of the i-th item as it is passed
 key-is : (c : tie.After-key-at Inv-loop μ-loop) → let l = c .before .before in bits (toZ w32 (ofZ w32 (c .key-at .result))) ≡ keyAt (now (l .before .args .base)) (l .loop .i)
 key-is c = ap bits (toZ-ofZ (record { sfits = c .key-at .ok })) ∙ c .key-at .ensures
 
@@ -37,7 +37,7 @@ placed c =
     let s = c .before .before .before .before in
     subst (λ (k : ℕ). Place (now (s .args .target)) k (c .next-place .result)) (key-is (c .before)) (c .next-place .ensures)
 
--- one more where the target lacks the key
+-- one more if the target lacks the key
 counted : (c : tie.After-one-if Inv-loop μ-loop) → let l = c .before .before .before .before .before in let s = l .before .args in c .one-if .result ≡ cond (not (isSome (find (keyAt (now (s .base)) (l .loop .i)) (items (now (s .target)))))) 1 0
 counted c =
     let n = c .before .before in

@@ -1,4 +1,4 @@
--- `checked::create` meets its contract. One lemma for each answer. Assumes nothing.
+-- `checked::create` meets its contract: one lemma for each answer. Assumes nothing.
 use Prim.Native.Nat.{_+_, _-_, _≤_}
 use mathlib.Core.Path.{_≡_, ap, _∙_}
 use mathlib.Core.Bool.{true}
@@ -14,11 +14,11 @@ use Rattle.delta_making.proofs.Creations.{refused-10, refused-40, done,
 use Rattle.delta_making.proofs.checked.create.Statement.{statement}
 use Rattle.delta_making.proofs.checked.create.Tie as tie
 
--- all items of one key are of one length
+-- items with the same key have the same length
 likes : (c : tie.Else1) → let s = c .before .before .args in alike (items (now (s .base))) (items (now (s .target))) ≡ true
 likes c = c .before .find-differing .ensures .none-differs (c .if1 .left)
 
--- how many ints the delta takes
+-- how many ints the delta has
 takes : (c : tie.After-start-at) → let s = c .before .before .before .before .args in 3 + c .before .count-deleted .result + (s .nt + (c .start-at .result - 2)) ≡ length (writtenDelta (deltaFrom (items (now (s .base))) (items (now (s .target)))))
 takes c =
     let s = c .before .before .before .before in

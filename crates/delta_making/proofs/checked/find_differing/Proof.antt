@@ -1,4 +1,4 @@
--- `checked::find_differing` meets its contract. The loop's invariant: all are alike where the other items are. Assumes nothing.
+-- `checked::find_differing` meets its contract. The loop's invariant: all items agree in length if the remaining ones do. Assumes nothing.
 use Prim.Native.Nat.{ℕ, _-_, _≤_}
 use mathlib.Core.Path.{_≡_, sym, ap, _∙_, subst}
 use native.Mathlib.Omega.{arith}
@@ -24,7 +24,7 @@ Inv-loop base nb target nt i₀ p₀ i p =
 abbrev μ-loop : tie.MeasureT-loop
 μ-loop base nb target nt i₀ p₀ i p = nt - i
 
--- the key of the i-th item as it is passed on
+-- the key of the i-th item as it is passed
 key-is : (c : tie.After-key-at Inv-loop μ-loop) → let l = c .before .before in bits (toZ w32 (ofZ w32 (c .key-at .result))) ≡ keyAt (now (l .before .args .target)) (l .loop .i)
 key-is c = ap bits (toZ-ofZ (record { sfits = c .key-at .ok })) ∙ c .key-at .ensures
 

@@ -17,7 +17,7 @@ use borrow.Author.Needs.{needs}
 use Rattle.delta_making.proofs.checked.is_as_long.Statement.{statement}
 use Rattle.delta_making.proofs.checked.is_as_long.Tie as tie
 
--- the item's key as it is passed on
+-- the item's key as it is passed
 key-is : (c : tie.After-key-at) → bits (toZ w32 (ofZ w32 (c .key-at .result))) ≡ keyAt (now (c .before .args .target)) (c .before .args .i)
 key-is c = ap bits (toZ-ofZ (record { sfits = c .key-at .ok })) ∙ c .key-at .ensures
 

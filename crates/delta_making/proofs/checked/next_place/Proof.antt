@@ -19,7 +19,7 @@ Inv-loop area n from key i₀ i = (i ≤ n) × ((j : ℕ) → j < i → keyAt ar
 abbrev μ-loop : tie.MeasureT-loop
 μ-loop area n from key i₀ i = n - i
 
--- the key at i, and the one that is looked for
+-- the key at i, and the one that is sought
 compared : (c : tie.After-unsigned-less Inv-loop μ-loop) → let l = c .before .before .before in let s = l .before in c .unsigned-less .result ≡ ltb (keyAt (now (s .args .area)) (l .loop .i)) (bits (s .args .key))
 compared c =
     let l = c .before .before .before in

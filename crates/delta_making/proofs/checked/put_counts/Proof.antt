@@ -1,4 +1,4 @@
--- `checked::put_counts` meets its contract. Three ints are stored one behind the other. Assumes nothing.
+-- `checked::put_counts` meets its contract: it stores three ints, one after the other. Assumes nothing.
 use denote.Ref.{now}
 use Rattle.delta_making.proofs.Updates.{three-laid}
 use borrow.Author.Needs.{needs}

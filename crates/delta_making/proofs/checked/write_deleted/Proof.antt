@@ -1,4 +1,4 @@
--- `checked::write_deleted` meets its contract. The loop's invariant: with the keys of the other items laid from here on, the area is as with all laid at the start. Assumes nothing.
+-- `checked::write_deleted` meets its contract. The loop's invariant: laying the remaining keys from here on gives the area with all laid. Assumes nothing.
 use Prim.Native.Nat.{ℕ, _+_, _-_, _<_, _≤_}
 use mathlib.Core.Path.{_≡_, refl, sym, ap, _∙_, subst}
 use native.Mathlib.Omega.{arith}
@@ -32,7 +32,7 @@ Inv-loop base nb from to target nt out₀ at i₀ p₀ w₀ out i p w =
 abbrev μ-loop : tie.MeasureT-loop
 μ-loop base nb from to target nt out₀ at i₀ p₀ w₀ out i p w = to - i
 
--- the key of the i-th item as it is passed on
+-- the key of the i-th item as it is passed
 key-is : (c : tie.After-key-at Inv-loop μ-loop) → let l = c .before .before in bits (toZ w32 (ofZ w32 (c .key-at .result))) ≡ keyAt (now (l .before .args .base)) (l .loop .i)
 key-is c = ap bits (toZ-ofZ (record { sfits = c .key-at .ok })) ∙ c .key-at .ensures
 
@@ -54,14 +54,14 @@ going c =
     let s = l .before in
     along-next (now (s .args .target)) (s .args .nt) (s .pre .1) (now (s .args .base)) (s .args .nb) (s .pre .0) (c .next-place .result) (l .loop .i) (omega arith) (placed c)
 
--- what is left to be written from the i-th item on
+-- what remains to be written from the i-th item on
 abbrev left : tie.At-loop Inv-loop μ-loop → ℕ → List ℤ
 left l i = deletedInts (items (now (l .before .args .target))) (part i (l .before .args .to) (items (now (l .before .args .base))))
 
 abbrev key-int : tie.At-loop Inv-loop μ-loop → ℤ
 key-int l = fromBits (keyAt (now (l .before .args .base)) (l .loop .i))
 
--- the key that is written, and what is left then
+-- the key that is written, and what remains after it
 taken : (c : tie.Else1 Inv-loop μ-loop) → let l = c .before .before .before .before .before in left l (l .loop .i) ≡ (key-int l ∷ []) ++ left l (l .loop .i + 1)
 taken c =
     let l = c .before .before .before .before .before in
@@ -73,7 +73,7 @@ inside c =
     let l = c .before .before .before .before .before in
     omega (arith, lays-room (l .loop .inv .2) (key-int l ∷ []) (left l (l .loop .i + 1)) (taken c) (l .before .pre .4))
 
--- one int that is stored is laid
+-- storing one int lays it
 stored-is : (out : List ℤ) (w : ℕ) (x y : ℤ) → w < length out → x ≡ y → set out w x ≡ layAt w (y ∷ []) out
 stored-is out w x y h e = ap (set out w) e ∙ sym (layAt-set w y [] out h ∙ layAt-nothing (w + 1) (set out w y))
 

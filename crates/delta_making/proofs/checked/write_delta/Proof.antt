@@ -1,4 +1,4 @@
--- `checked::write_delta` meets its contract. Each step lays one part more of the written delta. Assumes nothing.
+-- `checked::write_delta` meets its contract: each step lays one more part of the written delta. Assumes nothing.
 use Prim.Native.Nat.{ℕ}
 use mathlib.Core.Path.{refl, sym, ap, _∙_}
 use mathlib.Core.List.{List, [], _∷_, _++_, append-nil}
@@ -17,7 +17,7 @@ use Rattle.delta_making.proofs.Parts.{delta-parts}
 use Rattle.delta_making.proofs.checked.write_delta.Statement.{statement}
 use Rattle.delta_making.proofs.checked.write_delta.Tie as tie
 
--- the delta, and its parts behind the counts
+-- the delta, and its parts after the counts
 abbrev delta : tie.After-walk-start2 → List ℤ
 delta c = let s = c .before .before .args in writtenDelta (deltaFrom (items (now (s .base))) (items (now (s .target))))
 
@@ -38,11 +38,11 @@ updated₁ c = let s = c .before .before .args in changesInts (items (now (s .ba
 abbrev updated₂ : tie.After-walk-start2 → List ℤ
 updated₂ c = let s = c .before .before .args in changesInts (items (now (s .base))) (part 0 (c .walk-start2 .result) (items (now (s .target))))
 
--- so much of it is left, from w on
+-- what remains of it, from w on
 abbrev Left : tie.After-walk-start2 → List ℤ → ℕ → List ℤ → Type 0
 Left c out w left = Laying (now (c .before .before .args .out)) 0 (delta c) out w left
 
--- ---- back to the place where both turns are known
+-- ---- back to where both walk starts are known
 
 abbrev from-counts : tie.After-put-counts → tie.After-walk-start2
 from-counts c = c .before .before
@@ -59,7 +59,7 @@ from-updates c = from-deleted2 (c .before .before .before)
 abbrev from-updates2 : tie.After-write-updates2 → tie.After-walk-start2
 from-updates2 c = from-updates (c .before .before .before)
 
--- ---- what each step leaves
+-- ---- the area after each step
 
 after-counts : (c : tie.After-put-counts) → let q = from-counts c in Left q (c .put-counts .last .0) 3 (deleted₁ q ++ (deleted₂ q ++ (updated₁ q ++ updated₂ q)))
 after-counts c =
@@ -84,7 +84,7 @@ after-updates c =
     let q = from-updates c in
     lays-more (after-deleted2 (c .before .before .before)) _ _ (updated₁ q) (updated₂ q) refl (c .write-updates .ensures .1) (c .write-updates .ensures .0)
 
--- ---- the needs
+-- ---- preconditions
 
 walk-start-requires : tie.Need-walk-start-requires
 walk-start-requires c κs = c .pre .0

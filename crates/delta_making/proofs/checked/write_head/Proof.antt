@@ -1,4 +1,4 @@
--- `checked::write_head` meets its contract. The three counts are of the key. Assumes nothing.
+-- `checked::write_head` meets its contract: the three counts are those of the key. Assumes nothing.
 use Prim.Native.Nat.{ℕ, _/_, _%_}
 use mathlib.Core.Path.{ap, ap₂, _∙_}
 use mathlib.Core.List.{[], _∷_}

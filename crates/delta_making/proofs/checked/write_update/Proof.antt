@@ -1,4 +1,4 @@
--- `checked::write_update` meets its contract. The head and then the differences are the update. Assumes nothing.
+-- `checked::write_update` meets its contract: the head, then the differences, make the update. Assumes nothing.
 use Prim.Native.Nat.{ℕ, _+_, _<_, _≤_}
 use mathlib.Core.Path.{_≡_, sym, ap, ap₂, _∙_, subst}
 use native.Mathlib.Omega.{arith}
@@ -23,7 +23,7 @@ use borrow.Author.Needs.{needs}
 use Rattle.delta_making.proofs.checked.write_update.Statement.{statement}
 use Rattle.delta_making.proofs.checked.write_update.Tie as tie
 
--- the item's key as it is passed on
+-- the item's key as it is passed
 key-is : (c : tie.After-key-at) → bits (toZ w32 (ofZ w32 (c .key-at .result))) ≡ keyAt (now (c .before .args .target)) (c .before .args .i)
 key-is c = ap bits (toZ-ofZ (record { sfits = c .key-at .ok })) ∙ c .key-at .ensures
 
@@ -38,11 +38,11 @@ found c =
     let s = c .before .before .before .before .before .before .before in
     found-at (now (s .args .base)) (s .args .nb) _ (s .args .p) (s .pre .0) (s .pre .3) (sym (said (c .before)) ∙ c .if1 .taken)
 
--- what the base has of the item
+-- the base's data of the item
 abbrev wanted : tie.Start → Option (List ℤ)
 wanted s = find (keyAt (now (s .args .target)) (s .args .i)) (items (now (s .args .base)))
 
--- how much is written, and how long the data is
+-- how many ints are written, and how long the data is
 room : (s : tie.Start) → s .args .at + (3 + length (valuesAt (now (s .args .target)) (s .args .i))) ≤ length (now (s .args .out))
 room s =
     omega (arith, s .pre .5, length-change (items (now (s .args .base))) (itemAt (now (s .args .target)) (s .args .i)) (s .pre .4))

@@ -1,4 +1,4 @@
--- `checked::write_updates` meets its contract. The loop's invariant: with the updates of the other items laid from here on, the area is as with all laid at the start. Assumes nothing.
+-- `checked::write_updates` meets its contract. The loop's invariant: laying the remaining updates from here on gives the area with all laid. Assumes nothing.
 use Prim.Native.Nat.{ℕ, _+_, _-_, _≤_}
 use mathlib.Core.Path.{_≡_, ap, _∙_, subst}
 use native.Mathlib.Omega.{arith}
@@ -25,7 +25,7 @@ Inv-loop base nb target nt from to out₀ at i₀ p₀ w₀ out i p w =
 abbrev μ-loop : tie.MeasureT-loop
 μ-loop base nb target nt from to out₀ at i₀ p₀ w₀ out i p w = to - i
 
--- the key of the i-th item as it is passed on
+-- the key of the i-th item as it is passed
 key-is : (c : tie.After-key-at Inv-loop μ-loop) → let l = c .before .before in bits (toZ w32 (ofZ w32 (c .key-at .result))) ≡ keyAt (now (l .before .args .target)) (l .loop .i)
 key-is c = ap bits (toZ-ofZ (record { sfits = c .key-at .ok })) ∙ c .key-at .ensures
 
@@ -34,14 +34,14 @@ placed c =
     let s = c .before .before .before .before in
     subst (λ (k : ℕ). Place (now (s .args .base)) k (c .next-place .result)) (key-is (c .before)) (c .next-place .ensures)
 
--- what is left to be written from the i-th item on
+-- what remains to be written from the i-th item on
 abbrev left : tie.At-loop Inv-loop μ-loop → ℕ → List ℤ
 left l i = changesInts (items (now (l .before .args .base))) (part i (l .before .args .to) (items (now (l .before .args .target))))
 
 abbrev update : tie.At-loop Inv-loop μ-loop → List ℤ
 update l = changeInts (items (now (l .before .args .base))) (itemAt (now (l .before .args .target)) (l .loop .i))
 
--- the update that is written, and what is left then
+-- the update that is written, and what remains after it
 taken : (c : tie.In-loop Inv-loop μ-loop) → let l = c .before in left l (l .loop .i) ≡ update l ++ left l (l .loop .i + 1)
 taken c =
     let s = c .before .before in

@@ -1,4 +1,4 @@
--- `ints::checked::add_four` meets its contract: four times one entry more. Assumes nothing.
+-- `ints::checked::add_four` meets its contract: it adds one entry, four times. Assumes nothing.
 use mathlib.Core.Path.{_≡_, refl, _∙_}
 use Prim.Native.Nat.{ℕ, _+_, _<_, _≤_}
 use mathlib.Core.List.{List}
@@ -21,7 +21,7 @@ module _ (at : ℕ) (xs ys : List ℤ) (e : length xs ≡ length ys) where
   abbrev sums : List ℤ
   sums = zipWith wrappingAdd xs ys
 
-  -- one entry more
+  -- one more entry
   one : (i j : ℕ) (o : List ℤ) (v : ℤ) → i < length xs → at + length xs ≤ length o → j ≡ i + 1 → SFits w32 v → v ≡ wrappingAdd (getD xs i (pos 0)) (getD ys i (pos 0))
       → layAt (at + i) (drop i sums) o ≡ layAt (at + j) (drop j sums) (set o (at + i) (toZ w32 (ofZ w32 v)))
   one i j o v l m q f g = layAt-zip wrappingAdd at i xs ys o e l (omega arith) ∙ rw (q, toZ-ofZ f, g)

@@ -1,4 +1,4 @@
--- `ints::checked::add_from` meets its contract. The loop's invariant: with the other sums laid from here on, the area is as with all laid at the start.
+-- `ints::checked::add_from` meets its contract. The loop's invariant: laying the remaining sums from here on gives the area with all sums laid.
 -- Assumes nothing.
 use mathlib.Core.Path.{_≡_, refl, sym, _∙_}
 use Prim.Native.Nat.{_+_, _-_, _≤_}

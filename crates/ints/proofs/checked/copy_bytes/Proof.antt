@@ -1,4 +1,4 @@
--- `ints::checked::copy_bytes` meets its contract. The loop's invariant: with the rest laid from here on, the area is as with all laid at the start.
+-- `ints::checked::copy_bytes` meets its contract. The loop's invariant: laying the rest from here on gives the area with all bytes laid.
 -- Assumes nothing.
 use mathlib.Core.Path.{_≡_, refl, sym, _∙_}
 use Prim.Native.Nat.{_+_, _-_, _≤_}

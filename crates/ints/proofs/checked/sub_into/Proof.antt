@@ -1,4 +1,4 @@
--- `ints::checked::sub_into` meets its contract. The loop's invariant: with the other differences laid from here on, the area is as with all laid at the start.
+-- `ints::checked::sub_into` meets its contract. The loop's invariant: laying the remaining differences from here on gives the area with all laid.
 -- Assumes nothing.
 use mathlib.Core.Path.{_≡_, refl, sym, ap₂, _∙_}
 use Prim.Native.Nat.{_+_, _-_, _≤_}

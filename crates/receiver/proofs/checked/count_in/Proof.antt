@@ -1,4 +1,4 @@
--- `checked::count_in` meets its contract: the parts that were looked at are counted. Assumes nothing.
+-- `checked::count_in` meets its contract: the parts so far are counted. Assumes nothing.
 use mathlib.Core.Path.{_≡_, ap, _∙_}
 use mathlib.Core.Logic.{⊎-elim}
 use Prim.Native.Nat.{_-_, _≤_}

@@ -1,4 +1,4 @@
--- `checked::full_parts` meets its contract: all parts that were looked at are full. Assumes nothing.
+-- `checked::full_parts` meets its contract: all parts so far are full. Assumes nothing.
 use mathlib.Core.Path.{_≡_}
 use mathlib.Core.List.{List}
 use Prim.Native.Nat.{ℕ, _-_, _*_, _≤_}

@@ -1,4 +1,4 @@
--- `checked::join` meets its contract: the full parts in front at once, then part by part. Assumes nothing.
+-- `checked::join` meets its contract: the full leading parts at once, then part by part. Assumes nothing.
 use mathlib.Core.Path.{_≡_, refl, sym, ap, _∙_}
 use mathlib.Core.List.{List}
 use Prim.Native.Nat.{ℕ, _-_, _*_, _≤_}

@@ -1,4 +1,4 @@
--- `checked::receive` meets its contract: by what is judged of the part. Assumes nothing.
+-- `checked::receive` meets its contract: by how the part is judged. Assumes nothing.
 use mathlib.Core.Path.{_≡_, ap, _∙_}
 use borrow.Author.Needs.{needs}
 use Rattle.receiver.specs.declared.checked.Judged.{Judged}

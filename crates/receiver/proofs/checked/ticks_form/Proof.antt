@@ -15,7 +15,7 @@ use Rattle.receiver.proofs.checked.ticks_form.Tie as tie
 abbrev opened : tie.After-current → CurrentDelta
 opened c = c .current .given .0 .0
 
--- whether it is above the last finished
+-- whether it is above the last finished one
 rises : (c : tie.After-above-previous) → c .above-previous .result ≡ abovePrevious (tickOf (c .before .before .before .before .before .args .r .«previous_tick»)) (opened (c .before .before .before) .tick)
 rises c = rw (toZ-ofZ {w = w32} {z = opened (c .before .before .before) .tick} (record { sfits = c .before .struct-told .given .0 .1 })) at (c .above-previous .ensures)
 

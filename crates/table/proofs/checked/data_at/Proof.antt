@@ -1,4 +1,4 @@
--- `checked::data_at` meets its contract: what stands between the key and the next item. Assumes nothing.
+-- `checked::data_at` meets its contract: the ints between the key and the next item. Assumes nothing.
 use mathlib.Core.Path.{_≡_, refl, ap, _∙_}
 use Prim.Native.Nat.{_+_, _<_, _≤_}
 use native.Mathlib.Omega.{arith}

@@ -1,4 +1,4 @@
--- `checked::find` meets its contract: the place of a key has it, or no item has. Assumes nothing.
+-- `checked::find` meets its contract: the item at the place of a key has it, or no item has. Assumes nothing.
 use mathlib.Core.Path.{sym, _∙_}
 use denote.Ref.{now}
 use native.Mathlib.Omega.{arith}

@@ -10,7 +10,7 @@ use borrow.Author.Needs.{needs}
 use Rattle.table.proofs.checked.is_behind.Statement.{statement}
 use Rattle.table.proofs.checked.is_behind.Tie as tie
 
--- what the comparison tells
+-- what the comparison says
 less-is : (c : tie.After-signed-less) → let s = c .before .before .before in c .signed-less .result ≡ behindAt (now (s .args .area)) (s .args .i)
 unfolding behindAt
 less-is c = c .signed-less .ensures ∙ rw (toZ-ofZ (record { sfits = c .before .before .signed-less-arg .given }), toZ-ofZ (record { sfits = c .before .signed-less-arg2 .given }))

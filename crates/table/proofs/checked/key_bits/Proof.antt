@@ -29,13 +29,13 @@ place-is : (c : tie.After-bits-at) → 2 + c .before .args .n + c .bits-at .resu
 unfolding start
 place-is c = ap₂ (λ (n x : ℕ). 2 + n + x / 4) (c .before .pre .0 .count-is) (begins c .0)
 
--- it stands behind the offsets, within the data
+-- it is past the offsets, within the data
 within : (c : tie.After-bits-at) → let s = c .before in 2 + s .args .n + c .bits-at .result / 4 < length (A c)
 within c =
     let s = c .before in
     omega (arith, begins c .0, begins c .1, s .pre .0 .room, ends-aligned (A c) (s .args .n) (s .args .size) (s .pre .0) (s .pre .1) (omega (arith, s .pre .2)))
 
--- what stands there
+-- the int at that place
 stands : (c : tie.After-bits-at) → let s = c .before in getD (now (s .args .body)) (c .bits-at .result / 4) (pos 0) ≡ getD (A c) (start (A c) (s .args .i)) (pos 0)
 stands c =
     let s = c .before in

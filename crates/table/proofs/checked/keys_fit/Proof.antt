@@ -19,7 +19,7 @@ Inv-loop area n size first body i₀ last₀ i last = Rising area n size i last 
 abbrev μ-loop : tie.MeasureT-loop
 μ-loop area n size first body i₀ last₀ i last = n - i
 
--- the part behind the offsets
+-- the part past the offsets
 body-is : (s : tie.Start Inv-loop μ-loop) → let a = now (s .args .area) in let k = 2 + s .args .n in take (length a - k) (drop k a) ≡ drop k a
 body-is s =
     let a = now (s .args .area) in

@@ -25,7 +25,7 @@ Inv-loop area n key lo₀ hi₀ lo hi =
 abbrev μ-loop : tie.MeasureT-loop
 μ-loop area n key lo₀ hi₀ lo hi = hi - lo
 
--- the key in the middle, and the one that is looked for
+-- the key in the middle, and the one that is sought
 compared : (c : tie.After-unsigned-less Inv-loop μ-loop) → c .unsigned-less .result ≡ ltb (keyAt (now (c .before .before .before .before .args .area)) (c .before .before .before .loop .lo + (c .before .before .before .loop .hi - c .before .before .before .loop .lo) / 2)) (bits (c .before .before .before .before .args .key))
 compared c =
     c .unsigned-less .ensures

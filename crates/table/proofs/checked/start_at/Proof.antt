@@ -1,4 +1,4 @@
--- `checked::start_at` meets its contract: of an item, or of the end. Assumes nothing.
+-- `checked::start_at` meets its contract, for an item and for the end. Assumes nothing.
 use Prim.Native.Nat.{ℕ, _+_, _/_}
 use mathlib.Core.Path.{_≡_, ap, ap₂, _∙_}
 use native.Mathlib.Omega.{arith}

@@ -1,4 +1,4 @@
--- `checked::walk_place` meets its contract: the items whose keys are negative, then the others. Assumes nothing.
+-- `checked::walk_place` meets its contract: the items with negative keys, then the others. Assumes nothing.
 use native.Mathlib.Omega.{arith}
 use borrow.Author.Needs.{needs}
 use Rattle.table.proofs.Places.{later, earlier}

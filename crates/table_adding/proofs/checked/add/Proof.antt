@@ -1,4 +1,4 @@
--- `checked::add` meets its contract: one lemma for each refusal, and one for the item that is added. Assumes nothing.
+-- `checked::add` meets its contract: one lemma for each refusal, and one for the added item. Assumes nothing.
 use mathlib.Core.Path.{_≡_, sym, ap, _∙_, subst}
 use mathlib.Core.Logic.{⊎-elim}
 use Prim.Native.Nat.{ℕ}

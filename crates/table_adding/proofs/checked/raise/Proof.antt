@@ -1,4 +1,4 @@
--- `checked::raise` meets its contract. The loop's invariant: the counts before i are larger. Assumes nothing.
+-- `checked::raise` meets its contract. The loop's invariant: the counts before i are raised. Assumes nothing.
 use mathlib.Core.Path.{_≡_, _∙_}
 use mathlib.Core.List.{map, _++_}
 use Prim.Native.Nat.{_-_, _≤_}

@@ -12,7 +12,7 @@ use borrow.Author.Needs.{needs}
 use Rattle.table_adding.proofs.checked.write_item.Statement.{statement}
 use Rattle.table_adding.proofs.checked.write_item.Tie as tie
 
--- back to the place where the item's begin is read
+-- back to where the item's start is read
 abbrev from-shift2 : tie.After-shift2 → tie.After-start-at
 from-shift2 c = c .before .before .before .before .before
 

@@ -23,7 +23,7 @@ Inv-loop src n len keys₀ i₀ here₀ keys i here =
 abbrev μ-loop : tie.MeasureT-loop
 μ-loop src n len keys₀ i₀ here₀ keys i here = n - i
 
--- an item that ends well
+-- an item that ends correctly
 module _ (c : tie.Else2 Inv-loop μ-loop) where
   abbrev start-of : tie.Start Inv-loop μ-loop
   start-of = c .before .before .before .before .before .before

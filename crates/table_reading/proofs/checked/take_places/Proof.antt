@@ -1,4 +1,4 @@
--- `checked::take_places` meets its contract. The loop's invariant: the places so far stand at the front of the index. Assumes nothing.
+-- `checked::take_places` meets its contract. The loop's invariant: the places so far are at the front of the index. Assumes nothing.
 use mathlib.Core.Path.{_≡_, refl, sym, ap, subst, _∙_}
 use mathlib.Core.List.{List, [], _∷_, _++_, map}
 use Prim.Native.Nat.{ℕ, _+_, _-_, _≤_, _<_}

@@ -1,4 +1,4 @@
--- `checked::all_ordinal` meets its contract: the keys between the first and the last are between them. Assumes nothing.
+-- `checked::all_ordinal` meets its contract: all keys are between the first and the last. Assumes nothing.
 use Prim.Native.Nat.{_-_, _<_, _≤_, _^_}
 use mathlib.Core.Path.{_≡_, sym, ap, _∙_}
 use mathlib.Core.Bool.{true, false, false≢true}

@@ -1,4 +1,4 @@
--- `checked::any_lacks` meets its contract. The loop's invariant: what the items from j on tell is what all tell. Assumes nothing.
+-- `checked::any_lacks` meets its contract. The loop's invariant: the answer for the items from j on is that for all. Assumes nothing.
 use native.Mathlib.Omega.{arith}
 use mathlib.Core.Path.{_≡_, refl, sym, _∙_}
 use Prim.Native.Nat.{_-_, _≤_}

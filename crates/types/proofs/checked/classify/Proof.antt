@@ -1,4 +1,4 @@
--- `checked::classify` meets its contract. The loop's invariant: the classes go by the halves so far. Assumes nothing.
+-- `checked::classify` meets its contract. The loop's invariant: the classes are those by the halves so far. Assumes nothing.
 use lib.ListN.{length-replicate, length}
 use lib.IntN.{pos}
 use native.Mathlib.Omega.{arith}

@@ -1,4 +1,4 @@
--- `checked::data_of` meets its contract: what stands between an item's key and the next item. Assumes nothing.
+-- `checked::data_of` meets its contract: the ints between an item's key and the next item. Assumes nothing.
 use native.Mathlib.Omega.{arith}
 use Rattle.definitions.specs.Tables.{valuesAt}
 use Rattle.types.proofs.Places.{placed}

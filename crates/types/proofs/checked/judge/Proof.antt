@@ -1,4 +1,4 @@
--- `checked::judge` meets its contract: the walk goes by items from 8000 hex, those of type 0, and the rest. Assumes nothing.
+-- `checked::judge` meets its contract: the walk has the items of types from 8000 hex up, those of type 0, and the rest. Assumes nothing.
 use mathlib.Core.Path.{sym, ap, _∙_}
 use Rattle.definitions.specs.Outcome.{Outcome}
 use Rattle.types.specs.declared.checked.Types.{Types}

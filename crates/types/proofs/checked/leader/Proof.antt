@@ -1,4 +1,4 @@
--- `checked::leader` meets its contract: a new key's first pair, or the one that is known. Assumes nothing.
+-- `checked::leader` meets its contract: the first pair of a new key, or the leader of the pair before. Assumes nothing.
 use native.Mathlib.Omega.{arith}
 use mathlib.Core.Path.{sym, subst, _∙_}
 use Rattle.types.specs.Kinds.{Leader}

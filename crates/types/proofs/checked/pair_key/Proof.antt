@@ -1,4 +1,4 @@
--- `checked::pair_key` meets its contract: the key stands behind the place. Assumes nothing.
+-- `checked::pair_key` meets its contract: the key follows the place. Assumes nothing.
 use native.Mathlib.Omega.{arith}
 use Rattle.sorting.specs.Pairs.{pairAt}
 use borrow.Author.Needs.{needs}

@@ -1,4 +1,4 @@
--- `checked::refine` meets its contract: the keys of class and half, sorted, tell the new classes. Assumes nothing.
+-- `checked::refine` meets its contract: the keys of class and half, sorted, give the new classes. Assumes nothing.
 use native.Mathlib.Omega.{arith}
 use mathlib.Core.Path.{_≡_, ap, _∙_}
 use Prim.Native.Nat.{_≤_}

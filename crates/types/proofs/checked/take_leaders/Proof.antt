@@ -1,4 +1,4 @@
--- `checked::take_leaders` meets its contract. The loop's invariant: the pairs so far have their least places, and that of the last is known. Assumes nothing.
+-- `checked::take_leaders` meets its contract. The loop's invariant: the pairs so far have their leaders, and that of the last is known. Assumes nothing.
 use native.Mathlib.Omega.{arith}
 use mathlib.Core.Path.{_≡_, sym, subst, _∙_}
 use Prim.Native.Nat.{ℕ, _+_, _-_, _<_, _≤_}

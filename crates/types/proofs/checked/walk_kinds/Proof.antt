@@ -1,4 +1,4 @@
--- `checked::walk_kinds` meets its contract. The loop's invariant: what is left, after the warnings so far, comes to the whole. Assumes nothing.
+-- `checked::walk_kinds` meets its contract. The loop's invariant: the rest, after the warnings so far, gives the whole outcome. Assumes nothing.
 use Rattle.definitions.specs.Refusals.{duplicateUuidType}
 use Rattle.definitions.specs.Outcome.{Outcome, err}
 use Rattle.types.specs.Answers.{uuidExcess}
@@ -26,7 +26,7 @@ Inv-loop src n index z m classes j₀ excess₀ j excess =
 abbrev μ-loop : tie.MeasureT-loop
 μ-loop src n index z m classes j₀ excess₀ j excess = m - j
 
--- the warning of item j
+-- the warning for item j
 module _ (c : tie.After-one-if Inv-loop μ-loop) where
   abbrev begin : tie.Start Inv-loop μ-loop
   begin = c .before .before .before .before .before .before
