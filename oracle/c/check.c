@@ -1,6 +1,6 @@
 /*
- * A C program over include/cefdugar.h and libcefdugar.a: the marked
- * cases and each refusal, by every function.
+ * A C program over include/cefdugar.h and libcefdugar.a: the marked cases of
+ * docs/FORMAT.md and each refusal, by every function.
  */
 
 #include "check.h"
@@ -176,7 +176,7 @@ static int excess(const size_t warnings[CEF_WARNINGS], size_t count)
     return right;
 }
 
-/* The packed table of tablelist's example: one item of type 1 and id 2 that holds 7. */
+/* The worked example of a packed table: one item of type 1 and id 2 that holds 7. */
 static const uint8_t TABLE_BYTES[] = {0x08, 0x01, 0x00, 0x82, 0x80, 0x08, 0x07};
 static const int32_t TABLE_INTS[] = {8, 1, 0, 65538, 7};
 
@@ -586,7 +586,7 @@ static void check_item_deltas(void)
     CHECK(memcmp(out, delta, sizeof delta) == 0);
 }
 
-/* The marked cases: 0, 900 and 901 bytes. */
+/* Worked examples of messages: 0, 900 and 901 bytes. */
 /* Type 0 names the kind 1, 2, 3, 4 under 4000 hex; an item of that kind. */
 static const int32_t KINDS_INTS[] = {28, 2, 0, 20, 0x4000, 1, 2, 3, 4, 0x40000007, 5};
 static const int32_t KIND[4] = {1, 2, 3, 4};

@@ -1,4 +1,4 @@
--- Places that are looked for from a hint on, and what the place of a key tells. Assumes nothing.
+-- Places that are searched from a hint on, and what the place of a key says. Assumes nothing.
 use Prim.Native.Nat.{ℕ, _+_, _-_, _<_, _≤_, _^_}
 use mathlib.Core.Path.{_≡_, refl, sym, ap, _∙_}
 use mathlib.Core.Logic.{_⊎_, inl, inr}
@@ -21,12 +21,12 @@ use Rattle.table.specs.Held.{Held}
 use Rattle.delta_reading.specs.Reached.{Under}
 use Rattle.apply_judging.specs.Judging.{DeletedKeys}
 
--- the keys before a hint are less where the last one of them is
+-- the keys before a hint are less if the last one of them is
 pub keys-under : (a : List ℤ) (n k hint : ℕ) → Held a n → 0 < hint → hint ≤ n → keyAt a (hint - 1) < k → (i : ℕ) → i < hint → keyAt a i < k
 keys-under a n k hint h z l m i o =
     omega (arith, keys-le a (h .shape) i (hint - 1) (omega arith) (omega (arith, h .count-is)))
 
--- the same of deleted keys, by rank
+-- the same for deleted keys, by rank
 pub ranks-under : (d : List ℤ) (k hint low : ℕ) → DeletedKeys d k → 0 < hint → hint ≤ k → rank (deletedAt d (hint - 1)) < low → Under d hint low
 ranks-under d k hint low h z l m =
     record { below = λ i o. omega (arith, ranks-rise d k (h .keys) i (hint - 1) (omega arith) (omega arith)) }
@@ -48,7 +48,7 @@ module _ (a : List ℤ) (n k p : ℕ) (h : Held a n) (q : Place a k p) where
       go true d (inr l) = absurd (hit (absent a (h .shape) k p q (λ m x. omega (arith, h .count-is))))
       go false d s = absurd (hit (absent a (h .shape) k p q (λ m. eqb-false (keyAt a p) k d)))
 
--- the base's data, where there is any, is as long
+-- the base's data, if there is any, is as long
 module _ (o : Option (List ℤ)) (v : List ℤ) where
   pub none-agrees : isSome o ≡ false → true ≡ agree o v
   none-agrees e = go o e

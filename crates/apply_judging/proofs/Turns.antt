@@ -28,7 +28,7 @@ use Rattle.apply_judging.specs.declared.checked.Judged.the-variants as j
 
 -- ---- the updates
 
--- n updates from place p on, of a table of so many items and ints, come to the whole
+-- judging n updates from place p on, for a table of so many items and ints, gives the whole judgement
 pub record Judging (g : List ℕ) (b : Table) (d : List ℤ) (whole : Judged) (p left items ints : ℕ) : Type 0 where
   pub lie : Updates [] d p left
   pub same : judgeUpdates g b (updates [] d p left) items ints ≡ whole
@@ -132,7 +132,7 @@ module _ (a : List ℤ) (nb : ℕ) (h : Held a nb) (d : List ℤ) (k u : ℕ) (f
       let q : 2 + n + w ≡ length (written (kept (deletedOf d k) (items a))) = omega (arith, en, ew, length-written (kept (deletedOf d k) (items a))) in
       rw (← (f .deleted-is), ← (f .updated-is), ← q, ← en) e
 
-  -- a deleted key is unknown where not so many were found
+  -- a deleted key is unknown if fewer were found
   pub unknown-told : not (eqb (n + k) nb) ≡ hasUnknown (items a) (deltaIn [] d)
   unknown-told = rw (← (f .deleted-is), length-list (deletedAt d) k, ← en, length-items a (h .shape), ← (h .count-is))
 

@@ -1,4 +1,4 @@
--- What each answer of applying a delta comes to. Assumes nothing.
+-- The meaning of each answer of applying a delta. Assumes nothing.
 use Prim.Native.Nat.{ℕ, _<_, _≤_}
 use mathlib.Core.Path.{_≡_, refl, sym, ap, ap₂, _∙_, subst}
 use mathlib.Core.Bool.{Bool, true, false}
@@ -63,7 +63,7 @@ module _ (base : List ℤ) (nb : ℕ) (hb : Held base nb) (delta : List ℤ) (k 
   abbrev table : Table
   table = appliedTable (items base) (deltaIn [] delta)
 
-  -- applying comes to the judgement
+  -- applying gives the judgement
   comes : (applyDelta (items base) (deltaIn [] delta) ≡ after (unknownCounts unknown) (judgedAs (judgedOf j) table)) × SizesOf (judgedOf j) table
   unfolding inOrder
   comes =

@@ -57,7 +57,7 @@ unfolding stored
 sums-laid o v part part′ r e l q =
     sym (ap (λ (w : Wrote ℕ ℤ). w .out) (rw (e, le-leb (length (sums o v)) (length part) (omega (arith, length-sums o v e))) at q))
 
--- an item with its key's bits is written where the key is
+-- an item with its key's bits is written at the key's place
 pub item-written : (n m w : ℕ) (key : ℤ) (v : List ℤ) (o o₂ o₃ : List ℤ) → SFits w32 key → RoomOne n (length o) m w (length v) → o₂ ≡ set (set o (2 + m) (pos (4 * (w - (2 + n))))) w key → o₃ ≡ layAt (w + 1) v o₂ → o₃ ≡ wrote n o m w (item (bits key) v ∷ [])
 item-written n m w key v o o₂ o₃ s r e f =
     wrote-one n m w (item (bits key) v) o (set o (2 + m) (pos (4 * (w - (2 + n))))) o₂ o₃ (omega (arith, r .few, r .behind, r .room)) (omega (arith, r .room)) refl

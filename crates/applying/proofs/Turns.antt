@@ -73,7 +73,7 @@ run-none : (f : ℕ → Item) (i to : ℕ) → to ≤ i → run f i (to - i) ≡
 unfolding run
 run-none f i to l = let e : to - i ≡ 0 = omega arith in ap (run f i) e
 
--- nothing is left behind the last item and the last update
+-- nothing is left after the last item and the last update
 pub nothing-left : (base : List ℤ) (to : ℕ) (delta : List ℤ) (deleted : ℕ) (s : Merge) → to ≤ s .item → s .left ≤ 0 → restOf base to delta deleted s ≡ []
 unfolding restOf
 nothing-left base to delta deleted s l m =
@@ -85,7 +85,7 @@ find-own a n i h l =
     let c = h .count-is in
     present a (h .shape) (keyAt a i) i (own-place a (h .shape) (keyAt a i) i (omega arith) refl) (omega arith) refl
 
--- how many ints an item takes behind the offsets
+-- how many ints an item takes after the offsets
 long-one : (x : Item) → length (body (x ∷ [])) ≡ 1 + length (x .values)
 unfolding body
 long-one x = omega (arith, length-append (x .values) [])
@@ -151,7 +151,7 @@ module _ {base : List ℤ} {nb to : ℕ} {delta : List ℤ} {deleted n : ℕ} (o
     pub update-here : Update [] delta (s .update)
     update-here = first-update (g .lie) m
 
-    -- it is as long as the base's data, and so are those behind it
+    -- it is as long as the base's data, and so are those after it
     agrees : (agree (find (u .key) (items base)) (u .values) ≡ true) × (alike (items base) (updates [] delta (updateEnd [] delta (s .update)) (s .left - 1)) ≡ true)
     unfolding alike
     agrees = both (agree (find (u .key) (items base)) (u .values)) _ (rw (updates-cons delta (s .update) (s .left) m) at (g .same-long))

@@ -1,4 +1,4 @@
--- When two ticks, two receivers and two stores are the same. Assumes nothing.
+-- When two ticks, two receivers and two stores are equal. Assumes nothing.
 use mathlib.Core.Path.{_≡_, refl, sym, ap, _∙_}
 use mathlib.Core.Bool.{Bool, true, false}
 use mathlib.Core.Option.{Option, some, none}

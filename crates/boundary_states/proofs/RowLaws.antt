@@ -44,7 +44,7 @@ ticks-written r c e p t d k a b = rw (p, t, d, k, a, b, ← e) (refl, refl)
 pub storage-written : (s : Storage) {x y : ℤ} {a b : ℕ} → x ≡ tickOrZero (tickOf (s .«ack_tick»)) → y ≡ tickOrZero (tickOf (s .«delta_tick»)) → a ≡ isThere (tickOf (s .«ack_tick»)) → b ≡ isThere (tickOf (s .«delta_tick»)) → ((x ∷ y ∷ []) ≡ storeTicks (storeOf s)) × ((s .count ∷ a ∷ b ∷ []) ≡ storeCounts (storeOf s))
 storage-written s x y a b = rw (x, y, a, b) (refl, refl)
 
--- ---- rows that are written where they held another store
+-- ---- rows that are written if they held another store
 
 module _ (s b : Storage) {r : Bool} (ticks₀ : List ℤ) (counts₀ : List ℕ) (l : storeOf b ≡ heldStore ticks₀ counts₀) (c : Compares (storeOf b) (storeOf s) r) where
   pub storage-left : r ≡ true → SavedStore (storeOf s) ticks₀ counts₀ ticks₀ counts₀
@@ -57,7 +57,7 @@ module _ (s b : Storage) {r : Bool} (ticks₀ : List ℤ) (counts₀ : List ℕ)
       record { holds = store-rows (storeOf s) p q; left = λ e. absurd (not-both f (c .told (l ∙ e))); written = λ _. (p, q) }
 
 module _ (r b : DeltaReceiver) (ticks₀ : List ℤ) (counts₀ lengths₀ : List ℕ) (l : receiverOf b ≡ heldReceiver ticks₀ counts₀ lengths₀) {t : Bool} (c : Compares (ticksOf (receiverOf b)) (ticksOf (receiverOf r)) t) where
-  -- the ticks are left
+  -- the ticks are unchanged
   pub receiver-left : t ≡ true → SavedReceiver (receiverOf r) ticks₀ counts₀ lengths₀ ticks₀ counts₀ (r .parts)
   receiver-left e =
       let h = ap ticksOf (sym l) ∙ c .same e in

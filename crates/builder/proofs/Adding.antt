@@ -1,4 +1,4 @@
--- What adding items to a builder's table comes to, and what an area holds after the first of two. Assumes nothing.
+-- The results of adding items to a builder's table, and what an area holds after the first of two. Assumes nothing.
 use mathlib.Core.Path.{_≡_, refl, sym, ap, _∙_}
 use mathlib.Core.Bool.{Bool, true, false}
 use mathlib.Core.List.{List, [], _∷_}
@@ -51,7 +51,7 @@ no-room-is a u q = rw q
 -- ---- an item that was added
 
 module _ (a : List ℤ) (i : Item) (t : Table) where
-  -- the item was added, and m ints were laid over the area
+  -- the item was added, and m ints were written over the area
   pub record Added (m : ℕ) (l : List ℤ) : Type 0 where
     pub adds : addItem i t ≡ return (insert i t)
     pub fits : length (written (insert i t)) ≤ length a
@@ -125,7 +125,7 @@ module _ (a : List ℤ) (id : ℕ) (v : List ℤ) where
     abbrev named : Outcome Table
     named = addItem (itemOf 0 (nextKind t) k) t
 
-    -- what then becomes of the other
+    -- the result of the other item then
     abbrev other : List ℤ → Wrote ℕ ℤ
     other c = addTo c (withKind t (nextKind t) k) (nextKind t) id v
 

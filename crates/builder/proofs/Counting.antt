@@ -46,7 +46,7 @@ module _ (f : ℕ → Item) where
       (rw e (r .0), rw e (omega (arith, r .1)))
 
   module _ (n j : ℕ) where
-    -- what is left, where the kinds so far run
+    -- what is left, if the kinds so far run
     pub record Left : Type 0 where
       pub few : j ≤ n
       pub run : kindsRun 16384 (seg f 0 n) ≡ kindsRun (16384 + j) (seg f j (n - j))
@@ -100,7 +100,7 @@ module _ (a : List ℤ) (n : ℕ) (h : Held a n) where
         in-table n (record { run = λ x. (l .run ∙ p .0, omega (arith, l .kinds, p .1)); gap = λ x. absurd (omega (arith, h .shape .few, h .count-is)) })
 
     module _ (b : j < n) where
-      -- item j is not of type 0, nor is one behind it
+      -- item j is not of type 0, nor is one after it
       pub ended : 65536 ≤ keyAt a j → Runs (items a) j
       ended k =
           let p = plain-run (itemAt a) (16384 + j) j (n - j) (λ i x y. omega (arith, keys-le a (h .shape) j i x (omega (arith, h .count-is)))) in

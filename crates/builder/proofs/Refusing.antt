@@ -1,4 +1,4 @@
--- Why an item is refused where an area has no room for it, and what its refusal tells. Assumes nothing.
+-- Why an item is refused if an area has no room for it, and what its refusal says. Assumes nothing.
 use mathlib.Core.Path.{_≡_, refl, sym, ap, _∙_}
 use mathlib.Core.Bool.{Bool, true, false, not}
 use mathlib.Core.List.{List, [], _∷_}
@@ -56,7 +56,7 @@ module _ (a : List ℤ) (t : Table) (i : Item) (n ints d : ℕ) (h : NoRoom a t 
     refused-40 l =
         rw (h .fresh, lt-ltb (length t) 1024 (omega (arith, h .count-is)), le-leb (length (written (insert i t))) 16384 (omega (arith, long)), lt-leb (length (written (insert i t))) (length a) (omega (arith, long, h .lacks)))
 
--- ---- what a refusal tells
+-- ---- what a refusal says
 
 -- the number of one
 number-of : {A : Type 0} {m n : ℕ} {v w : Counts} → _≡_ {A = Outcome A} (err m v) (err n w) → m ≡ n

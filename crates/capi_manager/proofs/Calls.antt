@@ -1,4 +1,4 @@
--- What C sees, from a message whose step is known. Assumes nothing.
+-- What C sees, given a message with a known step. Assumes nothing.
 use mathlib.Core.Path.{_≡_, refl, sym, ap, _∙_}
 use mathlib.Core.List.{List}
 use Prim.Native.Nat.{ℕ}
@@ -32,7 +32,7 @@ module _ (a : Handled) where
   pub tells-refused : {x : Error} → a ≡ handled.Refused x → (r taken₀ : ℕ) (ack₀ : ℤ) → r ≡ number x → Tells a taken₀ ack₀ taken₀ ack₀ r
   tells-refused e r taken₀ ack₀ p = rw (e, p) (record { number-is = λ w. refl; taken-is = λ w. refl; ack-is = λ w. refl })
 
--- the warnings beside an answer
+-- the warnings of an answer
 warned : (a : Handled) (w : Counts) → warningsOf (handledWith a w) ≡ w
 warned (handled.Tick t) w = refl
 warned handled.NotYet w = refl
@@ -51,7 +51,7 @@ empty-named t d = rw (t, d) refl
 
 -- ---- the step
 
--- a message by other names of the receiver, the store and its numbers
+-- a message with an equal receiver, store and numbers
 pub moved : {r r′ : Receiver} {s s′ : Store} {m m′ : SnapMsg} (sizes : List ℤ) (bytes parts joined : List ℕ) (delta area : List ℤ) (n : ℕ) {o : ManagerStep} → r ≡ r′ → s ≡ s′ → m ≡ m′ → messageCall sizes r s (record { numbers = m; bytes = bytes }) parts joined delta area n ≡ o → messageCall sizes r′ s′ (record { numbers = m′; bytes = bytes }) parts joined delta area n ≡ o
 moved sizes bytes parts joined delta area n p q t e = rw (p, q, t) at e
 

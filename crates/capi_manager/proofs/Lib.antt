@@ -1,2 +1,2 @@
--- What C sees, from a message whose step is known. Assumes nothing.
+-- What C sees, given a message with a known step. Assumes nothing.
 pub mod Calls

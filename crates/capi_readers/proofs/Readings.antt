@@ -26,7 +26,7 @@ module _ {A : Type 0} (o : Outcome IntAt) (entries : List A) (a : ReaderAnswer) 
     empty-is = set .1 .1 ∙ ap flag (h .empty-is) ∙ ap (λ (n : ℕ). flag (leb (length entries) n)) (sym (set .0));
   }
 
-  -- the entries ended: the refusal, and value is as it was
+  -- the entries ended: the refusal, and value is unchanged
   pub refused : a .read ≡ End → (r : ℕ) (value : ℤ) → r ≡ unexpectedEnd → (r ≡ status o) × ((value ≡ output (λ (x : IntAt). x .value) value o) × Stands o entries m k f)
   refused told r value p = let e = h .read-is ∙ ap intRead told in (rw (e, p) refl, (rw e refl, stands))
 

@@ -1,4 +1,4 @@
--- What the outputs hold, from a call that is known. Assumes nothing.
+-- What the outputs hold, given a known call. Assumes nothing.
 use mathlib.Core.Path.{_≡_, refl}
 use mathlib.Core.List.{List, [], _∷_}
 use mathlib.Core.Option.{Option, some, none}
@@ -41,12 +41,12 @@ module _ (m : SnapMsg) where
 
 -- ---- a message
 
--- a message by other names of its numbers
+-- a message with equal numbers
 pub chunk-moved : {t′ d′ k′ t d k : ℤ} (x : List ℕ) (i : ℕ) (c : Chunk) → t′ ≡ t → d′ ≡ d → k′ ≡ k → chunkCall t′ d′ x k′ i ≡ chunkOf c (bytesOf (chunkCall t′ d′ x k′ i)) → chunkCall t d x k i ≡ chunkOf c (bytesOf (chunkCall t d x k i))
 chunk-moved x i c p q s e = rw (p, q, s) at e
 
 module _ (o : Outcome (Option Message)) where
-  -- what stands behind the pointers
+  -- the values of the outputs
   abbrev pub Chunked : (r kind₀ kind : ℕ) (row₀ row : List ℤ) (len₀ len : ℕ) → Type 0
   Chunked r kind₀ kind row₀ row len₀ len =
       (r ≡ status o)
@@ -65,7 +65,7 @@ module _ (o : Outcome (Option Message)) where
 -- ---- what a message brought
 
 module _ (a : Received) where
-  -- what stands behind the pointers
+  -- the values of the outputs
   abbrev pub Tells : (r kind₀ kind : ℕ) (row₀ row : List ℤ) (len₀ len : ℕ) → Type 0
   Tells r kind₀ kind row₀ row len₀ len =
       ((w : Counts) → r ≡ status (receivedWith a w))
@@ -111,7 +111,7 @@ rows-written t (received.Delta x d k c) w ticks₀ ticks counts₀ counts p h = 
 rows-written t (received.Empty x d) w ticks₀ ticks counts₀ counts p h = h
 rows-written t (received.Refused e) w ticks₀ ticks counts₀ counts p h = absurd (not-zero e p)
 
--- the warnings beside an answer
+-- the warnings of an answer
 warned : (a : Received) (w : Counts) → warningsOf (receivedWith a w) ≡ w
 warned received.NotYet w = refl
 warned (received.Delta t d n k) w = refl

@@ -1,3 +1,3 @@
--- What the outputs hold, from a call that is known. Assumes nothing.
+-- What the outputs hold, given a known call. Assumes nothing.
 pub mod Numbers
 pub mod Calls

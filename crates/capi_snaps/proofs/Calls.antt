@@ -1,4 +1,4 @@
--- What the outputs hold, from a call on types that is known. Assumes nothing.
+-- What the outputs hold, given a known call on types. Assumes nothing.
 use mathlib.Core.Path.{_≡_, refl}
 use mathlib.Core.List.{List, [], _∷_}
 use mathlib.Core.Option.{Option, some, none}
@@ -22,7 +22,7 @@ kind-in (suc n) ordinal uuid f a b c d = rw (a, b, c, d) refl
 -- ---- a raw type
 
 module _ (o : Outcome (Option ℕ)) where
-  -- what stands behind the pointers
+  -- the values of the outputs
   abbrev pub RawTells : (r known₀ known raw₀ raw : ℕ) → Type 0
   RawTells r known₀ known raw₀ raw =
       (r ≡ status o) × ((known ≡ output isKnown known₀ o) × (raw ≡ output (rawOr raw₀) raw₀ o))
@@ -39,7 +39,7 @@ module _ (o : Outcome (Option ℕ)) where
 -- ---- a type that was found
 
 module _ (o : Outcome (Option TypeId)) where
-  -- what stands behind the pointers
+  -- the values of the outputs
   abbrev pub TypeTells : (r kind₀ kind ordinal₀ ordinal : ℕ) (uuid₀ uuid : List ℤ) → Type 0
   TypeTells r kind₀ kind ordinal₀ ordinal uuid₀ uuid =
       (r ≡ status o)

@@ -1,4 +1,4 @@
--- What C sees, from a call that is known. Assumes nothing.
+-- What C sees, given a known call. Assumes nothing.
 use mathlib.Core.Path.{_≡_, refl, sym, _∙_}
 use mathlib.Core.List.{List}
 use mathlib.Core.Option.{Option}
@@ -25,7 +25,7 @@ use Rattle.storage.specs.declared.Added.{Added}
 use Rattle.storage.specs.declared.Added.the-variants as added
 use Rattle.capi_storage.specs.Told.{Told, ToldAdded, Beside, Names, clashOr}
 
--- ---- calls by other names of the store and the numbers
+-- ---- calls with an equal store and equal numbers
 
 pub set-moved : {s h : Store} {t′ t : ℤ} (area : List ℤ) {o : StoreStep (Unit {0})} → s ≡ h → t′ ≡ t → setDeltaTickCall s area t′ ≡ o → setDeltaTickCall h area t ≡ o
 set-moved area p q e = rw (p, q) at e
@@ -62,10 +62,10 @@ pub taken-warned : (a : Taken) (w : Counts) → warningsOf (takenWith a w) ≡ w
 taken-warned (taken.Tick t) w = refl
 taken-warned (taken.Refused x) w = refl
 
--- ---- a table that is added
+-- ---- adding a table
 
 module _ (a : Added) where
-  -- what stands behind the pointers
+  -- the values of the outputs
   abbrev pub Tells : (r : ℕ) (base₀ base : ℤ) (count₀ count : ℕ) (clash₀ clash : ℤ) → Type 0
   Tells r base₀ base count₀ count clash₀ clash =
       (r ≡ status (addedIn a))

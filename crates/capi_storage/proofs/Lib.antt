@@ -1,2 +1,2 @@
--- What C sees, from a call that is known. Assumes nothing.
+-- What C sees, given a known call. Assumes nothing.
 pub mod Calls

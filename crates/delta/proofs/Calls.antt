@@ -1,4 +1,4 @@
--- What each call on deltas comes to, by what was found in the areas. Assumes nothing.
+-- The result of each call on deltas, by what was found in the areas. Assumes nothing.
 use Prim.Native.Nat.{ℕ, _<_, _≤_}
 use mathlib.Core.Path.{_≡_, ap, _∙_}
 use mathlib.Core.Bool.{true, false}

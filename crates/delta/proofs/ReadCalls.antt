@@ -1,4 +1,4 @@
--- What the calls that read a delta come to, with all their warnings. Assumes nothing.
+-- The results of the calls that read a delta, with all their warnings. Assumes nothing.
 use mathlib.Core.Path.{_≡_, refl, sym, ap, ap₂, _∙_}
 use mathlib.Core.Bool.{true, false}
 use mathlib.Core.List.{List, [], _∷_}
@@ -79,21 +79,21 @@ module _ (src : List ℕ) (sizes out : List ℤ) (scratch : ℕ) where
 
 -- ---- in any order
 
--- what stands at a source's front
+-- the front of a source
 from-ints : (b : List ℕ) (l : List ℤ) → from (source false b l) 0 ≡ intStream l
 unfolding from
 from-ints b l = refl
 
--- the same of packed bytes
+-- the same for packed bytes
 from-bytes : (b : List ℕ) (l : List ℤ) → from (source true b l) 0 ≡ stream b
 unfolding from
 from-bytes b l = refl
 
--- an area that was left as it was
+-- an area that is unchanged
 pub any-ints : (b : List ℕ) (src sizes out before : List ℤ) (x : Wrote ℕ ℤ) → before ≡ out → storedDelta before (readDelta sizes (from (source false b src) 0)) ≡ x → storedDelta out (readDelta sizes (intStream src)) ≡ x
 any-ints b src sizes out before x e h = ap₂ (λ (a : List ℤ) (s : Stream). storedDelta a (readDelta sizes s)) (sym e) (sym (from-ints b src)) ∙ h
 
--- the same of packed bytes
+-- the same for packed bytes
 pub any-bytes : (src : List ℕ) (l sizes out before : List ℤ) (x : Wrote ℕ ℤ) → before ≡ out → storedDelta before (readDelta sizes (from (source true src l) 0)) ≡ x → storedDelta out (readDelta sizes (stream src)) ≡ x
 any-bytes src l sizes out before x e h = ap₂ (λ (a : List ℤ) (s : Stream). storedDelta a (readDelta sizes s)) (sym e) (sym (from-bytes src l)) ∙ h
 
@@ -125,7 +125,7 @@ module _ (sizes src out last : List ℤ) (a : Stored) (n : ℕ) (r : OrderedRead
   pub ordered-ints : (w : Counts) → w ≡ deltaCounts 0 0 false false 0 n false → storedDelta out (readDelta sizes (intStream src)) ≡ record { answer = storedWith a w; out = last }
   ordered-ints w q = one-pass (intStream src) 0 0 w (ints-intStream src) (not-cut src) (no-warnings src) q
 
--- what one pass over the bytes tells: their ints stand at the front of scratch
+-- what one pass over the bytes returns: their ints are at the front of scratch
 scanned-ints : (src : List ℕ) (before after : List ℤ) (t : Totals) → length src ≤ length before → Scanned (stream src) before t after → take (t .count) after ≡ ints (stream src)
 scanned-ints src before after t h s =
     let all = ints (stream src) in

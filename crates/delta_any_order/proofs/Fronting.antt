@@ -1,4 +1,4 @@
--- What header and keys tell of the front of a delta, and what is told of its keys and updates. Assumes nothing.
+-- What header and keys say of the front of a delta, and its keys and updates. Assumes nothing.
 use mathlib.Core.Path.{_≡_, refl, sym, ap, ap₂, _∙_}
 use mathlib.Core.Bool.{Bool}
 use mathlib.Core.List.{List, _∷_}
@@ -66,7 +66,7 @@ fronting {s} {k} {u} {keys} {first} {o} {p} {o2} {p2} {odd} (Source.delta e b) (
 pub header-inside : {s : Source} {k u keys o p : ℕ} {odd : Bool} → Headers s (header.Delta k u odd keys o p) → keys ≤ size s
 header-inside (Source.delta e b) = b
 
--- where they are not all there, sums stay small
+-- if they are not all there, sums stay small
 pub short-most : {s : Source} {k u keys o p o2 p2 : ℕ} {odd : Bool} → Headers s (header.Delta k u odd keys o p) → Skips s keys k (skip.Short o2 p2) → (o + o2 ≤ 2 * size s) × (p + p2 ≤ 2 * size s)
 short-most h m =
     let bh = counted-most (header-counted h) in
@@ -98,10 +98,10 @@ module _ {s : Source} {sizes : List ℤ} {keys k first n : ℕ} {values others :
   pub same-items : Told s sizes keys k first n values items → Told s sizes keys k first n others more → items ≡ more
   same-items t u = items-same refl (t .itemsRead) (u .itemsRead) (t .count ∙ sym (u .count))
 
--- ---- keys and updates are told
+-- ---- keys and updates
 
 module _ {s : Source} {sizes : List ℤ} {f : Front} {j : Judged} (F : Fronts s f) (J : Judges s sizes (f .first) j) where
-  -- keys and updates stand where they were read
+  -- keys and updates are where they were read
   pub told : Told s sizes (f .keys) (f .deleted) (f .first) (j .updates) (F .values) (J .items)
   told =
       record {

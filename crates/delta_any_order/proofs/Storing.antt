@@ -36,7 +36,7 @@ header-laid out o1 o2 o3 a b c h e1 e2 e3 = e3 ∙ rw (e2, e1) (go out h)
     go (x ∷ y ∷ []) h = absurd (omega arith)
     go (x ∷ y ∷ z ∷ l) h = refl
 
--- ---- stored, or refused for want of room
+-- ---- stored, or refused for lack of room
 
 module _ (out values : List ℤ) (items : List Item) (k room : ℕ) (w : Counts) (ek : length values ≡ k) (er : room ≡ length (updatesInts [] items)) where
   -- the keys that go
@@ -59,7 +59,7 @@ module _ (out values : List ℤ) (items : List Item) (k room : ℕ) (w : Counts)
     pub whole-fits : 3 + length (orderedKeys deleted) + length (updatesInts [] (orderedUpdates items)) ≤ length out
     whole-fits = omega (arith, few-deleted values, length-orderedUpdates items)
 
-    -- the same of its length
+    -- the same for its length
     whole-short : length whole ≤ length out
     whole-short = omega (arith, length-deltaInts [] (deltaRead deleted items .delta), whole-fits)
 
@@ -78,7 +78,7 @@ module _ (out values : List ℤ) (items : List Item) (k room : ℕ) (w : Counts)
       unfolding deltaInts
       laid-is = e2 ∙ (ap (layAt 3 (map fromBits (orderedKeys deleted) ++ updatesInts [] (orderedUpdates items))) e1 ∙ sym (layAt-append 0 (pos (length (orderedKeys deleted)) ∷ pos (length (orderedUpdates items)) ∷ pos 0 ∷ []) (map fromBits (orderedKeys deleted) ++ updatesInts [] (orderedUpdates items)) out))
 
-      -- the updates stand behind the keys
+      -- the updates are after the keys
       pub updates-laid : Laid o2 (3 + length (orderedKeys deleted)) (length (orderedUpdates items)) (length whole)
       unfolding deltaInts
       updates-laid =

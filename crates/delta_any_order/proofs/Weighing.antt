@@ -1,4 +1,4 @@
--- A delta that was weighed: refused for want of room, or written. Assumes nothing.
+-- A delta that was weighed: refused for lack of room, or written. Assumes nothing.
 use mathlib.Core.Path.{_≡_, ap, _∙_, subst}
 use mathlib.Core.List.{List, [], _∷_, _++_, map}
 use Prim.Native.Nat.{ℕ, _+_, _≤_, _<_, _^_}
@@ -30,12 +30,12 @@ module _ {s : Source} {sizes : List ℤ} {f : Front} {n room : ℕ} {t : Tally} 
   few-counts h =
       (omega (arith, W .tallied .deleted-is, few-deleted (W .values), W .key-count, W .few-keys), omega (arith, W .few-updates, W .more-room, W .few-room))
 
-  -- what holds of the keys and the updates that were weighed holds of all that are told
+  -- what holds of the keys and the updates that were weighed holds of all such keys and updates
   settled : (P : List ℤ → List Item → Type 0) → P (W .values) (W .items) → (values : List ℤ) (items : List Item) → Told s sizes (f .keys) (f .deleted) (f .first) n values items → P values items
   settled P h values items T = subst (λ (v : List ℤ). P v items) (same-values (W .told) T) (subst (P (W .values)) (same-items (W .told) T) h)
 
   module _ (out : List ℤ) where
-    -- what storing comes to
+    -- the result of storing
     abbrev Comes : Outcome ℕ → List ℤ → Counts → List ℤ → List Item → Type 0
     Comes a last w values items = storedDelta out (ok (deltaRead (map bits values) items) w) ≡ record { answer = a; out = last }
 
@@ -49,7 +49,7 @@ module _ {s : Source} {sizes : List ℤ} {f : Front} {n room : ℕ} {t : Tally} 
       abbrev Fits : List ℤ → List Item → Type 0
       Fits values items = (t .deleted ≡ length (orderedKeys (map bits values))) × (3 + t .deleted + length (updatesInts [] (orderedUpdates items)) ≤ length o1)
 
-      -- so it is of all that are told
+      -- the same for all such keys and updates
       pub weighed-room : (values : List ℤ) (items : List Item) → Told s sizes (f .keys) (f .deleted) (f .first) n values items → (t .deleted ≡ length (orderedKeys (map bits values))) × (3 + t .deleted + length (updatesInts [] (orderedUpdates items)) ≤ length o1)
       weighed-room =
           settled Fits

@@ -1,4 +1,4 @@
--- A delta behind its front: what it is read as, and how that is stored. Assumes nothing.
+-- A delta after its front: what it is read as, and how that is stored. Assumes nothing.
 use mathlib.Core.Path.{_≡_, refl, sym, ap, _∙_}
 use mathlib.Core.Bool.{Bool, false, not}
 use mathlib.Core.List.{List, [], map}
@@ -36,7 +36,7 @@ use Rattle.delta_any_order.specs.declared.checked.Front.{Front}
 use Rattle.delta_any_order.specs.OrderLaws.{length-bits}
 use Rattle.delta_any_order.proofs.Fronting.{told}
 
--- a refused reading leaves the area as it was
+-- a refused reading leaves the area unchanged
 pub refused-stored : (out : List ℤ) (n : ℕ) (w : Counts) → storedDelta out (err n w) ≡ record { answer = err n w; out = out }
 unfolding storedDelta stored
 refused-stored out n w = refl

@@ -1,4 +1,4 @@
--- What the calls that cut some bytes into messages come to, by the length of the bytes. Assumes nothing.
+-- The results of the calls that cut some bytes into messages, by the length of the bytes. Assumes nothing.
 use mathlib.Core.Path.{_≡_, refl, sym, ap, _∙_}
 use mathlib.Core.List.{List, [], _∷_}
 use mathlib.Core.Option.{some, none}
@@ -67,7 +67,7 @@ module _ (tick base : ℤ) (x : List ℕ) (crc : ℤ) where
     is-part : (i : ℕ) → 900 < length x → i < numParts x → chunkCall tick base x crc i ≡ return (some (partMessage tick (wrappingSub tick base) x crc i))
     is-part i l k = within i ∙ ap return (nth-chunk tick base x crc i l k)
 
-    -- behind the only message
+    -- after the only message
     pub no-second : (i : ℕ) → length x ≤ 900 → (i ≡ 0 → ⊥) → chunkCall tick base x crc i ≡ return none
     no-second i k z = within i ∙ ap return (past i k (omega arith))
       where
@@ -80,7 +80,7 @@ module _ (tick base : ℤ) (x : List ℕ) (crc : ℤ) where
                 (λ (z : 1 ≤ length x). omega (arith, length-chunks tick base x crc z))
                 (below (length x) 1)
 
-    -- behind the last part
+    -- after the last part
     pub no-part : (i : ℕ) → 900 < length x → (length x + 900 - 1) / 900 ≤ i → chunkCall tick base x crc i ≡ return none
     no-part i l k =
         within i

@@ -1,4 +1,4 @@
--- Ints that rise already and end where they say: what reading them comes to. Assumes nothing.
+-- Reading ints that rise already and end where they say. Assumes nothing.
 use Prim.Native.Nat.{ℕ, _+_}
 use mathlib.Core.Path.{_≡_, ap, _∙_}
 use mathlib.Core.Bool.{false}

@@ -57,7 +57,7 @@ module _ (sizes a : List ℤ) where
     length-head : length (take (p + 2 - p) (drop p a)) ≡ 2
     length-head = simp (length-take, length-drop) (omega (arith, u .head))
 
-    -- where it has room, it is head, size and differences
+    -- if it has room, it is head, size and differences
     module _ (at : ℕ) (out o1 : List ℤ) (b1 : Bool) (h : at + length (one p) ≤ length out) (c1 : copyAt out at (take (p + 2 - p) (drop p a)) ≡ record { fits = b1; out = o1 }) where
       abbrev head : List ℤ
       head = take (p + 2 - p) (drop p a)

@@ -1,4 +1,4 @@
--- The whole delta of ints in form, with its sizes: what stands at the front, and then the updates. Assumes nothing.
+-- The whole delta of ints in form, with its sizes: its front, and then the updates. Assumes nothing.
 use Prim.Native.Nat.{ℕ, _+_, _*_, _<_, _≤_}
 use mathlib.Core.Path.{_≡_, refl, sym, ap, _∙_}
 use mathlib.Core.Bool.{Bool}
@@ -56,7 +56,7 @@ module _ (sizes a : List ℤ) (k u : ℕ) (h : HeldDelta sizes a k u) where
       stored-fits whole out none (omega (arith, whole-length))
       ∙ rw (whole-length, er, laid)
 
--- where no size is known and the delta is all of the ints, it is what stands there
+-- if no size is known and the delta is all of the ints, it equals them
 pub all-stands : (sizes a : List ℤ) (k u : ℕ) → HeldDelta sizes a k u → length a ≡ updatesEnd sizes a (3 + numDeleted a) (numUpdated a) → length sizes ≡ 0 → a ≡ writtenDelta (deltaIn sizes a)
 all-stands [] a k u h e z =
     sym (take-all (updatesEnd [] a (3 + numDeleted a) (numUpdated a)) a (omega (arith, e))) ∙ delta-stands [] a (h .shape)

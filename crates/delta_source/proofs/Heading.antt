@@ -51,7 +51,7 @@ module _ (s : Source) (at : ℕ) where
         (rw (e, ap nonNegative (as-count x h)) (ap (ok r) (plus-none (warned overlong padding) ∙ warned-packed overlong padding)))
         (at-most-one overlong) (at-most-one padding) b
 
--- the place behind a number
+-- the place after a number
 pub number-inside : {s : Source} {at n next o p : ℕ} → Numbers s at (number.Number n next o p) → (next ≤ size s) × (o ≤ 1) × (p ≤ 1)
 number-inside (Steps.some-number e a b c) = (c, a, b)
 

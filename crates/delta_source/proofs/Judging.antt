@@ -27,11 +27,11 @@ use Rattle.delta_source.specs.declared.checked.Judged.{Judged}
 pub update-on : {s : Source} {sizes : List ℤ} {at n d next o p : ℕ} {k : ℤ} → Updates s sizes at (update.Update k n d next o p) → at < next
 update-on (Source.update xs v l q e r m a b h) = omega arith
 
--- the place behind it
+-- the place after it
 update-place : (s : Source) (sizes : List ℤ) (at key : ℕ) (xs : List ℤ) {n d next : ℕ} → length xs ≡ n → d ≡ dataPlace s sizes at key → next ≡ behindInts s d n → next ≡ behindUpdate s sizes at (record { key = key; values = xs })
 update-place s sizes at key xs l e f = f ∙ ap₂ (behindInts s) e (sym l)
 
--- those walked so far, put before what is left, are the whole
+-- those walked so far, followed by what is left, are the whole
 pub record Judging (s : Source) (sizes : List ℤ) (start here : ℕ) (t : Judged) : Type 0 where
   pub inside : here ≤ size s
   pub few-updates : t .updates ≤ here

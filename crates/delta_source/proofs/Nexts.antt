@@ -98,6 +98,6 @@ module _ (src : List ℕ) (l : List ℤ) (at : ℕ) where
       (λ (h : length l ≤ at). le-leb (length l) at h ∙ sym (ap isEnd (int-past h)))
       (below at (length l))
 
--- the place behind an integer
+-- the place after an integer
 pub next-inside : {s : Source} {at next : ℕ} {x : ℤ} {o p : Bool} → Next s at (read.Int x next o p) → next ≤ size s
 next-inside (found e q a b) = b

@@ -35,7 +35,7 @@ use Rattle.delta_source.specs.declared.checked.Head.the-variants as head
 use Rattle.delta_source.specs.declared.checked.Skip.the-variants as skip
 use Rattle.delta_source.specs.declared.checked.Update.the-variants as update
 
--- an integer's warnings behind those so far
+-- an integer's warnings after those so far
 pub more-warned : (o p : ℕ) (overlong padding : Bool) → plus (packed o p) (warned overlong padding) ≡ packed (o + cond overlong 1 0) (p + cond padding 1 0)
 more-warned o p overlong padding = ap (plus (packed o p)) (warned-packed overlong padding)
 
@@ -58,7 +58,7 @@ unfolding num
 as-negative (pos n) m h = absurd (omega arith)
 as-negative (negsuc n) m h = refl
 
--- behind a size that is not known
+-- after a size that is not known
 size-place : (s : Source) (at type : ℕ) {next : ℕ} → next ≡ behind s at → next ≡ behindInts s at (sizeLength (knownSize [] type))
 size-place s at type {next} e = rw (known-absent [] type (omega arith)) (sym (behind-step s at 0 e ∙ behind-none s next))
 

@@ -1,4 +1,4 @@
--- Integers passed over or copied, one at a time. Assumes nothing.
+-- Integers skipped or copied, one at a time. Assumes nothing.
 use mathlib.Core.Path.{_≡_, refl, sym, ap, _∙_}
 use mathlib.Core.Bool.{Bool, true, false, cond}
 use mathlib.Core.List.{List, [], _∷_, _++_, append-assoc, append-nil}
@@ -26,9 +26,9 @@ use Rattle.delta_source.specs.Source.{Source, source, size, from, behind
 use Rattle.delta_source.specs.SourcePlaces.{behind-none, behind-step, behind-ints}
 use Rattle.delta_source.specs.declared.checked.Skip.the-variants as skip
 
--- ---- one integer more
+-- ---- one more integer
 
--- what is read behind some ints
+-- what is read after some ints
 abbrev pub prefixed : List ℤ → Counts → Outcome (Got (List ℤ)) → Outcome (Got (List ℤ))
 prefixed d w (ok g v) = ok (record { value = d ++ g .value; rest = g .rest }) (plus w v)
 prefixed d w (err n v) = err n (plus w v)
@@ -50,9 +50,9 @@ prefixed-twice a b v w (ok g u) =
     rw (append-assoc a b (g .value)) (ap (λ (c : Counts). ok (record { value = a ++ (b ++ g .value); rest = g .rest }) c) (sym (plus-assoc v w u)))
 prefixed-twice a b v w (err n u) = ap (err n) (sym (plus-assoc v w u))
 
--- ---- passing over
+-- ---- skipping
 
--- those passed over so far, put before what is left, are the whole
+-- those skipped so far, followed by what is left, are the whole
 pub record Skipping (s : Source) (start n at left o p : ℕ) : Type 0 where
   pub on : start ≤ at
   pub inside : at ≤ size s
@@ -107,7 +107,7 @@ module _ (s : Source) (start n : ℕ) where
         l : left ≡ suc (left - 1)
         l = omega arith
 
-    -- all are passed over
+    -- all are skipped
     pub skipped : Skipping s start n at left o p → left ≤ 0 → Skips s start n (skip.Past at o p)
     unfolding nextInts
     skipped i h = past (i .done) (omega (arith, i .long)) (λ refusal. i .joins refusal ∙ last refusal left h) (sym (ap (behindInts s at) all-past ∙ behind-none s at) ∙ i .place) (i .on) (i .inside)
@@ -165,7 +165,7 @@ module _ (b : List ℕ) (l : List ℤ) (at n : ℕ) where
 
 -- ---- copying
 
--- of the ints that are read, these are left to be laid
+-- of the ints that are read, these are left to be written
 pub record Left (s : Source) (at k i : ℕ) (out after : List ℤ) (rest : Stream) (refusal : ℕ) : Type 0 where
   pub ints : List ℤ
   pub warnings : Counts
@@ -177,7 +177,7 @@ pub record Copying (s : Source) (start n to : ℕ) (before out : List ℤ) (at i
   pub same : length out ≡ length before
   pub joins : (xs : List ℤ) (rest : Stream) (w : Counts) (refusal : ℕ) → nextInts refusal n (from s start) ≡ ok (record { value = xs; rest = rest }) w → Left s at (n - i) (to + i) out (layAt to xs before) rest refusal
 
--- of what is read behind one int, the rest
+-- of what is read after one int, the rest
 record Behind (o : Outcome (Got (List ℤ))) (x : ℤ) (ys : List ℤ) (rest : Stream) : Type 0 where
   ints : List ℤ
   warnings : Counts

@@ -1,4 +1,4 @@
--- The whole delta of an area, as ints or packed: what stands at the area's front, and then the updates. Assumes nothing.
+-- The whole delta of an area, as ints or packed: the front of the area, and then the updates. Assumes nothing.
 use Prim.Native.Nat.{ℕ, _+_, _*_, _<_, _≤_}
 use mathlib.Core.Path.{_≡_, refl, sym, ap, _∙_}
 use mathlib.Core.Bool.{Bool}
@@ -56,7 +56,7 @@ module _ (sizes a : List ℤ) (k u : ℕ) (h : HeldDelta [] a k u) where
   pub ints-within : 3 + k + length ups ≤ length a
   ints-within = omega (arith, length-written-updates sizes a (3 + k) u (h .updates), updates-end [] a (3 + k) u (h .room) (h .updates))
 
-  -- five bytes an int
+  -- five bytes for each int
   pub bytes-within : length (packInts (take (3 + k) a)) + length (packInts ups) ≤ 5 * length a
   bytes-within = omega (arith, length-packInts (take (3 + k) a), length-packInts ups, front-length, ints-within)
 

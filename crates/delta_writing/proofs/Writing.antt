@@ -16,7 +16,7 @@ use Rattle.laws.specs.PackLaws.{length-packInts, pack-append}
 use Rattle.laws.specs.DeltaWriting.{restInts, update-parts, written-within}
 use Rattle.ints.specs.Copies.{Copied, copyAt}
 
--- what n updates from place p on are written in, in a form that takes one list behind the other
+-- n updates from place p on, written in a form that concatenates lists
 abbrev pub formed : {E : Type 0} → (List ℤ → List E) → List ℤ → List ℤ → ℕ → ℕ → List E
 formed form sizes a p n = form (updatesInts sizes (updates [] a p n))
 
@@ -150,7 +150,7 @@ unfolding packInts
 packed-nothing = refl
 
 module _ (sizes a : List ℤ) (start n : ℕ) where
-  -- the packed form's length fits where the area's does
+  -- the packed form's length fits if the area's does
   pub packed-under : start ≤ length a → Updates [] a start n → length (packInts (updatesInts sizes (updates [] a start n))) ≤ 5 * length a
   packed-under l us = omega (arith, length-packInts (updatesInts sizes (updates [] a start n)), written-within sizes a start n l us)
 

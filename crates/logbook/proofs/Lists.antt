@@ -14,11 +14,11 @@ use Rattle.definitions.specs.DeltaReading.{elem}
 use Rattle.definitions.specs.Logbook.{allCame, hasTick, notBelow, lowest, without}
 use Rattle.logbook.specs.States.{partsIn, ticksIn}
 
--- one part more, the latest
+-- one more part, the latest
 pub part-more : (n : ℕ) (a : List ℕ) → partsIn (n + 1) a ≡ getD a n 0 ∷ partsIn n a
 part-more n a = rw (add-one n)
 
--- one tick more, the latest
+-- one more tick, the latest
 pub tick-more : (n : ℕ) (a : List ℤ) → ticksIn (n + 1) a ≡ getD a n (pos 0) ∷ ticksIn n a
 tick-more n a = rw (add-one n)
 
@@ -34,13 +34,13 @@ ticks-before zero k a x h = refl
 ticks-before (suc n) k a x h =
     ap₂ (λ (y : ℤ) (l : List ℤ). y ∷ l) (getD-set-other a k n x (pos 0) (λ z. omega arith)) (ticks-before n k a x (omega arith))
 
--- a part that is stored behind the others
+-- a part that is stored after the others
 pub part-stored : (n : ℕ) (a : List ℕ) (x : ℕ) → n < length a → partsIn (n + 1) (set a n x) ≡ x ∷ partsIn n a
 part-stored n a x h =
     part-more n (set a n x)
     ∙ ap₂ (λ (y : ℕ) (l : List ℕ). y ∷ l) (getD-set-same a n x 0 h) (parts-before n n a x (omega arith))
 
--- a tick that is stored behind the others
+-- a tick that is stored after the others
 pub tick-stored : (n : ℕ) (a : List ℤ) (x : ℤ) → n < length a → ticksIn (n + 1) (set a n x) ≡ x ∷ ticksIn n a
 tick-stored n a x h =
     tick-more n (set a n x)
@@ -51,7 +51,7 @@ pub ticks-count : (n : ℕ) (a : List ℤ) → length (ticksIn n a) ≡ n
 ticks-count zero a = refl
 ticks-count (suc n) a = ap suc (ticks-count n a)
 
--- one part more: whether it came, and all before it
+-- one more part: whether it came, and all before it
 pub all-turn :
     (n : ℕ)
     (l : List ℕ)
@@ -63,7 +63,7 @@ pub all-turn :
 unfolding allCame
 all-turn n l e g h = e ∙ ap₂ (λ (x y : Bool). x && y) g h ∙ ap (λ (k : ℕ). allCame k l) (sym (add-one n))
 
--- one tick more: whether it is the one that is looked for, or is among those before it
+-- one more tick: whether it is the one that is searched, or is among those before it
 pub has-turn :
     (t : ℤ)
     (a : List ℤ)
@@ -76,7 +76,7 @@ pub has-turn :
 unfolding hasTick
 has-turn t a i e g h = e ∙ ap₂ (λ (x y : Bool). x || y) g h ∙ ap (hasTick t) (sym (tick-more i a))
 
--- of the first i ticks of an area those that f leaves stand in the first places of another, which is as before from i on
+-- those of the first i ticks of an area that f keeps are in the first places of another, which is unchanged from i on
 pub record Keeps (f : List ℤ → List ℤ) (a₀ a : List ℤ) (kept i : ℕ) : Type 0 where
   pub stand : ticksIn kept a ≡ f (ticksIn i a₀)
   pub others : (j : ℕ) → i ≤ j → getD a j (pos 0) ≡ getD a₀ j (pos 0)
@@ -88,7 +88,7 @@ pub keeps-none : (f : List ℤ → List ℤ) (a : List ℤ) → f [] ≡ [] → 
 keeps-none f a e =
     record { stand = sym e; others = λ j h. refl; few = omega arith; long = refl }
 
--- a tick that f leaves out
+-- a tick that f drops
 pub keeps-less :
     {f : List ℤ → List ℤ}
     {a₀ a : List ℤ}
@@ -104,7 +104,7 @@ keeps-less {f} {a₀} {a} {kept} {i} k e =
       long = k .long;
     }
 
--- a tick that f leaves
+-- a tick that f keeps
 pub keeps-more :
     {f : List ℤ → List ℤ}
     {a₀ a : List ℤ}
@@ -127,7 +127,7 @@ keeps-more {f} {a₀} {a} {kept} {i} k h e =
       long = length-set a kept x ∙ k .long;
     }
 
--- a tick below another is left out, one that is not is left
+-- a tick below another is dropped, one that is not is kept
 pub below-out : (t x : ℤ) (l : List ℤ) → signedLess x t ≡ true → notBelow t (x ∷ l) ≡ notBelow t l
 unfolding notBelow
 below-out t x l e = rw e
@@ -136,7 +136,7 @@ pub below-left : (t x : ℤ) (l : List ℤ) → signedLess x t ≡ false → not
 unfolding notBelow
 below-left t x l e = rw e
 
--- a tick that is another is left out, one that is not is left
+-- a tick that equals another is dropped, one that does not is kept
 pub same-out : (t x : ℤ) (l : List ℤ) → same x t ≡ true → without t (x ∷ l) ≡ without t l
 unfolding without
 same-out t x l e = rw e

@@ -78,13 +78,13 @@ for-negative b held e = rw e
 pub for-base : {l : List ℤ} (b : ℤ) (held : List ℤ) → signedLess b (pos 0) ≡ false → l ≡ notBelow b held → l ≡ heldFor b held
 for-base b held e g = rw e g
 
--- a tick more, where there is room
+-- one more tick, if there is room
 pub holds-few : (n : ℕ) (a : List ℤ) (t : ℤ) → n < length a → n + 1 ≤ 100 → ticksIn (n + 1) (set a n t) ≡ holding t (ticksIn n a)
 holds-few n a t h g =
     let few : ltb 100 (length (t ∷ ticksIn n a)) ≡ false = ap (λ (k : ℕ). ltb 100 (suc k)) (ticks-count n a) ∙ le-ltb 100 (suc n) (omega (arith, g)) in
     rw few (tick-stored n a t h)
 
--- a tick more, and the lowest less
+-- one more tick, without the lowest
 pub holds-many :
     {l : List ℤ}
     (n : ℕ)

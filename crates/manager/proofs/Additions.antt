@@ -45,7 +45,7 @@ use Rattle.manager.proofs.WarningKinds.{ofReceiver, ofReading, ofStore,
 use Rattle.manager.proofs.StoreKinds.{add-told}
 use Rattle.manager.proofs.ReadStored.{Holding}
 
--- a store that stays as it is
+-- a store that is unchanged
 stays : {A : Type 0} (s : Store.Store) (area : List ℤ) (k : ℕ) → Holds s area k → (o : Outcome A) → Calls.laidOut area (record { answer = o; storage = holdsIn s area }) ≡ record { answer = o; store = s; area = area }
 stays s area k h o =
     ap₂ (λ (t : Store.Store) (a : List ℤ). record { answer = o; store = t; area = a }) (beside-is s area k h) (sym (h .held .stands .area-is))
@@ -130,7 +130,7 @@ module _ (a : Receiving) (s : Storage) (parts joined : List ℕ) (sizes delta ar
   Whole = With (a .answer)
 
   module _ (k : ℕ) (h : Holds (storeOf s) area k) where
-    -- the store stays
+    -- the store is unchanged
     stopped : (o : Outcome (Option ℤ)) → laidOut area (Manager.stopped o (answered a parts joined) (holdsIn (storeOf s) area) delta) ≡ record { answer = o; receiver = receiverOf (a .receiver); store = storeOf s; parts = parts; joined = joined; delta = delta; area = area }
     stopped o =
         ap (λ (y : Calls.StoreStep (Option ℤ)). record { answer = y .answer; receiver = receiverOf (a .receiver); store = y .store; parts = parts; joined = joined; delta = delta; area = y .area })

@@ -137,7 +137,7 @@ update-told sizes s p =
     then reading _ (head-told sizes s p) (λ h q.
     then reading _ (ints-told itemDiffsUnpacking (h .value .size) (h .rest) (q .1)) (λ l r. returns reading _ (q .0, r .1)))
 
--- the ints of what was read and of what is left are not more than there were
+-- the ints of what was read and of what is left are at most as many as before
 with-ints : {A : Type 0} {P : Got A → Type 0} {base : ℕ} {many : A → ℕ} {s : Stream} {o : Outcome (Got A)} → Told ofReading P o → Reads base many s o → Told ofReading (λ (g : Got A). P g × (many (g .value) + length (ints (g .rest)) ≤ base + length (ints s))) o
 with-ints (value p e) (got x y z) = value (p, z) e
 with-ints (refusal e) (refused x y) = refusal e
@@ -149,11 +149,11 @@ unfolding keysFit
 fit-more [] u e h = rw (lt-ltb (u .key) (2 ^ 32) h)
 fit-more (x ∷ l) u e h = let p = both (ltb (x .key) (2 ^ 32)) _ e in rw (p .0) (fit-more l u (p .1) h)
 
--- keys of 32 bits, and no more room than half as much again as ints
+-- keys of 32 bits, and room for at most one and a half times as many ints
 abbrev Few : ℕ → List Item → Type 0
 Few n l = (keysFit (keys l) ≡ true) × (2 * length (updatesInts [] l) ≤ n)
 
--- one update more
+-- one more update
 room-more : (l : List Item) (u : Item) (a b : ℕ) → 2 + length (u .values) + a ≤ 0 + b → 2 * length (updatesInts [] (l ++ u ∷ [])) + 3 * a ≤ 2 * length (updatesInts [] l) + 3 * b
 unfolding updatesInts
 room-more l u a b h = omega (arith, length-updates l (u ∷ []), length-update u, length-append (updateInts [] u) [])

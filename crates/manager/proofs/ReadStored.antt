@@ -61,7 +61,7 @@ empty-sound = returns reading emptyRead (record { in-order = in-order; room = ro
 
 -- ---- how reading ends
 
--- a delta laid over the front of an area, or the area as it was
+-- a delta written over the front of an area, or the area unchanged
 data Ends (delta : List ℤ) : Outcome Delta → Outcome ℕ → List ℤ → Type 0 where
   laid : {d : Delta} {w : Counts} {n : ℕ} {out : List ℤ} → out ≡ lay (writtenDelta d) delta → inOrder d ≡ true → length (writtenDelta d) ≤ length delta → length (writtenDelta d) < 2 ^ 32 → Ends delta (ok d w) (ok n w) out
   left : {n : ℕ} {w : Counts} {out : List ℤ} → out ≡ delta → Ends delta (err n w) (err n w) out

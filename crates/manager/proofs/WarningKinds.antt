@@ -72,7 +72,7 @@ storing = record { nothing = refl; both = λ v w e f. ap₂ plus e f }
 
 module _ {only : Counts → Counts} (c : Closed only) where
   module _ {A : Type 0} {P : A → Type 0} where
-    -- behind earlier warnings
+    -- after earlier warnings
     pub later : {o : Outcome A} (w : Counts) → w ≡ only w → Told only P o → Told only P (after w o)
     later w e (value {w = v} p f) = value p (c .both w v e f)
     later w e (refusal {w = v} f) = refusal (c .both w v e f)
@@ -81,12 +81,12 @@ module _ {only : Counts → Counts} (c : Closed only) where
     pub returns : (a : A) → P a → Told only P (return a)
     returns a p = value p (c .nothing)
 
-    -- behind a condition
+    -- after a condition
     pub given : {o : Outcome A} (b : Bool) (n : ℕ) → (b ≡ true → Told only P o) → Told only P (require b n >> o)
     given true n h = later Warnings.none (c .nothing) (h refl)
     given false n h = refusal (c .nothing)
 
-    -- behind a warning of one of the kinds
+    -- after a warning of one of the kinds
     pub warns : {o : Outcome A} (b : Bool) (k : Warning) → one k ≡ only (one k) → Told only P o → Told only P (warnIf b k >> o)
     warns true k e h = later (one k) e h
     warns false k e h = later Warnings.none (c .nothing) h

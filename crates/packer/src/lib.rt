@@ -27,14 +27,14 @@ pub mod checked;
 pub mod places;
 mod readers;
 
-// The readers, and the answers for a caller that holds no reader.
+// The readers, and what they answer to callers that hold none.
 pub use readers::IntUnpacker;
 pub use readers::ReaderAnswer;
 pub use readers::Unpacker;
 pub use readers::read_bytes;
 pub use readers::read_ints;
 
-// The integer at a place: its value, the place after it and whether it has each warning; or the bytes end inside it.
+// What stands at a place: an int with the place after it and whether it has each warning; or the bytes end inside it.
 pub enum IntRead {
     Int {
         value: i32,
@@ -51,7 +51,7 @@ pub enum IntWrite {
     Refused(Error),
 }
 
-// How many ints were unpacked and whether the last integer was cut off, or why nothing was unpacked.
+// How many ints were unpacked and whether the last one of the bytes was cut, or why nothing was.
 pub enum IntsRead {
     Ints { count: usize, cut: bool },
     Refused(Error),
@@ -62,7 +62,7 @@ pub struct Unpacked {
     pub warnings: Warnings,
 }
 
-// The int with the digits d; the sign inverts all bits.
+// The int with the digits d; the sign turns all bits over.
 fn signed_value(sign: bool, d: u32) -> i32
     ensures { λ r. ⌜ r ≡ signed sign d ⌝ }
 {
@@ -73,7 +73,7 @@ fn signed_value(sign: bool, d: u32) -> i32
     }
 }
 
-// Reads the integer at a place of src.
+// The integer at a place of src.
 pub fn read_int(src: &[u8], at: usize) -> IntRead
     ensures { λ r. ⌜ readIntAt (now (src .entry)) at ≡ intRead r ⌝ }
 {
@@ -93,7 +93,7 @@ pub fn read_int(src: &[u8], at: usize) -> IntRead
     read_more(src, at + 1, sign, b % 64)
 }
 
-// The second byte of the integer at a place, if the integer ends there; else 128.
+// The second byte of the integer at a place, where it ends there; else 128.
 fn second_byte(src: &[u8], at: usize) -> u32
     requires { ⌜ at < length (now src) ⌝ }
     ensures { λ r. ⌜ (r < 128 → at + 1 < length (now (src .entry))) × (r < 128 → r ≡ getD (now (src .entry)) (at + 1) 0) × (r < 256) ⌝ }
@@ -104,7 +104,7 @@ fn second_byte(src: &[u8], at: usize) -> u32
     src[at + 1] as u32
 }
 
-// The int of a two-byte form.
+// The int of two bytes.
 fn two_bytes(b: u32, c: u32) -> i32
     requires { ⌜ c < 128 ⌝ }
     ensures { λ r. ⌜ r ≡ signed (sign b) (b % 64 + c * 64) ⌝ }
@@ -112,7 +112,7 @@ fn two_bytes(b: u32, c: u32) -> i32
     signed_value(b / 64 % 2 == 1, b % 64 + c * 64)
 }
 
-// Reads the bytes of an integer after its first byte, whose digits are first.
+// The bytes of an integer after its first, whose digits are first.
 fn read_more(src: &[u8], start: usize, sign: bool, first: u32) -> IntRead
     requires { ⌜ first < 64 ⌝ }
     ensures { λ r. ⌜ moreAt (now (src .entry)) start 3 64 first sign ≡ intRead r ⌝ }
@@ -142,7 +142,7 @@ fn read_more(src: &[u8], start: usize, sign: bool, first: u32) -> IntRead
     read_fifth(src, at, sign, digits)
 }
 
-// Reads the fifth byte of an integer: bit 4 lands in bit 31, and the bits above are dropped.
+// The fifth byte of an integer: bit 4 lands in bit 31, and the bits above vanish.
 fn read_fifth(src: &[u8], at: usize, sign: bool, digits: u32) -> IntRead
     requires { ⌜ digits < 2 ^ 27 ⌝ }
     ensures { λ r. ⌜ moreAt (now (src .entry)) at 0 134217728 digits sign ≡ intRead r ⌝ }
@@ -267,7 +267,7 @@ pub fn packed_warnings(overlong: usize, padding: usize) -> Warnings
     }
 }
 
-// Unpacks all integers of src into the front of out, which has room for them.
+// All the packed integers of src, into the front of out, which has room for them.
 fn unpack_all(src: &[u8], out: &mut [i32]) -> Unpacked
     requires { ⌜ length (Stream.ints (stream (now src))) ≤ length (now out) ⌝ }
     ensures { λ r. ⌜ unpackInto (now (src .entry)) (now (out .entry)) ≡ record { answer = unpacked (r .answer) (counts (r .warnings)); out = now (out .exit) } ⌝ }
@@ -282,7 +282,7 @@ fn unpack_all(src: &[u8], out: &mut [i32]) -> Unpacked
     }
 }
 
-// Unpacks all integers of src into the front of out; if they do not fit, out is unchanged.
+// All the packed integers of src, into the front of out; where they do not fit, out is left as it was.
 pub fn unpack(src: &[u8], out: &mut [i32]) -> Unpacked
     ensures { λ r. ⌜ unpackInto (now (src .entry)) (now (out .entry)) ≡ record { answer = unpacked (r .answer) (counts (r .warnings)); out = now (out .exit) } ⌝ }
 {

@@ -1,4 +1,4 @@
--- What each call on a table area comes to, by what was found in the area. Assumes nothing.
+-- The result of each call on a table area, by what was found in the area. Assumes nothing.
 use Prim.Native.Nat.{ℕ, _<_, _≤_}
 use mathlib.Core.Path.{_≡_, sym, ap, _∙_}
 use mathlib.Core.Bool.{true, false}

@@ -1,4 +1,4 @@
--- What the calls that read a table come to, with the warnings of the packer and of the table. Assumes nothing.
+-- The results of the calls that read a table, with the warnings of the packer and of the table. Assumes nothing.
 use mathlib.Core.Path.{_≡_, refl, sym, ap, ap₂, _∙_}
 use mathlib.Core.Bool.{Bool, true, false, cond}
 use mathlib.Core.List.{List}
@@ -59,7 +59,7 @@ left-over o p false false = rw (add-zero o, add-zero p)
 
 -- ---- the calls
 
--- an answer that was told with its warnings, with earlier ones
+-- an answer that was given with its warnings, with earlier ones
 after-read : (r : Stored) (v u : Counts) → after v (storedWith r u) ≡ storedWith r (plus v u)
 after-read (write.Ints n) v u = refl
 after-read (write.Refused e) v u = refl
@@ -96,7 +96,7 @@ module _ (src : List ℕ) (out : List ℤ) (scratch : ℕ) where
     unfolding stored
     too-long m = rw (le-leb 16384 scratch h, le-leb (length src) scratch k, lt-leb (length src) 1048576 m)
 
-    -- what one pass over the bytes tells, and then the table of the ints
+    -- what one pass over the bytes returns, and then the table of the ints
     pub packed-read : (t : Totals) (before ints-in last : List ℤ) (r : Stored) (x : Bool) (w : Counts) → length src ≤ 1048576 → length before ≡ scratch → Scanned (stream src) before t ints-in → storedTable out (readTable (take (t .count) ints-in)) ≡ record { answer = storedWith r (excess x); out = last } → w ≡ plus (packed (t .overlong) (t .padding)) (plus (excess (t .cut)) (excess x)) → readCall src out scratch ≡ record { answer = storedWith r w; out = last }
     unfolding readPacked
     packed-read t before ints-in last r x w m l s e q =

@@ -7,7 +7,7 @@ ghost use Rattle.definitions.specs.Tables.{keyOf};
 ghost use Rattle.definitions.specs.TableCalls.{addItemCall};
 ghost use Rattle.format.specs.Answers.{storedInts};
 
-// Adds an item in its place by key; a refused call leaves the area as it was.
+// Adds an item at its place by key; a refused call leaves the area unchanged.
 pub fn add_item(area: &mut [i32], raw_type_id: u16, id: u16, data: &[i32]) -> Stored
     ensures { λ r. ⌜ addItemCall (now (area .entry)) (record { key = keyOf «raw_type_id» id; values = now («data» .entry) }) ≡ record { answer = storedInts r; out = now (area .exit) } ⌝ }
 {

@@ -1,4 +1,4 @@
--- What storing the table that a delta made comes to, with its warnings. Assumes nothing.
+-- The result of storing the table that a delta made, with its warnings. Assumes nothing.
 use mathlib.Core.Path.{_≡_, sym, ap, _∙_}
 use mathlib.Core.List.{List}
 use Prim.Native.Nat.{ℕ}
@@ -46,6 +46,6 @@ module _ (out front : List ℤ) (r : Typed) (w : Counts) (q : w ≡ typedCounts 
         ∙ ap (counting w) t
         ∙ ap (λ (o : Outcome ℕ). record { answer = o; out = last }) (with-counts a w)
 
--- the call, from what applying comes to
+-- the call, from the result of applying
 pub call-is : (base delta out : List ℤ) (scratch : ℕ) {o : Outcome Table} {z : Wrote ℕ ℤ} {t : Outcome Table} → applying base delta scratch ≡ o → (o >>= typed) ≡ t → storedTable out t ≡ z → typedReadWithDeltaCall base delta out scratch ≡ z
 call-is base delta out scratch e f g = rw (e, f) g

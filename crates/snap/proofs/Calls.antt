@@ -1,4 +1,4 @@
--- What each call on types comes to, by what was found in the area. Assumes nothing.
+-- The result of each call on types, by what was found in the area. Assumes nothing.
 use mathlib.Core.Path.{_≡_, refl, sym, ap, _∙_}
 use mathlib.Core.Bool.{false}
 use mathlib.Core.List.{List, [], _∷_}

@@ -1,4 +1,4 @@
--- What the calls that read a table with types come to, with the warnings of the packer, of the table and of kinds. Assumes nothing.
+-- The results of the calls that read a table with types, with the warnings of the packer, of the table and of kinds. Assumes nothing.
 use mathlib.Core.Path.{_≡_, refl, sym, ap, ap₂, _∙_}
 use mathlib.Core.Bool.{Bool, true, false, cond}
 use mathlib.Core.List.{List}
@@ -62,7 +62,7 @@ all-counts o p false false k = rw (add-zero o, add-zero p, zero-add k, zero-add 
 
 -- ---- the calls
 
--- an answer that was told with its warnings, with earlier ones
+-- an answer that was given with its warnings, with earlier ones
 after-read : (r : Stored) (v u : Counts) → after v (storedWith r u) ≡ storedWith r (plus v u)
 after-read (write.Ints n) v u = refl
 after-read (write.Refused e) v u = refl
@@ -104,7 +104,7 @@ module _ (src : List ℕ) (out : List ℤ) (scratch : ℕ) where
     unfolding stored
     too-long m = rw (le-leb 16384 scratch h, le-leb (length src) scratch k, lt-leb (length src) 1048576 m)
 
-    -- what one pass over the bytes tells, and then the table of the ints
+    -- what one pass over the bytes returns, and then the table of the ints
     pub packed-read : (t : Totals) (before ints-in last : List ℤ) (r : Stored) (x : Bool) (n : ℕ) (w : Counts) → length src ≤ 1048576 → length before ≡ scratch → Scanned (stream src) before t ints-in → storedTable out (typedTable (take (t .count) ints-in)) ≡ record { answer = storedWith r (plus (excess x) (uuidExcess n)); out = last } → w ≡ plus (packed (t .overlong) (t .padding)) (plus (excess (t .cut)) (plus (excess x) (uuidExcess n))) → typedReadCall src out scratch ≡ record { answer = storedWith r w; out = last }
     unfolding readPacked
     packed-read t before ints-in last r x n w m l s e q =

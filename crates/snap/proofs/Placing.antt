@@ -1,4 +1,4 @@
--- What storing a table whose types were judged comes to. Assumes nothing.
+-- The result of storing a table whose types were judged. Assumes nothing.
 use mathlib.Core.Path.{_≡_, refl, sym, ap, subst, _∙_}
 use mathlib.Core.Bool.{Bool}
 use mathlib.Core.List.{List, [], _∷_}
@@ -37,7 +37,7 @@ use Rattle.types.specs.Answers.{uuidExcess}
 use Rattle.snap.specs.Answers.{typedItems, typedTable}
 use Rattle.snap.proofs.Counted.{told-after}
 
--- ---- what the answer to placing all items tells
+-- ---- what the answer to placing all items says
 
 pub placed-refused : {a : List ℤ} {n len : ℕ} {index : List ℕ} {r : Placed} {e : Error} (out : List ℤ) → r ≡ placed.Refused e → AllPlaced a n len index r → storedTable out (typedItems a n) ≡ record { answer = err (number e) (uuidExcess 0); out = out }
 placed-refused {a} {n} {len} {index} {e = e} out q p = go (subst (λ (r : Placed). AllPlaced a n len index r) q p)

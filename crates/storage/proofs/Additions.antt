@@ -79,7 +79,7 @@ module _ (h : Store.Storage) (x : Store.StoredSnap) (a delta : List ℤ) (few : 
   adding-done e f = rw (lt-ltb (length (h .snaps)) 100 few, e, f, add-one (length (h .snaps)))
 
   module _ (whole : a ≡ Store.storeArea (length a) (h .snaps)) (room : Bool) (rm : room ≡ Room) (m : Made) (out : List ℤ) (e : making room delta (createdInts (B .snap) (x .snap)) ≡ record { answer = madeInts m; out = out }) where
-    -- what the call comes to, by what was made
+    -- the result of the call, by what was made
     abbrev Result : Type 0
     Result = addingTo h x a delta ≡ record { answer = addedIn (addedOf (B .tick) m); store = storeAfter (Store.beside h) m; area = areaAfter a (h .snaps) x m; delta = out }
 
@@ -103,7 +103,7 @@ module _ (h : Store.Storage) (x : Store.StoredSnap) (a delta : List ℤ) (few : 
         let r = made-by (Store.beside h) a (h .snaps) x (B .tick) (length D) m (ap (λ (w : Wrote ℕ ℤ). w .answer) f) in
         adding-done p q ∙ rw (r .0, ap (λ (w : Wrote ℕ ℤ). w .out) f) (ap₂ (λ (s : Store.Store) (l : List ℤ). record { answer = addedIn (addedOf (B .tick) m); store = s; area = l; delta = out }) (r .1) (r .2))
 
-    -- what the delta that was to be made makes of the call
+    -- the result of the call, by the delta that was to be made
     pub added-by : Result
     added-by = by-alike (alike (B .snap) (x .snap)) (Room && leb (length D) (length delta)) refl refl
 
@@ -147,7 +147,7 @@ nothing-out (ok xs w) = by (leb (length xs) 0)
     by false = refl
 
 module _ (room : Bool) (r : room ≡ false) (delta out : List ℤ) (b t : Table) (m : Made) (e : stored [] (createdInts b t) ≡ record { answer = madeInts m; out = out }) where
-  -- nothing was laid
+  -- nothing was written
   out-is : out ≡ []
   out-is = sym (ap (λ (w : Wrote ℕ ℤ). w .out) e) ∙ nothing-out (createdInts b t)
 
@@ -163,7 +163,7 @@ module _ (room : Bool) (r : room ≡ false) (delta out : List ℤ) (b t : Table)
   unfolding stored createDelta
   judged-unlike q = ap (λ (w : Wrote ℕ ℤ). w .answer) (rw q at e)
 
-  -- the same of the call
+  -- the same for the call
   making-unlike : alike b t ≡ false → making room delta (createdInts b t) ≡ record { answer = refuse deltaDifferingSizes; out = out ++ delta }
   unfolding making createDelta
   making-unlike q = rw (q, out-is)
@@ -221,7 +221,7 @@ pub empty-table : Held (pos 0 ∷ pos 0 ∷ []) (count (pos 0 ∷ pos 0 ∷ []))
 unfolding written body offsets sound rising
 empty-table = whole-table (pos 0 ∷ pos 0 ∷ []) [] refl refl
 
--- a delta from a base is one from the same table by another name
+-- a delta from a base is one from an equal table
 pub by-base : (room : Bool) (delta out : List ℤ) (b c t : Table) (m : Made) → b ≡ c → (making room delta (createdInts b t) ≡ record { answer = madeInts m; out = out }) × Clash b t m → (making room delta (createdInts c t) ≡ record { answer = madeInts m; out = out }) × Clash c t m
 by-base room delta out b c t m e h =
     subst (λ (y : Table). (making room delta (createdInts y t) ≡ record { answer = madeInts m; out = out }) × Clash y t m) e h

@@ -63,7 +63,7 @@ module _ (h : Store.Storage) (a : List ℤ) (tick : ℤ) where
     unfolding Store.setDeltaTick
     set-31 e = rw (n, e)
 
--- ---- the same of the code's answers
+-- ---- the same for the code's answers
 
 module _ (s : Storage) (a : List ℤ) (tick : ℤ) (w : Warnings) where
   -- not in form
@@ -87,7 +87,7 @@ module _ (s : Storage) (a : List ℤ) (tick : ℤ) (w : Warnings) where
       pub base-unknown : Store.isHeld (Store.oldestAt tick (Store.dropOlder tick (snapsIn (s .count) a))) ≡ false → storeOf t ≡ record { count = m; ackTick = ackOf s; deltaTick = none } → Calls.laidOut a (Store.setDeltaTick tick (holdsIn (storeOf s) a)) ≡ settings (record { answer = set.Refused error.UnknownSnap; warnings = w; storage = t }) out
       base-unknown i f = set-31 (holdsIn (storeOf s) a) a tick n i ∙ rw (e, f, d, o)
 
--- what is left where older tables were dropped
+-- what is left after older tables were dropped
 pub left-held : (s : Store.Store) (a : List ℤ) (k : ℕ) → Holds s a k → (tick : ℤ) (out : List ℤ) (n : ℕ) → n ≡ length (Store.dropOlder tick (snapsIn (s .count) a)) → out ≡ Store.storeArea (length a) (Store.dropOlder tick (snapsIn (s .count) a)) → HeldStore out n × (snapsIn n out ≡ Store.dropOlder tick (snapsIn (s .count) a))
 left-held s a k h tick out n d o =
     let l = snapsIn (s .count) a in
@@ -98,7 +98,7 @@ left-held s a k h tick out n d o =
 
 -- ---- the warning
 
--- the count of weird ticks, where there is one or none
+-- the count of weird ticks, one or none
 abbrev pub weirdly : Bool → Counts
 weirdly b =
     record {

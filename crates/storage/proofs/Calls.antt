@@ -1,4 +1,4 @@
--- The call that adds a table: refusals before anything is made, and what its steps come to. Assumes nothing.
+-- The call that adds a table: refusals before anything is made, and the results of its steps. Assumes nothing.
 use mathlib.Core.Path.{_≡_, sym, ap, _∙_, subst}
 use mathlib.Core.Bool.{Bool}
 use mathlib.Core.List.{List, _∷_}

@@ -179,7 +179,7 @@ counts-are true false n = rw (zero-add n)
 counts-are false true n = rw (zero-add n)
 counts-are false false n = rw (zero-add n)
 
--- a table, or a refusal, behind the warning
+-- a table, or a refusal, after the warning
 with-weird : (b u : Bool) (n : ℕ) (t : Tables.Table) (x : Table) → after (weirdly b) (tableWith t x (typedCounts u n)) ≡ tableWith t x (takenCounts b u n)
 with-weird b u n t (table.Made i k) = ap (ok t) (counts-are b u n)
 with-weird b u n t (table.Refused e) = ap (err (number e)) (counts-are b u n)
@@ -259,7 +259,7 @@ module _ (base : ℤ) (made : Typed) (t : Tables.Table) (w : Counts) (q : warned
   pub made-err : (x : Error) → made .table ≡ table.Refused x → warned base (typedTable t made) ≡ err (number x) w
   made-err x e = q ∙ ap (λ (y : Table). tableWith t y w) e
 
--- the table stands in its area
+-- the table is in its area
 pub made-form : (a : List ℤ) (x : Table) (n k : ℕ) → x ≡ table.Made n k → Applied.Stands a x → tableForm.Table n k ≡ formOf (Tables.tableOf a)
 made-form a x n k e h = subst (Applied.Stands a) e h
 

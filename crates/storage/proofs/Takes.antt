@@ -1,4 +1,4 @@
--- The call that takes a delta: refusals in their order, and what its steps come to. Assumes nothing.
+-- The call that takes a delta: refusals in their order, and the results of its steps. Assumes nothing.
 use mathlib.Core.Path.{_≡_, refl, sym, ap, ap₂, _∙_, subst}
 use mathlib.Core.Bool.{Bool, true, false, cond}
 use mathlib.Core.List.{List, []}
@@ -31,7 +31,7 @@ use Rattle.storage.proofs.Deltas.{LeftFor}
 
 -- ---- the base
 
--- it is looked for among the tables that are left
+-- it is searched among the tables that are left
 base-same : (tick : ℤ) (l : List Store.StoredSnap) → Store.baseFor tick l ≡ baseIn tick (Store.dropFor tick l)
 base-same tick l = go (Store.isNegative tick)
   where

@@ -1,4 +1,4 @@
--- The test of a store's form: table by table, and then zeros. Assumes nothing.
+-- The check of a store's form: table by table, and then zeros. Assumes nothing.
 use mathlib.Core.Path.{_≡_, refl, sym, ap, _∙_}
 use mathlib.Core.Bool.{Bool, true, false, cond, _&&_, and-assoc, and-true}
 use mathlib.Core.List.{List, [], _∷_, _++_, append-assoc, append-nil}
@@ -42,7 +42,7 @@ too-few a p h = go (drop p a) (omega (arith, length-drop p a))
     go (x ∷ []) k = refl
     go (x ∷ y ∷ l) k = absurd (omega arith)
 
--- no table takes exactly so many ints where it holds none, or one of another length
+-- there is no table of exactly so many ints if there is none, or one of another length
 none-exactly : (n : ℕ) (o : Option Table) → ((t : Table) → o ≡ some t → length (written t) ≡ n → ⊥) → 0 ≡ sizeOf (exactly n o)
 none-exactly n none h = refl
 none-exactly n (some t) h = rw (ne-eqb (length (written t)) n (λ e. h t refl e))
@@ -72,7 +72,7 @@ module _ (a : List ℤ) (p : ℕ) (h : p + 2 ≤ length a) where
         rw (first-is, n)
 
     module _ (n k : ℕ) (e : tableForm.Table n k ≡ Held.formOf (tableOf (take (p + 2 + s - (p + 2)) (drop (p + 2) a)))) where
-      -- what the test of their form tells
+      -- what the check of their form says
       held-part : tableForm.Table n k ≡ Held.formOf (tableOf part)
       held-part =
           let d : p + 2 + s - (p + 2) ≡ nat a (p + 1) = omega arith in
@@ -99,7 +99,7 @@ module _ (a : List ℤ) (p : ℕ) (h : p + 2 ≤ length a) where
 
 -- ---- zeros
 
--- one int more was looked at
+-- one more int was looked at
 pub zero-passed : (all : Bool) (n : ℕ) (a : List ℤ) (from i : ℕ) → i < length a → n ≡ nat a i → (all && allZero (drop i a)) ≡ allZero (drop from a) → ((all && eqb n 0) && allZero (drop (i + 1) a)) ≡ allZero (drop from a)
 unfolding allZero nat
 zero-passed all n a from i h z e =
@@ -137,7 +137,7 @@ walk-start a n =
     let z : n - 0 ≡ n = omega arith in
     record { tables = []; ints-are = ap length (sym ints-none); few = omega arith; room = omega arith; leads = rw z (behind-nothing (snapsOf n a)) }
 
--- what a first table makes of the rest
+-- a first table, and the rest after it
 pub record First (a : List ℤ) (t : Table) : Type 0 where
   pub tick : ℤ
   pub fits : 2 + length (written t) ≤ length a
@@ -175,7 +175,7 @@ no-first [] n e = refl
 no-first (tick ∷ []) n e = refl
 no-first (tick ∷ size ∷ a) n e = rw e
 
--- a table is found behind others
+-- a table is found after others
 behind-cons : (l : List StoredSnap) (tick : ℤ) (t : Table) (o : Option (List StoredSnap)) → behind l (consSnap tick (some t) o) ≡ behind (l ++ record { tick = tick; snap = t } ∷ []) o
 behind-cons l tick t none = refl
 behind-cons l tick t (some m) = ap some (sym (append-assoc l (record { tick = tick; snap = t } ∷ []) m))
@@ -186,14 +186,14 @@ sized none s e z = refl
 sized (some t) s e z = absurd (omega (arith, length-written t))
 
 module _ (a : List ℤ) (n i p : ℕ) (w : Walked a n i p) (s : ℕ) (e : s ≡ sizeOf (firstTable (drop p a))) where
-  -- no table where there should be one
+  -- a table is missing
   pub walk-fails : i < n → s ≡ 0 → form.Bad ≡ formOf (snapsOf n a)
   walk-fails h z =
       let d : n - i ≡ suc (n - i - 1) = omega arith in
       let q : snapsOf (n - i) (drop p a) ≡ none = rw d (no-first (drop p a) (n - i - 1) (sized (firstTable (drop p a)) s e z)) in
       rw (w .leads, q)
 
-  -- one table more
+  -- one more table
   pub walk-turn : i < n → (s ≡ 0 → ⊥) → Walked a n (i + 1) (p + (2 + s))
   walk-turn h z = go (firstTable (drop p a)) refl
     where
@@ -222,7 +222,7 @@ module _ (a : List ℤ) (n i p : ℕ) (w : Walked a n i p) (h : n ≤ i) (z : Bo
       let d : n - i ≡ 0 = omega arith in
       rw (w .leads, d, e)
 
-  -- zeros behind all tables
+  -- zeros after all tables
   pub walk-ends : z ≡ true → form.Tables p ≡ formOf (snapsOf n a)
   walk-ends q = rw (at-end, q, append-nil (w .tables)) (ap form.Tables (w .ints-are))
 

@@ -1,4 +1,4 @@
--- Tables that go, and a table that comes: what a store's area is then. Assumes nothing.
+-- Dropping tables and adding one: the store's area afterwards. Assumes nothing.
 use mathlib.Core.Path.{_≡_, refl, sym, ap, ap₂, _∙_}
 use mathlib.Core.Bool.{Bool}
 use mathlib.Core.List.{List, [], _∷_, _++_, append-assoc}
@@ -35,7 +35,7 @@ drop-zeros zero n = let e : n - 0 ≡ n = omega arith in rw e
 drop-zeros (suc m) zero = let e : 0 - suc m ≡ 0 = omega arith in rw e
 drop-zeros (suc m) (suc n) = let e : suc n - suc m ≡ n - m = omega arith in rw e (drop-zeros m n)
 
--- ---- tables that go
+-- ---- dropping tables
 
 module _ (X Y : List ℤ) (z p k : ℕ) (e : length X ≡ p) (f : length Y ≡ k) where
   -- the ints of the last tables cleared
@@ -63,9 +63,9 @@ cut-leaves a l h i p n part e f g =
     ∙ (clear-last X Y z p (n - p) (sym e) (sym k)
     ∙ ap (λ (j : ℕ). X ++ replicate j (pos 0)) w))
 
--- ---- a table that comes
+-- ---- adding a table
 
--- what is laid at a place stands between what was before it and behind it
+-- what is written at a place is between what was before it and after it
 layAt-between : (n : ℕ) (xs area : List ℤ) → n + length xs ≤ length area → layAt n xs area ≡ take n area ++ (xs ++ drop (n + length xs) area)
 layAt-between zero xs area h = let e : 0 + length xs ≡ length xs = omega arith in rw e (lay-append xs area (omega arith))
 layAt-between (suc n) xs [] h = let z : ⊥ = omega arith in absurd z
@@ -83,7 +83,7 @@ moved a n by h =
     let g : by + length (take n a) ≡ n + by = omega arith in
     rw (e, f, layAt-between by (take n a) a (omega arith), g)
 
--- a tick and a count over the first two of some ints, and others behind them
+-- a tick and a count over the first two of some ints, and others after them
 front : (tick k : ℤ) (g r : List ℤ) → 2 ≤ length g → set (set (g ++ r) 0 tick) 1 k ≡ tick ∷ k ∷ (drop 2 g ++ r)
 front tick k [] r h = absurd (omega arith)
 front tick k (x ∷ []) r h = absurd (omega arith)

@@ -25,7 +25,7 @@ module _ (a : List ℤ) (n : ℕ) (h : HeldStore a n) where
   abbrev L : List StoredSnap
   L = snapsIn n a
 
-  -- the i-th table, of n, stands at its place
+  -- the i-th table, of n, is at its place
   pub here : (i p : ℕ) → i < n → p ≡ placeOf L i → Entry a p (snapAt L i)
   here i p k e = subst (λ (q : ℕ). Entry a q (snapAt L i)) (sym e) (entry-at a L (h .stands) i (omega (arith, h .many)))
 
@@ -63,6 +63,6 @@ module _ (tick : ℤ) (l : List StoredSnap) (i : ℕ) (w : Newer tick l i) where
   unfolding dropOlder
   none-older h = w ∙ rw (drop-of-length-le l h) (append-nil (take i l))
 
--- what is left where the first tables are
+-- what is left if it is the first tables
 pub drops : (tick : ℤ) (l : List StoredSnap) (r n k : ℕ) (out : List ℤ) → r ≤ length l → dropOlder tick l ≡ take r l → n ≡ length (storeInts (take r l)) → out ≡ storeArea k (take r l) → (r ≡ length (dropOlder tick l)) × (n ≡ length (storeInts (dropOlder tick l))) × (out ≡ storeArea k (dropOlder tick l))
 drops tick l r n k out h w e f = rw w (sym (length-take-le r l h), e, f)

@@ -1,4 +1,4 @@
--- What a listing says, by what reading the bytes came to. Assumes nothing.
+-- What a listing says, by the result of reading the bytes. Assumes nothing.
 use mathlib.Core.Path.{_≡_, refl, sym, ap, _∙_}
 use mathlib.Core.Bool.{true}
 use mathlib.Core.List.{List}
@@ -28,7 +28,7 @@ use Rattle.laws.specs.TableRoundTrip.{back}
 use Rattle.laws.specs.TableReadSound.{read-sound}
 use Rattle.table_text.specs.Listing.{answerText, listingText}
 
--- earlier warnings are not told
+-- earlier warnings are not listed
 unwarned : (w : Counts) (o : Outcome Table) → answerText (after w o) ≡ answerText o
 unwarned w (ok t v) = refl
 unwarned w (err n v) = refl
@@ -55,7 +55,7 @@ short t s =
     let p = both (leb (length t) 1024) _ s in
     leb-true _ _ (both (leb (length (written t)) 16384) _ (p .1) .0)
 
--- two refusals that are one have one number
+-- equal refusals have equal numbers
 err-number : {m n : ℕ} {v w : Counts} → _≡_ {A = Outcome ℕ} (err m v) (err n w) → m ≡ n
 err-number e = cc
 
@@ -66,7 +66,7 @@ module _ (src : List ℕ) where
   long-text h = rw (lt-leb (length src) 8192 h)
 
   module _ (few : length src ≤ 8192) where
-    -- no more bytes than may be
+    -- no more bytes than allowed
     short-text : listingText src ≡ answerText (readPacked src)
     unfolding listingText
     short-text = rw (le-leb (length src) 8192 few) (unwarned none (readPacked src))

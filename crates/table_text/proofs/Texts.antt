@@ -1,4 +1,4 @@
--- The texts of a listing, put one part behind the other. Assumes nothing.
+-- The texts of a listing, put one part after the other. Assumes nothing.
 use mathlib.Core.Path.{_≡_, refl, sym, ap, ap₂, _∙_, subst}
 use mathlib.Core.Logic.{⊎-elim}
 use mathlib.Core.List.{List, [], _∷_, _++_, append-assoc, append-nil}
@@ -56,7 +56,7 @@ unfolding itemLines
 itemLines-append [] u = refl
 itemLines-append (x ∷ t) u = rw (itemLines-append t u) (sym (append-assoc (itemLine x) (itemLines t) (itemLines u)))
 
--- one item more is one line more
+-- one more item is one more line
 lines-more : (f : ℕ → Item) (i : ℕ) → itemLines (list f (i + 1)) ≡ itemLines (list f i) ++ itemLine (f i)
 unfolding list
 lines-more f i = rw (add-one i) (itemLines-append (list f i) (f i ∷ []) ∙ (unfold itemLines in ap (λ (m : List ℕ). itemLines (list f i) ++ m) (append-nil (itemLine (f i)))))
@@ -67,7 +67,7 @@ module _ (a : List ℤ) where
   unfolding list itemLines
   none-put p = refl
 
-  -- a turn of the loop: the line of item i is put behind those before it
+  -- a turn of the loop: the line of item i is put after those before it
   pub item-put : (i k n : ℕ) (v : List ℤ) (p : Put) {q w : Put} → k ≡ keyAt a i → v ≡ valuesAt a i → n ≡ length v → puts (itemLines (list (itemAt a) i)) p ≡ q → puts (line (k / 65536) (k % 65536) n) q ≡ w → puts (itemLines (list (itemAt a) (i + 1))) p ≡ w
   item-put i k n v p {q} {w} ek ev en e f =
       let l : itemLine (itemAt a i) ≡ line (k / 65536) (k % 65536) n = unfold itemLine in rw (← ek, ← ev, ← en) in

@@ -1,4 +1,4 @@
--- What a delta that was applied comes to, refused or not, and what its types add. Assumes nothing.
+-- The result of applying a delta, refused or not, and what its types add. Assumes nothing.
 use mathlib.Core.Path.{_≡_, refl, sym, ap, ap₂, _∙_}
 use mathlib.Core.Bool.{Bool, true, false}
 use mathlib.Core.List.{List, [], _++_}
@@ -68,7 +68,7 @@ module _ (out out' : List ℤ) (room : 16384 ≤ length out) (u : Bool) where
   unfolding stored
   stores t v s = rw (le-leb (length (written t)) (length out) (omega (arith, sound-is t s .short)))
 
-  -- what is refused is not for want of room
+  -- the refusal is not for lack of room
   refused-is : (o : Outcome Table) (k : ℕ) → ((t : Table) (v : Counts) → o ≡ ok t v → sound t ≡ true) → storedTable out o ≡ record { answer = err k (unknownCounts u); out = out' } → o ≡ err k (unknownCounts u)
   unfolding stored
   refused-is (ok t v) k s e =
@@ -108,7 +108,7 @@ module _ (out out' : List ℤ) (room : 16384 ≤ length out) (u : Bool) where
 -- ---- a base and a delta in form
 
 module _ (base : List ℤ) (nb : ℕ) (hb : Held base nb) (delta : List ℤ) (k n : ℕ) (hd : HeldDelta [] delta k n) (out out' : List ℤ) (room : 16384 ≤ length out) (u : Bool) where
-  -- what applying comes to
+  -- the result of applying
   abbrev O : Outcome Table
   O = applyDelta (items base) (deltaIn [] delta)
 

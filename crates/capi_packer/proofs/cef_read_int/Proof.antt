@@ -26,7 +26,7 @@ module _ (o : Outcome IntAt) where
   found : {x : IntAt} {v : Counts} → o ≡ ok x v → (value₀ value : ℤ) (next₀ : ℕ) (counts : List ℕ) → value ≡ x .value → counts ≡ row v → (0 ≡ status o) × ((value ≡ output (λ (x : IntAt). x .value) value₀ o) × ((x .next ≡ output (λ (x : IntAt). x .next) next₀ o) × (counts ≡ row (warningsOf o))))
   found e value₀ value next₀ counts p q = rw (e, p, q) (refl, (refl, (refl, refl)))
 
--- what `read_int` found, behind the test that it found an integer
+-- what `read_int` found, after the test that it found an integer
 module _ (c : tie.After-known-told) where
   abbrev x : IntAt
   x = record { value = c .before .v .given .0 .0; next = c .before .v .given .0 .1 .0 }

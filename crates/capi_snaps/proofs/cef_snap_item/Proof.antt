@@ -1,4 +1,4 @@
--- `capi_snaps::cef_snap_item` meets its contract: by what `item` hands out. Assumes nothing.
+-- `capi_snaps::cef_snap_item` meets its contract: by what `item` returned. Assumes nothing.
 use mathlib.Core.Path.{ap, _∙_}
 use denote.Ref.{now}
 use Rattle.definitions.specs.Types.{typedItemCall}

@@ -1,4 +1,4 @@
--- `capi_storage::cef_storage_snap` meets its contract: by what `snap` hands out. Assumes nothing.
+-- `capi_storage::cef_storage_snap` meets its contract: by what `snap` returned. Assumes nothing.
 use mathlib.Core.Path.{ap, _∙_}
 use denote.Ref.{now}
 use Rattle.definitions.specs.Storage.{Store}

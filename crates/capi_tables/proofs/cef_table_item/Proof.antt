@@ -1,4 +1,4 @@
--- `capi_tables::cef_table_item` meets its contract: by what `item` hands out. Assumes nothing.
+-- `capi_tables::cef_table_item` meets its contract: by what `item` returned. Assumes nothing.
 use Rattle.boundary.specs.Outcomes.{moved}
 use borrow.Author.Needs.{needs}
 use Rattle.capi_tables.proofs.cef_table_item.Statement.{statement}

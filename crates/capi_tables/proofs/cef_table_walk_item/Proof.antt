@@ -1,4 +1,4 @@
--- `capi_tables::cef_table_walk_item` meets its contract: by what `walk_item` hands out. Assumes nothing.
+-- `capi_tables::cef_table_walk_item` meets its contract: by what `walk_item` returned. Assumes nothing.
 use Rattle.boundary.specs.Outcomes.{moved}
 use borrow.Author.Needs.{needs}
 use Rattle.capi_tables.proofs.cef_table_walk_item.Statement.{statement}

@@ -1,4 +1,4 @@
--- `delta::create` meets its contract: by the tests of both tables' forms. Assumes nothing.
+-- `delta::create` meets its contract: by the checks of both tables' forms. Assumes nothing.
 use mathlib.Core.Path.{_≡_, sym, _∙_}
 use native.Mathlib.Omega.{arith}
 use Rattle.definitions.specs.Tables.{tableOf}

@@ -1,4 +1,4 @@
--- `delta::write` meets its contract: by the test of the form, then by that of the sizes. Assumes nothing.
+-- `delta::write` meets its contract: by the check of the form, then by that of the sizes. Assumes nothing.
 use mathlib.Core.Path.{_≡_, sym, _∙_}
 use mathlib.Core.List.{List, []}
 use borrow.Author.Tests.{not-true, not-false}

@@ -1,4 +1,4 @@
--- `raw_snap::write` meets its contract: by the test of the form, and then as the ints of the table are packed. Assumes nothing.
+-- `raw_snap::write` meets its contract: by the check of the form, and then as the ints of the table are packed. Assumes nothing.
 use mathlib.Core.Path.{_≡_, sym, _∙_}
 use mathlib.Core.List.{List}
 use lib.IntN.{ℤ}

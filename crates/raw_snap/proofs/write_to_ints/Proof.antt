@@ -1,4 +1,4 @@
--- `raw_snap::write_to_ints` meets its contract: by the test of the form, and then by the copy. Assumes nothing.
+-- `raw_snap::write_to_ints` meets its contract: by the check of the form, and then by the copy. Assumes nothing.
 use mathlib.Core.Path.{sym, _∙_}
 use Rattle.definitions.specs.Stored.{stored}
 use Rattle.table.specs.Writing.{not-held}

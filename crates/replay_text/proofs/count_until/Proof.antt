@@ -1,4 +1,4 @@
--- `replay_text::count_until` meets its contract. The loop's invariant: what is passed and what is left before the first b make the whole.
+-- `replay_text::count_until` meets its contract. The loop's invariant: what is passed and what is left before the first b add up to the whole.
 -- Assumes nothing.
 use mathlib.Core.Path.{_≡_}
 use Prim.Native.Nat.{_+_, _-_, _≤_}

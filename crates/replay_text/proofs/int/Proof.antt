@@ -1,4 +1,4 @@
--- `replay_text::int` meets its contract, by whether a minus stands first. Assumes nothing.
+-- `replay_text::int` meets its contract, by whether there is a minus first. Assumes nothing.
 use mathlib.Core.Path.{sym}
 use Prim.Native.Nat.{_-_}
 use native.Mathlib.Omega.{arith}

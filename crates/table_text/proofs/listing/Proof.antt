@@ -1,4 +1,4 @@
--- `table_text::listing` meets its contract, by what reading the bytes comes to. Assumes nothing.
+-- `table_text::listing` meets its contract, by the result of reading the bytes. Assumes nothing.
 use mathlib.Core.Path.{refl}
 use Rattle.table_text.proofs.Texts.{told}
 use Rattle.table_text.proofs.Listings.{long-text, stored-text, refused-text}

@@ -15,7 +15,7 @@ use borrow.Author.Needs.{needs}
 use Rattle.apply_judging.proofs.checked.deleted_near.Statement.{statement}
 use Rattle.apply_judging.proofs.checked.deleted_near.Tie as tie
 
--- the last key before the hint is below the key as signed
+-- the last key before the hint is below the key in signed order
 below : (c : tie.Then2) → let s = c .before .before .before .before in rank (deletedAt (now (s .args .delta)) (s .args .hint - 1)) < rank (bits (s .args .key))
 unfolding deletedAt
 below c =

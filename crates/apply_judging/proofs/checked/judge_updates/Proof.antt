@@ -1,4 +1,4 @@
--- `checked::judge_updates` meets its contract. The loop's invariant: the updates left, of the table so far, come to the whole. Assumes nothing.
+-- `checked::judge_updates` meets its contract. The loop's invariant: judging the updates left, for the table so far, gives the whole. Assumes nothing.
 use Prim.Native.Nat.{ℕ, _+_, _≤_}
 use mathlib.Core.Path.{_≡_, refl, ap, _∙_, subst}
 use mathlib.Core.List.{[]}

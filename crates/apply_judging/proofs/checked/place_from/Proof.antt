@@ -13,7 +13,7 @@ use borrow.Author.Needs.{needs}
 use Rattle.apply_judging.proofs.checked.place_from.Statement.{statement}
 use Rattle.apply_judging.proofs.checked.place_from.Tie as tie
 
--- the last key before the hint, and the one that is looked for
+-- the last key before the hint, and the one that is searched
 compared : (c : tie.After-unsigned-less) → let s = c .before .before .before in c .unsigned-less .result ≡ ltb (keyAt (now (s .args .area)) (s .args .hint - 1)) (bits (s .args .key))
 compared c =
     c .unsigned-less .ensures

@@ -1,4 +1,4 @@
--- `checked::place_near` meets its contract: the next item has the key, or it is looked for. Assumes nothing.
+-- `checked::place_near` meets its contract: the next item has the key, or the key is searched. Assumes nothing.
 use mir.Facts.{toZ-ofZ}
 use borrow.Author.Needs.{needs}
 use Rattle.apply_judging.proofs.checked.place_near.Statement.{statement}

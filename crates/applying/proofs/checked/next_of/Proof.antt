@@ -14,7 +14,7 @@ use borrow.Author.Needs.{needs}
 use Rattle.applying.proofs.checked.next_of.Statement.{statement}
 use Rattle.applying.proofs.checked.next_of.Tie as tie
 
--- the two keys are compared as unsigned
+-- the two keys are compared in unsigned order
 compared : (c : tie.After-unsigned-less) → let s = c .before .before .before .before .before .before .before .args in c .unsigned-less .result ≡ ltb (keyAt (now (s .base)) (s .s .item)) (updateKey (now (s .delta)) (s .s .update))
 compared c =
     let u = c .before in

@@ -33,7 +33,7 @@ said c =
     let s = c .before .before .before in
     c .is-deleted .ensures ∙ ap (λ (k : ℕ). elem k (deletedOf (now (s .args .delta)) (s .args .deleted))) (key-is (c .before .before))
 
--- where it is not, the item that is written, and its room
+-- if it is not, the item that is written, and its room
 kept : (c : tie.Else1) → let s = c .before .before .before .before in elem (keyAt (now (s .args .base)) (s .args .s .item)) (deletedOf (now (s .args .delta)) (s .args .deleted)) ≡ false
 kept c = sym (said (c .before)) ∙ c .if1 .left
 

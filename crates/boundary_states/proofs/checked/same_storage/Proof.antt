@@ -1,4 +1,4 @@
--- `boundary_states::checked::same_storage` meets its contract: by what `same_tick` told. Assumes nothing.
+-- `boundary_states::checked::same_storage` meets its contract: by what `same_tick` returned. Assumes nothing.
 use borrow.Author.Tests.{not-true, not-false}
 use borrow.Author.Needs.{needs}
 use Rattle.boundary_states.proofs.Comparing.{other-count, other-ack, by-delta}

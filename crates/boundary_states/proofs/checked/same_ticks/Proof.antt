@@ -1,4 +1,4 @@
--- `boundary_states::checked::same_ticks` meets its contract: by what `same_tick` and `same_current` told. Assumes nothing.
+-- `boundary_states::checked::same_ticks` meets its contract: by what `same_tick` and `same_current` returned. Assumes nothing.
 use borrow.Author.Tests.{not-true, not-false}
 use borrow.Author.Needs.{needs}
 use Rattle.boundary_states.proofs.Comparing.{other-previous, by-current}

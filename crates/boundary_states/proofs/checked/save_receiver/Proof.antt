@@ -1,4 +1,4 @@
--- `boundary_states::checked::save_receiver` meets its contract: by what `same_ticks` told. Assumes nothing.
+-- `boundary_states::checked::save_receiver` meets its contract: by what `same_ticks` returned. Assumes nothing.
 use borrow.Author.Needs.{needs}
 use Rattle.boundary_states.proofs.RowLaws.{receiver-left, receiver-saved}
 use Rattle.boundary_states.proofs.checked.save_receiver.Statement.{statement}

@@ -1,4 +1,4 @@
--- `boundary_states::checked::save_storage` meets its contract: by what `same_storage` told. Assumes nothing.
+-- `boundary_states::checked::save_storage` meets its contract: by what `same_storage` returned. Assumes nothing.
 use borrow.Author.Needs.{needs}
 use Rattle.boundary_states.proofs.RowLaws.{storage-left, storage-saved}
 use Rattle.boundary_states.proofs.checked.save_storage.Statement.{statement}

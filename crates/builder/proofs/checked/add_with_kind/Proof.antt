@@ -44,7 +44,7 @@ module _ (s : tie.Start) where
   small : kind-item .key < 2 ^ 32
   small = omega (arith, number-is, s .pre .few)
 
--- what the first of the two comes to
+-- the result of the first of the two
 first-is : (c : tie.After-add) → let s = c .before .before .before in addTo (s .args .area .now) (t s) 0 (nextKind (t s)) (s .args .kind .now) ≡ record { answer = storedInts (c .add .result); out = c .add .last .0 }
 first-is c =
     let s = c .before .before .before in
@@ -77,7 +77,7 @@ module _ (c : tie.After-first2) where
   refusal : addTo (start .args .area .now) (t start) 0 (nextKind (t start)) (start .args .kind .now) ≡ record { answer = storedInts (write.Refused (c .first2 .given .0 .0)); out = left }
   refusal = first-is (c .before .before .before) ∙ ap (λ (r : Stored). record { answer = storedInts r; out = left }) (c .first2 .given .1)
 
--- for want of room
+-- for lack of room
 lacks : (c : tie.After-enum-told) → let d = c .before .before .before in let s = start d in (s .args .area .now ≡ left d) × Lacks (s .args .area .now) (kind-item s) (t s)
 lacks c =
     let d = c .before .before .before in

@@ -1,4 +1,4 @@
--- `checked::count_kinds` meets its contract. The loop's invariant: the kinds so far run, and the items from j on tell the rest. Assumes nothing.
+-- `checked::count_kinds` meets its contract. The loop's invariant: the kinds so far run, and the items from j on determine the rest. Assumes nothing.
 use native.Mathlib.Omega.{arith}
 use mathlib.Core.Path.{_≡_, sym, ap, _∙_}
 use Prim.Native.Nat.{_-_}

@@ -1,4 +1,4 @@
--- `checked::store` meets its contract: refused for want of room, or header, keys and updates written. Assumes nothing.
+-- `checked::store` meets its contract: refused for lack of room, or header, keys and updates written. Assumes nothing.
 use native.Mathlib.Omega.{arith}
 use Rattle.delta_any_order.proofs.Weighing.{few-counts, weighed-refused, weighed-room, weighed-stored}
 use borrow.Author.Needs.{needs}

@@ -1,4 +1,4 @@
--- `checked::updates_end` meets its contract. The loop's invariant: updates that stand from the start on stand, as many as are left, from the place on. Assumes nothing.
+-- `checked::updates_end` meets its contract. The loop's invariant: of updates there from the start on, those left are there from the place on. Assumes nothing.
 use Prim.Native.Nat.{ℕ, _+_, _≤_, _^_}
 use native.Mathlib.Omega.{arith}
 use lib.ListN.{length}

@@ -1,4 +1,4 @@
--- `checked::count_delete_updates` meets its contract. The loop's invariant: what was counted and what is left make the whole.
+-- `checked::count_delete_updates` meets its contract. The loop's invariant: what was counted and what is left add up to the whole.
 -- Assumes nothing.
 use mathlib.Core.Path.{_≡_, ap, _∙_}
 use native.Mathlib.Omega.{arith}

@@ -1,4 +1,4 @@
--- `checked::deleted_from` meets its contract. The loop's invariant: the keys passed are below the one that is looked for. Assumes nothing.
+-- `checked::deleted_from` meets its contract. The loop's invariant: the keys passed are below the one that is searched. Assumes nothing.
 use Prim.Native.Nat.{_+_, _-_, _<_, _≤_}
 use mathlib.Core.Path.{_≡_, sym, _∙_}
 use native.Mathlib.Omega.{arith}
@@ -22,7 +22,7 @@ Inv-loop src deleted start key i₀ i = (i ≤ deleted) × Under src i (rank key
 abbrev μ-loop : tie.MeasureT-loop
 μ-loop src deleted start key i₀ i = deleted - i
 
--- the deleted key that is looked at is compared as signed
+-- the deleted key at hand is compared in signed order
 compared : (c : tie.After-signed-less Inv-loop μ-loop) → let l = c .before .before .before in c .signed-less .result ≡ signedLess (getD (now (l .before .args .src)) (3 + l .loop .i) (pos 0)) (l .before .args .key)
 compared c =
     let l = c .before .before .before in

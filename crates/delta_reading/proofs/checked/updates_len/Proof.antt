@@ -1,4 +1,4 @@
--- `checked::updates_len` meets its contract. The loop's invariant: the ints counted, and those of the updates left, make the whole.
+-- `checked::updates_len` meets its contract. The loop's invariant: the ints counted, and those of the updates left, add up to the whole.
 -- Assumes nothing.
 use Prim.Native.Nat.{_+_, _*_, _≤_}
 use native.Mathlib.Omega.{arith}

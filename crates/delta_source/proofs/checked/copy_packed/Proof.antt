@@ -1,4 +1,4 @@
--- `checked::copy_packed` meets its contract. The loop's invariant: of the ints that are read, those left are still to be laid. Assumes nothing.
+-- `checked::copy_packed` meets its contract. The loop's invariant: of the ints that are read, those left are still to be written. Assumes nothing.
 use borrow.Author.Needs.{needs}
 use mathlib.Core.Path.{ap, _∙_}
 use mathlib.Core.Bool.{true}

@@ -1,4 +1,4 @@
--- `checked::judge_updates` meets its contract. The loop's invariant: those walked so far, put before what is left, are the whole. Assumes nothing.
+-- `checked::judge_updates` meets its contract. The loop's invariant: those walked so far, followed by what is left, are the whole. Assumes nothing.
 use borrow.Author.Needs.{needs}
 use mathlib.Core.Path.{sym, _∙_}
 use Prim.Native.Nat.{_-_, _^_}

@@ -11,7 +11,7 @@ use Rattle.delta_source.proofs.Reading.{no-type, no-id, head-judged}
 use Rattle.delta_source.proofs.checked.read_head.Statement.{statement}
 use Rattle.delta_source.proofs.checked.read_head.Tie as tie
 
--- the place behind the type
+-- the place after the type
 behind : (c : tie.After-type-id) → c .type-id .given .0 .1 .0 ≤ size (source (c .before .before .before .before .args .packed) (c .before .before .before .before .args .bytes .now) (c .before .before .before .before .args .ints .now))
 behind c = next-inside (rw (c .type-id .given .1) at (c .before .before .next-int .ensures))
 

@@ -1,4 +1,4 @@
--- `checked::skip_packed` meets its contract. The loop's invariant: those passed over so far, put before what is left, are the whole. Assumes nothing.
+-- `checked::skip_packed` meets its contract. The loop's invariant: those skipped so far, followed by what is left, are the whole. Assumes nothing.
 use borrow.Author.Needs.{needs}
 use mathlib.Core.Path.{ap, _∙_}
 use mathlib.Core.Bool.{true}

@@ -1,4 +1,4 @@
--- `checked::updates_len` meets its contract. The loop's invariant: the ints counted, and those of the updates left, make the whole.
+-- `checked::updates_len` meets its contract. The loop's invariant: the ints counted, and those of the updates left, add up to the whole.
 -- Assumes nothing.
 use Prim.Native.Nat.{_+_, _≤_}
 use mathlib.Core.Path.{_≡_, refl}
@@ -21,7 +21,7 @@ Inv-loop area start n sizes total₀ p₀ left₀ total p left = Measuring (λ (
 abbrev μ-loop : tie.MeasureT-loop
 μ-loop area start n sizes total₀ p₀ left₀ total p left = left
 
--- the update that is looked at
+-- the update at hand
 counted : (c : tie.After-update-rest Inv-loop μ-loop) → 2 + length (now (c .update-rest .result)) ≡ length (updateInts (now (c .before .before .before .args .sizes)) (updateAt [] (now (c .before .before .before .args .area)) (c .before .before .loop .p)))
 counted c =
     let s = c .before .before .before .args in

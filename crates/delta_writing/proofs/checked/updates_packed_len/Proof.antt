@@ -1,4 +1,4 @@
--- `checked::updates_packed_len` meets its contract. The loop's invariant: the bytes counted, and those of the updates left, make the whole.
+-- `checked::updates_packed_len` meets its contract. The loop's invariant: the bytes counted, and those of the updates left, add up to the whole.
 -- Assumes nothing.
 use Prim.Native.Nat.{_+_, _*_, _≤_}
 use mathlib.Core.Path.{_≡_, refl}
@@ -21,7 +21,7 @@ Inv-loop area start n sizes total₀ p₀ left₀ total p left = Measuring packI
 abbrev μ-loop : tie.MeasureT-loop
 μ-loop area start n sizes total₀ p₀ left₀ total p left = left
 
--- the update that is looked at
+-- the update at hand
 here : (c : tie.In-loop Inv-loop μ-loop) → Update [] (now (c .before .before .args .area)) (c .before .loop .p)
 here c = first-update (c .before .loop .inv .lie) (c .loop-test .taken)
 

@@ -1,4 +1,4 @@
--- `checked::all_came` meets its contract, one part more at each turn. Assumes nothing.
+-- `checked::all_came` meets its contract, one more part at each turn. Assumes nothing.
 use mathlib.Core.Path.{_≡_, refl, ap, _∙_}
 use Prim.Native.Nat.{ℕ, _-_, _≤_}
 use native.Mathlib.Omega.{arith}

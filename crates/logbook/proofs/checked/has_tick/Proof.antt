@@ -1,4 +1,4 @@
--- `checked::has_tick` meets its contract, one tick more at each turn. Assumes nothing.
+-- `checked::has_tick` meets its contract, one more tick at each turn. Assumes nothing.
 use mathlib.Core.Path.{_≡_, refl, ap, _∙_}
 use Prim.Native.Nat.{ℕ, _-_, _≤_}
 use native.Mathlib.Omega.{arith}

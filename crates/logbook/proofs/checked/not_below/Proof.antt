@@ -1,4 +1,4 @@
--- `checked::not_below` meets its contract: a turn leaves those below a tick out. Assumes nothing.
+-- `checked::not_below` meets its contract: a turn drops a tick below another. Assumes nothing.
 use mathlib.Core.Path.{_≡_, refl, sym, ap, _∙_}
 use Prim.Native.Nat.{ℕ, _-_, _≤_}
 use native.Mathlib.Omega.{arith}

@@ -1,4 +1,4 @@
--- `checked::without` meets its contract: a turn leaves one out. Assumes nothing.
+-- `checked::without` meets its contract: a turn drops an equal tick. Assumes nothing.
 use mathlib.Core.Path.{_≡_, refl, sym, ap, _∙_}
 use Prim.Native.Nat.{ℕ, _-_, _≤_}
 use native.Mathlib.Omega.{arith}

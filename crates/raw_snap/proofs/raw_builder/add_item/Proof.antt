@@ -1,4 +1,4 @@
--- `raw_builder::add_item` meets its contract: the form is tested, and `add` does the rest. Assumes nothing.
+-- `raw_builder::add_item` meets its contract: the form is checked, and `add` does the rest. Assumes nothing.
 use mathlib.Core.Path.{_≡_, sym, ap, _∙_}
 use Prim.Native.Nat.{ℕ, _+_, _/_}
 use denote.Ref.{now}

@@ -9,7 +9,7 @@ use borrow.Author.Needs.{needs}
 use Rattle.snap.proofs.checked.apply_delta.Statement.{statement}
 use Rattle.snap.proofs.checked.apply_delta.Tie as tie
 
--- nothing is wrong with them
+-- both areas and scratch pass
 holds : (c : tie.After-areas2) → Holds (now (c .before .before .before .args .base)) (now (c .before .before .before .args .delta)) (length (now (c .before .before .before .args .scratch))) (c .areas2 .given .0 .0) (c .areas2 .given .0 .1 .0) (c .areas2 .given .0 .1 .1 .0)
 holds c = rw (c .areas2 .given .1) at (c .before .before .judge-areas .ensures)
 

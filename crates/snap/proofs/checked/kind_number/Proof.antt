@@ -1,4 +1,4 @@
--- `checked::kind_number` meets its contract. The loop's invariant: the items from i on tell the number. Assumes nothing.
+-- `checked::kind_number` meets its contract. The loop's invariant: the items from i on determine the number. Assumes nothing.
 use lib.IntN.{ℤ}
 use native.Mathlib.Omega.{arith}
 use mathlib.Core.Path.{_≡_, sym, ap, _∙_}

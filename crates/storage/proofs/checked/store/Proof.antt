@@ -1,4 +1,4 @@
--- `checked::store` meets its contract: the table stands before the others. Assumes nothing.
+-- `checked::store` meets its contract: the table is before the others. Assumes nothing.
 use mathlib.Core.Path.{refl}
 use mir.Facts.{toZ-ofZ}
 use borrow.Author.Needs.{needs}

@@ -31,7 +31,7 @@ L s = snapsIn (s .args .count) (now (s .args .area))
 newer : (l : tie.At-loop Inv-loop μ-loop) → Newer (l .before .args .tick) (L (l .before)) (l .loop .i)
 newer l = rw (toZ-ofZ (l .before .fits .tick)) at (l .loop .inv .2)
 
--- the i-th table stands here
+-- the i-th table is here
 stands : (c : tie.In-loop Inv-loop μ-loop) → let l = c .before in Entry (now (l .before .args .area)) (l .loop .p) (snapAt (L (l .before)) (l .loop .i))
 stands c =
     let l = c .before in

@@ -1,4 +1,4 @@
--- `checked::cut` meets its contract: the ints behind the tables that stay are cleared. Assumes nothing.
+-- `checked::cut` meets its contract: the ints after the tables that stay are cleared. Assumes nothing.
 use Prim.Native.Nat.{_≤_}
 use Rattle.store_area.proofs.Laying.{cut-leaves}
 use Rattle.store_area.specs.Held.{snapsIn}

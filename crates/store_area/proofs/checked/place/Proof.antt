@@ -16,7 +16,7 @@ Inv-loop area count i k₀ p₀ k p = (k ≤ i) × (p ≡ placeOf (snapsIn count
 abbrev μ-loop : tie.MeasureT-loop
 μ-loop area count i k₀ p₀ k p = i - k
 
--- the k-th table stands here
+-- the k-th table is here
 stands : (c : tie.In-loop Inv-loop μ-loop) → let l = c .before in let a = now (l .before .args .area) in Entry a (l .loop .p) (snapAt (snapsIn (l .before .args .count) a) (l .loop .k))
 stands c =
     let l = c .before in

@@ -1,4 +1,4 @@
--- `checked::push` meets its contract: the table stands before the others. Assumes nothing.
+-- `checked::push` meets its contract: the table is before the others. Assumes nothing.
 use Rattle.store_area.proofs.Laying.{pushes}
 use Rattle.store_area.specs.Held.{snapsIn}
 use denote.Ref.{now}

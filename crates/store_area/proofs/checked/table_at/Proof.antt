@@ -1,4 +1,4 @@
--- `checked::table_at` meets its contract: the ints behind the table's tick and int count. Assumes nothing.
+-- `checked::table_at` meets its contract: the ints after the table's tick and int count. Assumes nothing.
 use Prim.Native.Nat.{ℕ, _+_, _-_}
 use Rattle.definitions.specs.Tables.{written}
 use Rattle.store_area.proofs.Steps.{here}
@@ -11,7 +11,7 @@ use native.Mathlib.Omega.{arith}
 use Rattle.store_area.proofs.checked.table_at.Statement.{statement}
 use Rattle.store_area.proofs.checked.table_at.Tie as tie
 
--- the table stands here
+-- the table is here
 stands : (c : tie.After-place) → let s = c .before .args in Entry (now (s .area)) (c .place .result) (snapAt (snapsIn (s .count) (now (s .area))) (s .i))
 stands c =
     let s = c .before in

@@ -10,7 +10,7 @@ use native.Mathlib.Omega.{arith}
 use Rattle.store_area.proofs.checked.tick_at.Statement.{statement}
 use Rattle.store_area.proofs.checked.tick_at.Tie as tie
 
--- the table stands here
+-- the table is here
 stands : (c : tie.After-place) → let s = c .before .args in Entry (now (s .area)) (c .place .result) (snapAt (snapsIn (s .count) (now (s .area))) (s .i))
 stands c =
     let s = c .before in
