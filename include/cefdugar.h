@@ -169,8 +169,7 @@ uint32_t cef_unpack(const uint8_t *src, size_t src_len, int32_t *out,
  * A table begins at the area's first int; the ints behind it are not judged
  * and are left. CEF_NOT_IN_FORM means that an area holds no table;
  * everything that was lent is then left, but for scratch and the counts of
- * warnings. Only cef_table_item, cef_table_walk_item and cef_snap_item give no
- * ints in its place.
+ * warnings.
  *
  * CEF_CAPACITY_ERROR means that a result does not fit into the area lent for
  * it, and nothing else is wrong. *count is then left as well.
@@ -251,9 +250,8 @@ uint32_t cef_table_has_item(const int32_t *area, size_t area_len,
  * `out_len` ints at `out`.
  *
  * CEF_OK: *count ints are written. They are none where there is no such item,
- * where it has no data, and where the area holds no table:
- * cef_table_has_item tells these apart.
- * CEF_CAPACITY_ERROR: `out` and *count are left.
+ * and where it has no data: cef_table_has_item tells these apart.
+ * CEF_NOT_IN_FORM, CEF_CAPACITY_ERROR: `out` and *count are left.
  */
 uint32_t cef_table_item(const int32_t *area, size_t area_len,
                         uint16_t raw_type_id, uint16_t id, int32_t *out,
@@ -279,10 +277,9 @@ uint32_t cef_table_walk_key(const int32_t *area, size_t area_len, size_t i,
  * Copies the data of item `i` of that walk to the front of the `out_len` ints
  * at `out`.
  *
- * CEF_OK: *count ints are written. They are none past the end, where the item
- * has no data, and where the area holds no table: cef_table_walk_key tells
- * these apart.
- * CEF_CAPACITY_ERROR: `out` and *count are left.
+ * CEF_OK: *count ints are written. They are none past the end, and where the
+ * item has no data: cef_table_walk_key tells these apart.
+ * CEF_NOT_IN_FORM, CEF_CAPACITY_ERROR: `out` and *count are left.
  */
 uint32_t cef_table_walk_item(const int32_t *area, size_t area_len, size_t i,
                              int32_t *out, size_t out_len, size_t *count);
@@ -416,9 +413,9 @@ uint32_t cef_snap_has_item(const int32_t *area, size_t area_len,
  * `out_len` ints at `out`.
  *
  * CEF_OK: *count ints are written. They are none where there is no such item,
- * where it has no data, where the type is no valid one, and where the area
- * holds no table: cef_snap_has_item tells these apart.
- * CEF_CAPACITY_ERROR: `out` and *count are left.
+ * and where it has no data: cef_snap_has_item tells these apart.
+ * CEF_NOT_IN_FORM, CEF_INVALID_TYPE_ID, CEF_CAPACITY_ERROR: `out` and *count
+ * are left.
  */
 uint32_t cef_snap_item(const int32_t *area, size_t area_len, uint32_t is_uuid,
                        uint16_t ordinal, const int32_t uuid[CEF_UUID_INTS],

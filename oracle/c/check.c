@@ -270,10 +270,10 @@ static void check_table_calls(void)
     CHECK(cef_table_has_item(table, 10, 0, 3, &flag) == CEF_NOT_IN_FORM);
     CHECK(cef_table_crc(table, 10, &value) == CEF_NOT_IN_FORM);
     CHECK(cef_table_walk_key(table, 10, 0, &value, &flag) == CEF_NOT_IN_FORM);
+    CHECK(cef_table_item(table, 10, 0, 3, out, 16, &count) == CEF_NOT_IN_FORM);
+    CHECK(cef_table_walk_item(table, 10, 0, out, 16, &count) == CEF_NOT_IN_FORM);
     CHECK(cef_table_write_to_ints(table, len, out, 10, &count) == CEF_CAPACITY_ERROR);
     CHECK(count == LEFT && flag == LEFT && value == LEFT && ints_left(out, 0, 16));
-    CHECK(cef_table_item(table, 10, 0, 3, out, 16, &count) == CEF_OK && count == 0);
-    CHECK(cef_table_walk_item(table, 10, 0, out, 16, &count) == CEF_OK && count == 0);
 
     CHECK(cef_table_num_items(table, len, &count) == CEF_OK && count == 3);
     CHECK(cef_table_write_to_ints(table, len, out, 11, &count) == CEF_OK && count == 11);
@@ -744,6 +744,8 @@ static void check_types(void)
     CHECK(cef_snap_has_item(table, len, 1, 0, KIND, 8, &has) == CEF_OK && has == 0);
     CHECK(cef_snap_has_item(table, len, 1, 0, KIND, 7, &has) == CEF_OK && has == 1);
     fill_ints(out, 4);
+    CHECK(cef_snap_item(table, len - 1, 1, 0, KIND, 7, out, 4, &count) == CEF_NOT_IN_FORM);
+    CHECK(cef_snap_item(table, len, 0, 0, KIND, 7, out, 4, &count) == CEF_INVALID_TYPE_ID);
     CHECK(cef_snap_item(table, len, 1, 0, KIND, 7, out, 0, &count) == CEF_CAPACITY_ERROR);
     CHECK(count == LEFT && ints_left(out, 0, 4));
     CHECK(cef_snap_item(table, len, 1, 0, KIND, 7, out, 4, &count) == CEF_OK && count == 1);
@@ -827,7 +829,11 @@ static void check_receiver(void)
     cef_receiver r;
     cef_receiver before;
 
+    memset(&r, 7, sizeof r);
     cef_receiver_new(r.ticks, r.counts, r.lengths);
+    for (int i = 0; i < 4; i++)
+        CHECK(r.ticks[i] == 0);
+    CHECK(r.counts[0] == 0 && r.counts[1] == 0 && r.counts[2] == 0);
     before = r;
     fill_ints(got, CEF_RECEIVED_NUMBERS);
 #define SNAP(tick, count, part, size, area)                                              \

@@ -17,8 +17,8 @@ enum { ACK, BASE };
 void check_storage(void)
 {
     static int32_t scratch[CEF_SCRATCH_INTS];
-    int32_t ticks[2];
-    uint32_t counts[3];
+    int32_t ticks[2] = {7, 7};
+    uint32_t counts[3] = {7, 7, 7};
     int32_t area[14] = {0};
     const int32_t held[14] = {3, 5, 8, 1, 0, 65537, 5};
     int32_t delta[8];
@@ -30,6 +30,7 @@ void check_storage(void)
     size_t count = LEFT;
 
     cef_storage_new(ticks, counts);
+    CHECK(ticks[ACK] == 0 && ticks[BASE] == 0);
     CHECK(counts[HELD] == 0 && counts[HAS_ACK] == 0 && counts[HAS_BASE] == 0);
 #define ADD(sum, from, to, room, least) \
     cef_storage_add_delta(ticks, counts, 1, sum, from, to, DELTA, 7, area, room, scratch, least, warnings)
@@ -81,8 +82,8 @@ void check_manager(void)
     static uint8_t joined[CEF_PART_AREA_BYTES];
     static int32_t scratch[CEF_MANAGER_SCRATCH_INTS];
     cef_receiver r;
-    int32_t ticks[2];
-    uint32_t counts[3];
+    int32_t ticks[2] = {7, 7};
+    uint32_t counts[3] = {7, 7, 7};
     int32_t area[14] = {0};
     const int32_t held[14] = {3, 5, 8, 1, 0, 65537, 5};
     int32_t delta[8];

@@ -10,8 +10,9 @@ use Rattle.definitions.specs.Ints.{bits}
 use Rattle.definitions.specs.Refusals.{deltaDifferingSizes}
 use Rattle.definitions.specs.Warnings.{Counts}
 use Rattle.definitions.specs.Stored.{stored}
-use Rattle.definitions.specs.Outcome.{Outcome, ok, err, return, Wrote}
+use Rattle.definitions.specs.Outcome.{Outcome, ok, err, return, Wrote, _>>=_}
 use Rattle.definitions.specs.Tables.{Table}
+use Rattle.definitions.specs.TableCalls.{orEmpty}
 use Rattle.delta_making.specs.Answers.{Differing}
 
 -- the 13 counts in their order
@@ -55,6 +56,10 @@ module _ {A : Type 0} where
 -- a part of an area written over the front of another
 unfoldable pub partInto : List ℤ → List ℤ → Wrote ℕ ℤ
 partInto part out = stored out (return part)
+
+-- the data of an item laid over the front of an area, nothing if there is no such item; or why it was not looked for
+unfoldable pub itemInto : Outcome (Option (List ℤ)) → List ℤ → Wrote ℕ ℤ
+itemInto o out = stored out (o >>= λ v. return (orEmpty v))
 
 -- the key or the tick at a place of a walk, or the previous content at its end
 abbrev pub keyOr : ℤ → Option ℤ → ℤ

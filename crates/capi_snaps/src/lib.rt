@@ -3,11 +3,11 @@ ghost use mathlib.Core.Path.{_≡_};
 ghost use lib.ListN.{length};
 ghost use Rattle.definitions.specs.Areas.{cleared};
 ghost use Rattle.definitions.specs.Applying.{rawReadWithDeltaCall};
-ghost use Rattle.definitions.specs.Types.{typedReadCall, typedReadFromIntsCall, typedReadWithDeltaCall, typedItemCall, typedHasItemCall, rawTypeIdCall, typeIdCall};
+ghost use Rattle.definitions.specs.Types.{typedReadCall, typedReadFromIntsCall, typedReadWithDeltaCall, typedItem, typedHasItemCall, rawTypeIdCall, typeIdCall};
 ghost use Rattle.definitions.specs.Builder.{newCall, builderAddItemCall, finishCall};
 ghost use Rattle.snap.specs.Answers.{typeOf};
 ghost use Rattle.boundary.specs.Boundary as Boundary;
-ghost use Rattle.boundary.specs.Boundary.{status, warningsOf, output, flag, partInto};
+ghost use Rattle.boundary.specs.Boundary.{status, warningsOf, output, flag, itemInto};
 ghost use Rattle.capi_snaps.specs.Types.{typeIn, isKnown, rawOr, kindOf, ordinalOr, uuidOr};
 use boundary::checked::part_into;
 use boundary::checked::row;
@@ -203,7 +203,7 @@ pub extern "C" fn cef_snap_has_item(
     }
 }
 
-// Copies the data of an item of a type into the front of out; nothing if there is no such item.
+// Copies the data of an item of a type into the front of out; nothing if there is no such item. An empty part may mean a refusal: `has_item` tells.
 #[no_mangle]
 pub extern "C" fn cef_snap_item(
     area: &[i32],
@@ -214,12 +214,21 @@ pub extern "C" fn cef_snap_item(
     out: &mut [i32],
     count: &mut usize,
 ) -> u32
-    ensures { λ r. ⌜ r ≡ status (partInto (typedItemCall (now (area .entry)) (typeIn «is_uuid» ordinal (now (uuid .entry))) id) (now (out .entry)) .answer) ⌝ }
-    ensures { λ _. ⌜ now (out .exit) ≡ partInto (typedItemCall (now (area .entry)) (typeIn «is_uuid» ordinal (now (uuid .entry))) id) (now (out .entry)) .out ⌝ }
-    ensures { λ _. ⌜ now (count .exit) ≡ output (λ n. n) (now (count .entry)) (partInto (typedItemCall (now (area .entry)) (typeIn «is_uuid» ordinal (now (uuid .entry))) id) (now (out .entry)) .answer) ⌝ }
+    ensures { λ r. ⌜ r ≡ status (itemInto (typedItem (now (area .entry)) (typeIn «is_uuid» ordinal (now (uuid .entry))) id) (now (out .entry)) .answer) ⌝ }
+    ensures { λ _. ⌜ now (out .exit) ≡ itemInto (typedItem (now (area .entry)) (typeIn «is_uuid» ordinal (now (uuid .entry))) id) (now (out .entry)) .out ⌝ }
+    ensures { λ _. ⌜ now (count .exit) ≡ output (λ n. n) (now (count .entry)) (itemInto (typedItem (now (area .entry)) (typeIn «is_uuid» ordinal (now (uuid .entry))) id) (now (out .entry)) .answer) ⌝ }
 {
     let type_id = type_in(is_uuid, ordinal, uuid);
-    part_into(snap::item(area, type_id, id), out, count)
+    let part = snap::item(area, type_id, id);
+    if part.len() != 0 {
+        return part_into(part, out, count);
+    }
+    let h = snap::has_item(area, type_id, id);
+    match h {
+        Has::Yes => part_into(part, out, count),
+        Has::No => part_into(part, out, count),
+        Has::Refused(e) => format::error_number(e),
+    }
 }
 
 // Writes the empty table of a builder into the front of out.

@@ -3,9 +3,10 @@ ghost use mathlib.Core.Path.{_≡_};
 ghost use lib.ListN.{length};
 ghost use Rattle.definitions.specs.Areas.{cleared};
 ghost use Rattle.definitions.specs.Tables.{keyOf};
-ghost use Rattle.definitions.specs.TableCalls.{emptyCall, readCall, readFromIntsCall, writeToIntsCall, writeCall, numItemsCall, hasItemCall, itemCall, crcCall, walkKeyCall, walkItemCall, addItemCall};
+ghost use Rattle.definitions.specs.TableCalls.{emptyCall, readCall, readFromIntsCall, writeToIntsCall, writeCall, numItemsCall, hasItemCall, crcCall, walkKeyCall, addItemCall};
 ghost use Rattle.boundary.specs.Boundary as Boundary;
-ghost use Rattle.boundary.specs.Boundary.{status, warningsOf, output, flag, partInto, keyOr, ended};
+ghost use Rattle.boundary.specs.Boundary.{status, warningsOf, output, flag, itemInto, keyOr, ended};
+ghost use Rattle.capi_tables.specs.Items.{itemIn, walkItemIn};
 use boundary::checked::part_into;
 use boundary::checked::row;
 use boundary::checked::told;
@@ -128,7 +129,7 @@ pub extern "C" fn cef_table_has_item(area: &[i32], raw_type_id: u16, id: u16, ha
     }
 }
 
-// Copies the data of an item into the front of out; nothing if there is no such item.
+// Copies the data of an item into the front of out; nothing if there is no such item. An empty part may mean a refusal: `has_item` tells.
 #[no_mangle]
 pub extern "C" fn cef_table_item(
     area: &[i32],
@@ -137,11 +138,20 @@ pub extern "C" fn cef_table_item(
     out: &mut [i32],
     count: &mut usize,
 ) -> u32
-    ensures { λ r. ⌜ r ≡ status (partInto (itemCall (now (area .entry)) (keyOf «raw_type_id» id)) (now (out .entry)) .answer) ⌝ }
-    ensures { λ _. ⌜ now (out .exit) ≡ partInto (itemCall (now (area .entry)) (keyOf «raw_type_id» id)) (now (out .entry)) .out ⌝ }
-    ensures { λ _. ⌜ now (count .exit) ≡ output (λ n. n) (now (count .entry)) (partInto (itemCall (now (area .entry)) (keyOf «raw_type_id» id)) (now (out .entry)) .answer) ⌝ }
+    ensures { λ r. ⌜ r ≡ status (itemInto (itemIn (now (area .entry)) (keyOf «raw_type_id» id)) (now (out .entry)) .answer) ⌝ }
+    ensures { λ _. ⌜ now (out .exit) ≡ itemInto (itemIn (now (area .entry)) (keyOf «raw_type_id» id)) (now (out .entry)) .out ⌝ }
+    ensures { λ _. ⌜ now (count .exit) ≡ output (λ n. n) (now (count .entry)) (itemInto (itemIn (now (area .entry)) (keyOf «raw_type_id» id)) (now (out .entry)) .answer) ⌝ }
 {
-    part_into(raw_snap::item(area, raw_type_id, id), out, count)
+    let part = raw_snap::item(area, raw_type_id, id);
+    if part.len() != 0 {
+        return part_into(part, out, count);
+    }
+    let h = raw_snap::has_item(area, raw_type_id, id);
+    match h {
+        Has::Yes => part_into(part, out, count),
+        Has::No => part_into(part, out, count),
+        Has::Refused(e) => format::error_number(e),
+    }
 }
 
 // The sum of all data ints.
@@ -182,7 +192,7 @@ pub extern "C" fn cef_table_walk_key(area: &[i32], i: usize, key: &mut i32, end:
     }
 }
 
-// Copies the data of the i-th item in that order into the front of out; nothing past the end.
+// Copies the data of the i-th item in that order into the front of out; nothing past the end. An empty part may mean a refusal: `walk_key` tells.
 #[no_mangle]
 pub extern "C" fn cef_table_walk_item(
     area: &[i32],
@@ -190,11 +200,20 @@ pub extern "C" fn cef_table_walk_item(
     out: &mut [i32],
     count: &mut usize,
 ) -> u32
-    ensures { λ r. ⌜ r ≡ status (partInto (walkItemCall (now (area .entry)) i) (now (out .entry)) .answer) ⌝ }
-    ensures { λ _. ⌜ now (out .exit) ≡ partInto (walkItemCall (now (area .entry)) i) (now (out .entry)) .out ⌝ }
-    ensures { λ _. ⌜ now (count .exit) ≡ output (λ n. n) (now (count .entry)) (partInto (walkItemCall (now (area .entry)) i) (now (out .entry)) .answer) ⌝ }
+    ensures { λ r. ⌜ r ≡ status (itemInto (walkItemIn (now (area .entry)) i) (now (out .entry)) .answer) ⌝ }
+    ensures { λ _. ⌜ now (out .exit) ≡ itemInto (walkItemIn (now (area .entry)) i) (now (out .entry)) .out ⌝ }
+    ensures { λ _. ⌜ now (count .exit) ≡ output (λ n. n) (now (count .entry)) (itemInto (walkItemIn (now (area .entry)) i) (now (out .entry)) .answer) ⌝ }
 {
-    part_into(raw_snap::walk_item(area, i), out, count)
+    let values = raw_snap::walk_item(area, i);
+    if values.len() != 0 {
+        return part_into(values, out, count);
+    }
+    let w = raw_snap::walk_key(area, i);
+    match w {
+        Walked::Key(_) => part_into(values, out, count),
+        Walked::End => part_into(values, out, count),
+        Walked::Refused(e) => format::error_number(e),
+    }
 }
 
 // Adds an item to a table at its place by key.

@@ -177,7 +177,7 @@ pub fn table_has_item(area: &[i32], raw_type_id: u16, id: u16, has: &mut u32) ->
 }
 
 /// Copies an item's data to the front of `out`; none where there is no such
-/// item. Refused (40): `out` and `count` are left.
+/// item. Refused (47, 40): `out` and `count` are left.
 pub fn table_item(
     area: &[i32],
     raw_type_id: u16,
@@ -210,7 +210,7 @@ pub fn table_walk_key(area: &[i32], i: usize, key: &mut i32, end: &mut u32) -> u
 }
 
 /// Copies the data of item `i` of the walk to the front of `out`; none past
-/// the end. Refused (40): `out` and `count` are left.
+/// the end. Refused (47, 40): `out` and `count` are left.
 pub fn table_walk_item(area: &[i32], i: usize, out: &mut [i32], count: &mut usize) -> u32 {
     unsafe {
         sys::cef_table_walk_item(

@@ -123,7 +123,8 @@ pub fn has_item(area: &[i32], type_id: TypeId, id: u16) -> Result<bool, Refusal>
 }
 
 /// Copies an item's data to the front of `out` and gives how many ints; none
-/// where there is no such item. Refused: `CAPACITY_ERROR`; `out` is then left.
+/// where there is no such item. Refused: `NOT_IN_FORM`, `INVALID_TYPE_ID`,
+/// `CAPACITY_ERROR`; `out` is then left.
 pub fn item(area: &[i32], type_id: TypeId, id: u16, out: &mut [i32]) -> Result<usize, Refusal> {
     let mut count = 0;
     let number = plain::snap_item(area, &type_id.plain(), id, out, &mut count);

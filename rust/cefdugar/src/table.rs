@@ -91,7 +91,8 @@ pub fn has_item(area: &[i32], raw_type_id: u16, id: u16) -> Result<bool, Refusal
 }
 
 /// Copies an item's data to the front of `out` and gives how many ints; 0
-/// where there is no such item. Refused: `CAPACITY_ERROR`; `out` is then left.
+/// where there is no such item. Refused: `NOT_IN_FORM`, `CAPACITY_ERROR`; `out`
+/// is then left.
 pub fn item(area: &[i32], raw_type_id: u16, id: u16, out: &mut [i32]) -> Result<usize, Refusal> {
     let mut count = 0;
     let number = plain::table_item(area, raw_type_id, id, out, &mut count);
@@ -114,8 +115,8 @@ pub fn walk_key(area: &[i32], i: usize) -> Result<Option<i32>, Refusal> {
 }
 
 /// Copies the data of item `i` in that order to the front of `out` and gives
-/// how many ints; 0 past the end. Refused: `CAPACITY_ERROR`; `out` is then
-/// left.
+/// how many ints; 0 past the end. Refused: `NOT_IN_FORM`, `CAPACITY_ERROR`;
+/// `out` is then left.
 pub fn walk_item(area: &[i32], i: usize, out: &mut [i32]) -> Result<usize, Refusal> {
     let mut count = 0;
     let number = plain::table_walk_item(area, i, out, &mut count);

@@ -1,8 +1,11 @@
--- `capi_snaps::cef_snap_item` meets its contract: by what `item` returned. Assumes nothing.
-use mathlib.Core.Path.{ap, _∙_}
+-- `capi_snaps::cef_snap_item` meets its contract: by what `item` returned and `has_item` answered. Assumes nothing.
+use mathlib.Core.Path.{_≡_, sym, ap, _∙_}
 use denote.Ref.{now}
-use Rattle.definitions.specs.Types.{typedItemCall}
-use Rattle.boundary.specs.Outcomes.{moved}
+use Rattle.definitions.specs.Tables.{isSome}
+use Rattle.definitions.specs.Types.{typedItem, typedItemCall, typedHasItemCall}
+use Rattle.raw_snap.specs.Answers.{hasItem}
+use Rattle.boundary.specs.Items.{item-found, item-looked, item-refused, ok-asked, number-asked}
+use Rattle.capi_snaps.specs.Types.{typeIn}
 use borrow.Author.Needs.{needs}
 use Rattle.capi_snaps.proofs.cef_snap_item.Statement.{statement}
 use Rattle.capi_snaps.proofs.cef_snap_item.Tie as tie
@@ -20,8 +23,53 @@ same-length : tie.Need-same-length
 same-length c = search needs
 
 returns : tie.Need-returns
-returns c = moved _ _ _ (c .before .before .before .before .item .ensures ∙ ap (λ t. typedItemCall (now (c .before .before .before .before .before .before .args .area)) t (c .before .before .before .before .before .before .args .id)) (c .before .before .before .before .before .type-in .ensures)) _ _ _ _ (c .before .part-into .ensures)
+returns c =
+    let a = c .before .before .before .before .before .before .before .args in
+    item-found (now (a .out)) _ _ _ _ _ (typedItem (now (a .area)) (typeIn (a .is-uuid) (a .ordinal) (now (a .uuid))) (a .id)) (c .before .before .before .before .before .item .ensures ∙ ap (λ t. typedItemCall (now (a .area)) t (a .id)) (c .before .before .before .before .before .before .type-in .ensures)) (c .before .part-into .ensures) (c .before .before .before .before .if1 .taken)
+
+has-item-requires : tie.Need-has-item-requires
+has-item-requires c κs = search needs
+
+enum-told : tie.Need-enum-told
+enum-told c = search needs
+
+part-into-requires-2 : tie.Need-part-into-requires-2
+part-into-requires-2 c κs = search needs
+
+enum-told-2 : tie.Need-enum-told-2
+enum-told-2 c = search needs
+
+part-into-requires-3 : tie.Need-part-into-requires-3
+part-into-requires-3 c κs = search needs
+
+enum-known-h : tie.Need-enum-known-h
+enum-known-h c = search needs
+
+error-number-requires : tie.Need-error-number-requires
+error-number-requires c κs = search needs
+
+same-length-2 : tie.Need-same-length-2
+same-length-2 c = search needs
+
+returns-2 : tie.Need-returns-2
+returns-2 c =
+    let a = c .before .before .before .before .before .before .before .before .before .before .args in
+    item-looked (now (a .out)) _ _ _ _ _ (typedItem (now (a .area)) (typeIn (a .is-uuid) (a .ordinal) (now (a .uuid))) (a .id)) (c .before .before .before .before .before .before .before .before .item .ensures ∙ ap (λ t. typedItemCall (now (a .area)) t (a .id)) (c .before .before .before .before .before .before .before .before .before .type-in .ensures)) (c .before .part-into2 .ensures) (ok-asked (typedItem (now (a .area)) (typeIn (a .is-uuid) (a .ordinal) (now (a .uuid))) (a .id)) isSome (ap (λ t. typedHasItemCall (now (a .area)) t (a .id)) (sym (c .before .before .before .before .before .before .before .before .before .type-in .ensures)) ∙ c .before .before .before .before .before .before .has-item .ensures ∙ ap hasItem (c .before .before .before .before .enum-told .given .1)))
+
+same-length-3 : tie.Need-same-length-3
+same-length-3 c = search needs
+
+returns-3 : tie.Need-returns-3
+returns-3 c =
+    let a = c .before .before .before .before .before .before .before .before .before .before .args in
+    item-looked (now (a .out)) _ _ _ _ _ (typedItem (now (a .area)) (typeIn (a .is-uuid) (a .ordinal) (now (a .uuid))) (a .id)) (c .before .before .before .before .before .before .before .before .item .ensures ∙ ap (λ t. typedItemCall (now (a .area)) t (a .id)) (c .before .before .before .before .before .before .before .before .before .type-in .ensures)) (c .before .part-into3 .ensures) (ok-asked (typedItem (now (a .area)) (typeIn (a .is-uuid) (a .ordinal) (now (a .uuid))) (a .id)) isSome (ap (λ t. typedHasItemCall (now (a .area)) t (a .id)) (sym (c .before .before .before .before .before .before .before .before .before .type-in .ensures)) ∙ c .before .before .before .before .before .before .has-item .ensures ∙ ap hasItem (c .before .before .before .before .enum-told2 .given .1)))
+
+returns-4 : tie.Need-returns-4
+returns-4 c =
+    let a = c .before .before .before .before .before .before .before .before .args in
+    let e = ap (λ t. typedHasItemCall (now (a .area)) t (a .id)) (sym (c .before .before .before .before .before .before .before .type-in .ensures)) ∙ c .before .before .before .before .has-item .ensures ∙ ap hasItem (c .before .before .h .given .1) in
+    item-refused (now (a .out)) _ _ (typedItem (now (a .area)) (typeIn (a .is-uuid) (a .ordinal) (now (a .uuid))) (a .id)) (ok-asked (typedItem (now (a .area)) (typeIn (a .is-uuid) (a .ordinal) (now (a .uuid))) (a .id)) isSome e) (c .error-number .ensures ∙ number-asked (typedItem (now (a .area)) (typeIn (a .is-uuid) (a .ordinal) (now (a .uuid))) (a .id)) isSome e)
 
 pub cef-snap-item-spec : {M : Type 1} → statement M
 cef-snap-item-spec =
-    tie.close (tie.spec type-in-requires item-requires part-into-requires same-length returns)
+    tie.close (tie.spec type-in-requires item-requires part-into-requires same-length returns has-item-requires enum-told part-into-requires-2 enum-told-2 part-into-requires-3 enum-known-h error-number-requires same-length-2 returns-2 same-length-3 returns-3 returns-4)

@@ -29,6 +29,13 @@ impl Counted {
             Counted::refused(40)
         }
     }
+    /// As many entries as `needed` says into `room`, or its refusal.
+    pub fn laid(needed: Result<usize, u32>, room: usize) -> Counted {
+        match needed {
+            Ok(needed) => Counted::fits(needed, room),
+            Err(number) => Counted::refused(number),
+        }
+    }
     pub fn refused(number: u32) -> Counted {
         Counted {
             number,

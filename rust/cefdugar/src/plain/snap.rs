@@ -166,7 +166,7 @@ pub fn snap_has_item(area: &[i32], type_id: &Type, id: u16, has: &mut u32) -> u3
 }
 
 /// Copies an item's data to the front of `out`; none where there is no such
-/// item. Refused (40): `out` and `count` are left.
+/// item. Refused (47, 45, 40): `out` and `count` are left.
 pub fn snap_item(area: &[i32], type_id: &Type, id: u16, out: &mut [i32], count: &mut usize) -> u32 {
     unsafe {
         sys::cef_snap_item(

@@ -176,16 +176,17 @@ impl Calls {
         let answer = item.map(|item| item.is_some()).map_err(Refusal);
         Shown::compare(&answer, &safe)?;
 
-        let data = item.ok().flatten().unwrap_or(&[]);
+        let data = item.map(|item| item.unwrap_or(&[]));
+        let needed = data.map(<[i32]>::len);
         let out = &mut self.lent.out;
         for spare in [0, -1, 2] {
-            let room = room(data.len(), spare);
-            let oracle = Counted::fits(data.len(), room);
+            let room = room(needed.unwrap_or(0), spare);
+            let oracle = Counted::laid(needed, room);
             let mut port = Counted::LEFT;
             let lent = out.lend(room);
             port.number = plain::snap_item(area, &flagged(type_id), id, lent, &mut port.count);
             Shown::compare(&oracle, &port)?;
-            let written = if port.number == 0 { data } else { &[] };
+            let written = data.ok().filter(|_| port.number == 0).unwrap_or(&[]);
             left("out", out.check(0, written))?;
             let safe = snap::item(area, type_id, id, out.lend(room));
             Shown::compare(&oracle.answer(), &safe)?;

@@ -241,16 +241,17 @@ impl Calls {
     /// An item's data, or none, with just enough room and with one less.
     fn compare_data(
         &mut self,
-        data: &[i32],
+        data: Result<&[i32], u32>,
         mut call: impl FnMut(&mut [i32], &mut usize) -> u32,
     ) -> Compared {
+        let needed = data.map(<[i32]>::len);
         for spare in [0, -1] {
-            let room = room(data.len(), spare);
-            let oracle = Counted::fits(data.len(), room);
+            let room = room(needed.unwrap_or(0), spare);
+            let oracle = Counted::laid(needed, room);
             let mut port = Counted::LEFT;
             port.number = call(self.out.lend(room), &mut port.count);
             Shown::compare(&oracle, &port)?;
-            let written = if port.number == 0 { data } else { &[] };
+            let written = data.ok().filter(|_| port.number == 0).unwrap_or(&[]);
             left("out", self.out.check(0, written))?;
         }
         Ok(())
@@ -279,12 +280,13 @@ impl Calls {
         let safe = table::has_item(area, raw_type_id, id);
         let answer = held.map(|_| item.is_some()).ok_or(Refusal::NOT_IN_FORM);
         Shown::compare(&answer, &safe)?;
-        self.compare_data(item.unwrap_or(&[]), |out, count| {
+        let data = held.map(|_| item.unwrap_or(&[])).ok_or(47);
+        self.compare_data(data, |out, count| {
             plain::table_item(area, raw_type_id, id, out, count)
         })?;
         let mut out = [LEFT_INT; 4];
         let safe = table::item(area, raw_type_id, id, &mut out);
-        let oracle = Counted::fits(item.map_or(0, <[i32]>::len), out.len());
+        let oracle = Counted::laid(data.map(<[i32]>::len), out.len());
         Shown::compare(&oracle.answer(), &safe)
     }
 
@@ -310,7 +312,11 @@ impl Calls {
             false => Err(Refusal::NOT_IN_FORM),
         };
         Shown::compare(&answer, &safe)?;
-        self.compare_data(item.map_or(&[], |(_, data)| data), |out, count| {
+        let data = match held {
+            true => Ok(item.map_or(&[][..], |(_, data)| data)),
+            false => Err(47),
+        };
+        self.compare_data(data, |out, count| {
             plain::table_walk_item(area, i, out, count)
         })
     }
