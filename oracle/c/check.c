@@ -586,7 +586,6 @@ static void check_item_deltas(void)
     CHECK(memcmp(out, delta, sizeof delta) == 0);
 }
 
-/* Worked examples of messages: 0, 900 and 901 bytes. */
 /* Type 0 names the kind 1, 2, 3, 4 under 4000 hex; an item of that kind. */
 static const int32_t KINDS_INTS[] = {28, 2, 0, 20, 0x4000, 1, 2, 3, 4, 0x40000007, 5};
 static const int32_t KIND[4] = {1, 2, 3, 4};
@@ -788,6 +787,7 @@ static void check_builder(void)
     CHECK(cef_builder_add_item(area, 40, 0, 3, KIND, 8, &five, 1, &count) == CEF_NOT_IN_FORM);
 }
 
+/* Worked examples of messages among them: 0, 900 and 901 bytes. */
 static void check_chunks(void)
 {
     static uint8_t data[CEF_INPUT_MOST + 1];

@@ -1,4 +1,6 @@
-// Replays recorded cases on types, builders and applied deltas: each line of standard input is a case and gets one line of answer. ROOM is the length of the lent area. TYPE is six ints: whether the type is a kind, its number, and the four ints of the kind. COUNTS are the warnings: overlong integers, padding of integers, unknown deletes, ints left over, kinds that are too long.
+// Replays recorded cases on types, builders and applied deltas: each line of standard input is a case and gets one line of answer.
+// ROOM is the length of the lent area. TYPE is six ints: whether the type is a kind, its number, and the four ints of the kind.
+// COUNTS are the warnings: overlong integers, padding of integers, unknown deletes, ints left over, kinds that are too long.
 //     r ROOM LEN INT.. INT..     a delta is applied to a base of LEN ints: COUNT COUNTS INT.., or refused NUMBER COUNTS
 //     d ROOM LEN INT.. INT..     the same with the types of the result judged
 //     i ROOM INT..               a table of ints is read with its types judged: the same answers

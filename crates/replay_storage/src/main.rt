@@ -5,7 +5,8 @@
 //     s TICK ROOM INT..            adds a table, with a delta area of ROOM ints
 //     d HAS CRC BASE TICK INT..    takes a delta, with its sum if it has one
 //     l PLACE                      looks up the table at a place
-// An answer is UNKNOWN EXCESS WEIRD, three warning counts, COUNT ACK BASE, how many tables are held and the two ticks or -, and then done, tick TICK, delta BASE LEN INT.., refused NUMBER, or refused 10 KEY. For l it is TICK INT.., or end.
+// An answer is UNKNOWN EXCESS WEIRD, three warning counts, COUNT ACK BASE, how many tables are held and the two ticks or -, and then
+// done, tick TICK, delta BASE LEN INT.., refused NUMBER, or refused 10 KEY. For l it is TICK INT.., or end.
 use format::Error;
 use format::OptionTick;
 use format::Warnings;
