@@ -86,6 +86,9 @@ extern "C" {
 
 /* ---- Packed integers ---- */
 
+/* The most bytes or ints that a call reads. */
+#define CEF_INPUT_MOST 1048576
+
 /* The most bytes that a packed integer takes. */
 #define CEF_INT_BYTES 5
 
@@ -94,8 +97,9 @@ extern "C" {
  * at `src`.
  *
  * CEF_OK: *value is the integer, *next the place after it.
- * CEF_UNEXPECTED_END: the bytes end inside it, or at >= src_len. *value and
- * *next are left.
+ * CEF_INPUT_TOO_LONG: src_len > CEF_INPUT_MOST.
+ * CEF_UNEXPECTED_END: the bytes end inside it, or at >= src_len.
+ * Refused: *value and *next are left.
  *
  * `warnings`: all counts of this call are set, refused or not.
  */
@@ -113,7 +117,12 @@ uint32_t cef_read_int(const uint8_t *src, size_t src_len, size_t at,
  *
  * In both cases: *next is the place after the integer, or the end of the
  * bytes where they ended; *left is how many bytes are left from there on;
- * *empty is 1 where none are, else 0; all counts of `warnings` are set.
+ * *empty is 1 where none are, else 0.
+ *
+ * CEF_INPUT_TOO_LONG: src_len > CEF_INPUT_MOST. *value, *next, *left and
+ * *empty are left: the reader stands where it stood.
+ *
+ * `warnings`: all counts of this call are set, refused or not.
  */
 uint32_t cef_unpacker_read_int(const uint8_t *src, size_t src_len, size_t at,
                                int32_t *value, size_t *next, size_t *left,
@@ -142,9 +151,12 @@ uint32_t cef_write_int(uint8_t *out, size_t out_len, size_t at, int32_t value,
  * CEF_OK: *count ints are written, those behind them are left. *cut is 1
  * where the end of the bytes cut off the last integer, which is then not
  * among the ints, else 0.
- * CEF_CAPACITY_ERROR: the ints do not fit. `out`, *count and *cut are left.
+ * CEF_INPUT_TOO_LONG: src_len > CEF_INPUT_MOST.
+ * CEF_CAPACITY_ERROR: the ints do not fit.
+ * Refused: `out`, *count and *cut are left.
  *
- * `warnings`: all counts of the whole input are set in both cases.
+ * `warnings`: all counts of this call are set, refused or not: those of the
+ * whole input, and none where it is too long.
  */
 uint32_t cef_unpack(const uint8_t *src, size_t src_len, int32_t *out,
                     size_t out_len, size_t *count, uint32_t *cut,
@@ -158,9 +170,6 @@ uint32_t cef_unpack(const uint8_t *src, size_t src_len, int32_t *out,
 
 /* The least scratch, in ints; reading bytes also asks for one int a byte. */
 #define CEF_SCRATCH_INTS 16384
-
-/* The most bytes or ints that are read. */
-#define CEF_INPUT_MOST 1048576
 
 /*
  * A table of keyed items stands in a lent area of ints: data size in bytes,

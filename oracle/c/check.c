@@ -108,6 +108,48 @@ static void check_readers(void)
     CHECK(value == INT32_MIN && next == 2 && left == 0 && empty == 1);
 }
 
+/* The longest input, and one entry more, which every call that reads refuses. */
+static void check_longest(void)
+{
+    static uint8_t bytes[CEF_INPUT_MOST + 1];
+    static int32_t ints[CEF_INPUT_MOST + 1];
+    static int32_t out[CEF_INPUT_MOST + 1];
+    int32_t value = LEFT;
+    size_t next = LEFT;
+    size_t left = LEFT;
+    uint32_t empty = LEFT;
+    size_t count = LEFT;
+    uint32_t cut = LEFT;
+    size_t warnings[CEF_WARNINGS];
+    const size_t most = CEF_INPUT_MOST;
+
+    memset(bytes, 1, sizeof bytes);
+    fill_warnings(warnings);
+    CHECK(cef_read_int(bytes, most + 1, 3, &value, &next, warnings) == CEF_INPUT_TOO_LONG);
+    CHECK(value == LEFT && next == LEFT && counted(warnings, 0, 0));
+    fill_warnings(warnings);
+    CHECK(cef_unpacker_read_int(bytes, most + 1, 3, &value, &next, &left, &empty, warnings) ==
+          CEF_INPUT_TOO_LONG);
+    CHECK(value == LEFT && next == LEFT && left == LEFT && empty == LEFT);
+    CHECK(counted(warnings, 0, 0));
+    CHECK(cef_int_unpacker_read_int(ints, most + 1, 3, &value, &next, &left, &empty) ==
+          CEF_INPUT_TOO_LONG);
+    CHECK(value == LEFT && next == LEFT && left == LEFT && empty == LEFT);
+    fill_warnings(warnings);
+    CHECK(cef_unpack(bytes, most + 1, out, most + 1, &count, &cut, warnings) ==
+          CEF_INPUT_TOO_LONG);
+    CHECK(count == LEFT && cut == LEFT && out[0] == 0 && out[most] == 0);
+    CHECK(counted(warnings, 0, 0));
+
+    CHECK(cef_read_int(bytes, most, 3, &value, &next, warnings) == CEF_OK && next == 4);
+    CHECK(cef_unpacker_read_int(bytes, most, 3, &value, &next, &left, &empty, warnings) == CEF_OK);
+    CHECK(value == 1 && left == most - 4 && empty == 0);
+    CHECK(cef_int_unpacker_read_int(ints, most, most - 1, &value, &next, &left, &empty) == CEF_OK);
+    CHECK(value == 0 && next == most && empty == 1);
+    CHECK(cef_unpack(bytes, most, out, most, &count, &cut, warnings) == CEF_OK);
+    CHECK(count == most && cut == 0 && out[most - 1] == 1 && out[most] == 0);
+}
+
 static void check_write(void)
 {
     uint8_t out[8];
@@ -875,6 +917,7 @@ int main(void)
     check_write();
     check_readers();
     check_unpack();
+    check_longest();
     check_table_read();
     check_table_calls();
     check_table_add();

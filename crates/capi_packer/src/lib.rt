@@ -1,11 +1,10 @@
 // The calls on packed integers as C sees them. include/cefdugar.h documents them for C callers.
 ghost use mathlib.Core.Path.{_≡_};
-ghost use Rattle.definitions.specs.Packer.{readIntAt, writeIntAt, unpackInto};
+ghost use Rattle.definitions.specs.Packer.{readIntCall, writeIntAt, unpackCall};
 ghost use Rattle.boundary.specs.Boundary as Boundary;
 ghost use Rattle.boundary.specs.Boundary.{status, warningsOf, output, flag};
 use boundary::checked::row;
 use boundary::checked::warned_row;
-use format::Error;
 use format::Warnings;
 use packer::IntRead;
 use packer::IntWrite;
@@ -20,20 +19,21 @@ pub extern "C" fn cef_read_int(
     next: &mut usize,
     warnings: &mut [usize; 13],
 ) -> u32
-    ensures { λ r. ⌜ r ≡ status (readIntAt (now (src .entry)) at) ⌝ }
-    ensures { λ _. ⌜ now (value .exit) ≡ output (λ x. x .value) (now (value .entry)) (readIntAt (now (src .entry)) at) ⌝ }
-    ensures { λ _. ⌜ now (next .exit) ≡ output (λ x. x .next) (now (next .entry)) (readIntAt (now (src .entry)) at) ⌝ }
-    ensures { λ _. ⌜ now (warnings .exit) ≡ Boundary.row (warningsOf (readIntAt (now (src .entry)) at)) ⌝ }
+    ensures { λ r. ⌜ r ≡ status (readIntCall (now (src .entry)) at) ⌝ }
+    ensures { λ _. ⌜ now (value .exit) ≡ output (λ x. x .value) (now (value .entry)) (readIntCall (now (src .entry)) at) ⌝ }
+    ensures { λ _. ⌜ now (next .exit) ≡ output (λ x. x .next) (now (next .entry)) (readIntCall (now (src .entry)) at) ⌝ }
+    ensures { λ _. ⌜ now (warnings .exit) ≡ Boundary.row (warningsOf (readIntCall (now (src .entry)) at)) ⌝ }
 {
     *warnings = row(Warnings::none());
+    let read = packer::read_int(src, at);
     let IntRead::Int {
         value: v,
         next: n,
         overlong,
         padding,
-    } = packer::read_int(src, at)
+    } = read
     else {
-        return format::error_number(Error::UnexpectedEnd);
+        return packer::places::refusal(read);
     };
     *value = v;
     *next = n;
@@ -75,11 +75,11 @@ pub extern "C" fn cef_unpack(
     cut: &mut u32,
     warnings: &mut [usize; 13],
 ) -> u32
-    ensures { λ r. ⌜ r ≡ status (unpackInto (now (src .entry)) (now (out .entry)) .answer) ⌝ }
-    ensures { λ _. ⌜ now (out .exit) ≡ unpackInto (now (src .entry)) (now (out .entry)) .out ⌝ }
-    ensures { λ _. ⌜ now (count .exit) ≡ output (λ u. u .count) (now (count .entry)) (unpackInto (now (src .entry)) (now (out .entry)) .answer) ⌝ }
-    ensures { λ _. ⌜ now (cut .exit) ≡ output (λ u. flag (u .cut)) (now (cut .entry)) (unpackInto (now (src .entry)) (now (out .entry)) .answer) ⌝ }
-    ensures { λ _. ⌜ now (warnings .exit) ≡ Boundary.row (warningsOf (unpackInto (now (src .entry)) (now (out .entry)) .answer)) ⌝ }
+    ensures { λ r. ⌜ r ≡ status (unpackCall (now (src .entry)) (now (out .entry)) .answer) ⌝ }
+    ensures { λ _. ⌜ now (out .exit) ≡ unpackCall (now (src .entry)) (now (out .entry)) .out ⌝ }
+    ensures { λ _. ⌜ now (count .exit) ≡ output (λ u. u .count) (now (count .entry)) (unpackCall (now (src .entry)) (now (out .entry)) .answer) ⌝ }
+    ensures { λ _. ⌜ now (cut .exit) ≡ output (λ u. flag (u .cut)) (now (cut .entry)) (unpackCall (now (src .entry)) (now (out .entry)) .answer) ⌝ }
+    ensures { λ _. ⌜ now (warnings .exit) ≡ Boundary.row (warningsOf (unpackCall (now (src .entry)) (now (out .entry)) .answer)) ⌝ }
 {
     let u = packer::unpack(src, out);
     *warnings = row(u.warnings);

@@ -1,27 +1,31 @@
 // The readers' calls as C sees them. include/cefdugar.h documents them for C callers.
 ghost use mathlib.Core.Path.{_≡_};
-ghost use Rattle.definitions.specs.Packer.{readIntAt};
-ghost use Rattle.definitions.specs.Readers.{plainIntAt};
-ghost use Rattle.capi_readers.specs.Standing.{Stands};
+ghost use Rattle.definitions.specs.Packer.{readIntCall};
+ghost use Rattle.definitions.specs.Readers.{plainIntCall};
+ghost use Rattle.packer.specs.Answers.{refusal};
+ghost use Rattle.capi_readers.specs.Standing.{kept, Stands};
 ghost use Rattle.boundary.specs.Boundary as Boundary;
 ghost use Rattle.boundary.specs.Boundary.{status, warningsOf, output, flag};
 use boundary::checked::row;
 use boundary::checked::warned_row;
-use format::Error;
 use format::Warnings;
 use packer::IntRead;
 use packer::ReaderAnswer;
 
-// Sets the outputs for the position of a reader.
+// Sets the outputs for the position of a reader. They are unchanged if there are too many entries to read (42).
 fn put_standing(r: ReaderAnswer, next: &mut usize, left: &mut usize, empty: &mut u32)
-    ensures { λ _. ⌜ (now (next .exit) ≡ r .at) × ((now (left .exit) ≡ r .left) × (now (empty .exit) ≡ flag (r .empty))) ⌝ }
+    ensures { λ _. ⌜ (now (next .exit) ≡ kept (refusal (r .read)) (now (next .entry)) (r .at)) × ((now (left .exit) ≡ kept (refusal (r .read)) (now (left .entry)) (r .left)) × (now (empty .exit) ≡ kept (refusal (r .read)) (now (empty .entry)) (flag (r .empty)))) ⌝ }
 {
+    let read = r.read;
+    if packer::places::refusal(read) == 42 {
+        return;
+    }
     *next = r.at;
     *left = r.left;
     *empty = boundary::checked::flag(r.empty);
 }
 
-// The answer of a reader over packed bytes at a place of src. If it is refused, only value is unchanged.
+// The answer of a reader over packed bytes at a place of src. If the bytes end there, only value is unchanged.
 #[no_mangle]
 pub extern "C" fn cef_unpacker_read_int(
     src: &[u8],
@@ -32,10 +36,10 @@ pub extern "C" fn cef_unpacker_read_int(
     empty: &mut u32,
     warnings: &mut [usize; 13],
 ) -> u32
-    ensures { λ r. ⌜ r ≡ status (readIntAt (now (src .entry)) at) ⌝ }
-    ensures { λ _. ⌜ now (value .exit) ≡ output (λ x. x .value) (now (value .entry)) (readIntAt (now (src .entry)) at) ⌝ }
-    ensures { λ _. ⌜ Stands (readIntAt (now (src .entry)) at) (now (src .entry)) (now (next .exit)) (now (left .exit)) (now (empty .exit)) ⌝ }
-    ensures { λ _. ⌜ now (warnings .exit) ≡ Boundary.row (warningsOf (readIntAt (now (src .entry)) at)) ⌝ }
+    ensures { λ r. ⌜ r ≡ status (readIntCall (now (src .entry)) at) ⌝ }
+    ensures { λ _. ⌜ now (value .exit) ≡ output (λ x. x .value) (now (value .entry)) (readIntCall (now (src .entry)) at) ⌝ }
+    ensures { λ _. ⌜ Stands (readIntCall (now (src .entry)) at) (now (src .entry)) at (now (next .entry)) (now (left .entry)) (now (empty .entry)) (now (next .exit)) (now (left .exit)) (now (empty .exit)) ⌝ }
+    ensures { λ _. ⌜ now (warnings .exit) ≡ Boundary.row (warningsOf (readIntCall (now (src .entry)) at)) ⌝ }
 {
     let r = packer::read_bytes(src, at);
     put_standing(r, next, left, empty);
@@ -48,14 +52,14 @@ pub extern "C" fn cef_unpacker_read_int(
     } = read
     else {
         *warnings = row(Warnings::none());
-        return format::error_number(Error::UnexpectedEnd);
+        return packer::places::refusal(read);
     };
     *value = v;
     *warnings = warned_row(overlong, padding);
     0
 }
 
-// The answer of a reader over ints at a place of src. If it is refused, only value is unchanged.
+// The answer of a reader over ints at a place of src. If the ints end there, only value is unchanged.
 #[no_mangle]
 pub extern "C" fn cef_int_unpacker_read_int(
     src: &[i32],
@@ -65,15 +69,15 @@ pub extern "C" fn cef_int_unpacker_read_int(
     left: &mut usize,
     empty: &mut u32,
 ) -> u32
-    ensures { λ r. ⌜ r ≡ status (plainIntAt (now (src .entry)) at) ⌝ }
-    ensures { λ _. ⌜ now (value .exit) ≡ output (λ x. x .value) (now (value .entry)) (plainIntAt (now (src .entry)) at) ⌝ }
-    ensures { λ _. ⌜ Stands (plainIntAt (now (src .entry)) at) (now (src .entry)) (now (next .exit)) (now (left .exit)) (now (empty .exit)) ⌝ }
+    ensures { λ r. ⌜ r ≡ status (plainIntCall (now (src .entry)) at) ⌝ }
+    ensures { λ _. ⌜ now (value .exit) ≡ output (λ x. x .value) (now (value .entry)) (plainIntCall (now (src .entry)) at) ⌝ }
+    ensures { λ _. ⌜ Stands (plainIntCall (now (src .entry)) at) (now (src .entry)) at (now (next .entry)) (now (left .entry)) (now (empty .entry)) (now (next .exit)) (now (left .exit)) (now (empty .exit)) ⌝ }
 {
     let r = packer::read_ints(src, at);
     put_standing(r, next, left, empty);
     let read = r.read;
     let IntRead::Int { value: v, .. } = read else {
-        return format::error_number(Error::UnexpectedEnd);
+        return packer::places::refusal(read);
     };
     *value = v;
     0

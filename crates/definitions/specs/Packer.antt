@@ -6,8 +6,8 @@ use lib.Dec.{leb}
 use lib.IntN.{ℤ}
 use lib.ListN.{length, drop}
 use Rattle.definitions.specs.Areas.{lay, layAt, fitsAt}
-use Rattle.definitions.specs.Refusals.{capacityError}
-use Rattle.definitions.specs.Outcome.{Outcome, ok, err, return, refuse, Wrote}
+use Rattle.definitions.specs.Refusals.{capacityError, inputTooLong}
+use Rattle.definitions.specs.Outcome.{Outcome, ok, err, return, refuse, require, _>>_, Wrote}
 use Rattle.definitions.specs.Packed.{Read, readInt, writeInt}
 use Rattle.definitions.specs.Stream.{Stream, stream, ints, warnings, isCut}
 
@@ -24,6 +24,12 @@ placed n (err e w) = err e w
 -- the integer at a place
 unfoldable pub readIntAt : List ℕ → ℕ → Outcome IntAt
 readIntAt src at = placed (length src) (readInt (drop at src))
+
+-- the same of at most 1,048,576 bytes
+unfoldable pub readIntCall : List ℕ → ℕ → Outcome IntAt
+readIntCall src at =
+    require (leb (length src) 1048576) inputTooLong
+    >> readIntAt src at
 
 -- an integer's shortest form at a place, and the place after it
 unfoldable pub writeIntAt : List ℕ → ℕ → ℤ → Wrote ℕ ℕ
@@ -44,6 +50,9 @@ unpackStream s out =
     (record { answer = ok (record { count = length (ints s); cut = isCut s }) (warnings s); out = lay (ints s) out })
     (record { answer = err capacityError (warnings s); out = out })
 
--- the packed integers of some bytes at the front of an area
-unfoldable pub unpackInto : List ℕ → List ℤ → Wrote Unpacked ℤ
-unpackInto src out = unpackStream (stream src) out
+-- the packed integers of at most 1,048,576 bytes at the front of an area
+unfoldable pub unpackCall : List ℕ → List ℤ → Wrote Unpacked ℤ
+unpackCall src out =
+    cond (leb (length src) 1048576)
+    (unpackStream (stream src) out)
+    (record { answer = refuse inputTooLong; out = out })

@@ -31,7 +31,7 @@ use Rattle.delta_source.proofs.Reading.{more-warned, as-count, as-negat
 -- ---- a number
 
 module _ (s : Source) (at : ℕ) where
-  pub no-number : Next s at read.End → Numbers s at (number.Refused error.UnexpectedEnd 0 0)
+  pub no-number : {r : Error} → Next s at (read.Refused r) → Numbers s at (number.Refused error.UnexpectedEnd 0 0)
   unfolding headerNumber
   no-number (nothing e) = Steps.refused {e = error.UnexpectedEnd} {o = 0} {p = 0} (rw (e unexpectedEnd)) (omega arith) (omega arith)
 
@@ -65,7 +65,7 @@ odd-warned true r = refl
 odd-warned false r = refl
 
 module _ (s : Source) (at k u o p : ℕ) where
-  pub no-padding : Next s at read.End → HeaderOf s (after (packed o p) (paddingOf k u (from s at))) (header.Refused error.UnexpectedEnd o p)
+  pub no-padding : {r : Error} → Next s at (read.Refused r) → HeaderOf s (after (packed o p) (paddingOf k u (from s at))) (header.Refused error.UnexpectedEnd o p)
   unfolding paddingOf
   no-padding (nothing e) = Steps.refused {e = error.UnexpectedEnd} {o = o} {p = p} (rw (e unexpectedEnd) (ap (err unexpectedEnd) (plus-none (packed o p))))
 

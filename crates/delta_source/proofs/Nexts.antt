@@ -23,6 +23,7 @@ use Rattle.laws.specs.Tests.{below}
 use Rattle.laws.specs.StreamLaws.{stream-end, stream-step, ended}
 use Rattle.laws.specs.StreamLaws as StreamLaws
 use Rattle.laws.specs.ReaderLaws.{int-end, int-found}
+use Rattle.format.specs.Numbers.{number}
 use Rattle.packer.specs.Answers.{intRead}
 use Rattle.packer.specs.declared.IntRead.{IntRead}
 use Rattle.packer.specs.declared.IntRead.the-variants as read
@@ -39,9 +40,9 @@ module _ (src : List ℕ) (l : List ℤ) (at : ℕ) where
   read-next (read.Int x next o p) e =
       let f = StreamLaws.found src at x next (warned o p) e in
       found (f .step) (sym (ap placeOf e)) (f .on) (f .inside)
-  read-next read.End e =
+  read-next (read.Refused r) e =
       ⊎-elim
-      (λ (h : at < length src). nothing (λ refusal. rw (ended src at unexpectedEnd Warnings.none h e)))
+      (λ (h : at < length src). nothing (λ refusal. rw (ended src at (number r) Warnings.none h e)))
       (λ (h : length src ≤ at). nothing (λ refusal. rw (stream-past h)))
       (below at (length src))
 
@@ -76,12 +77,12 @@ module _ (src : List ℕ) (l : List ℤ) (at : ℕ) where
   int-next : (r : IntRead) → at < length l → ok (record { value = getD l at (pos 0); next = at + 1 }) (warned false false) ≡ intRead r → Next (source false src l) at r
   unfolding from behind
   int-next (read.Int x next o p) h e = let q = ap placeOf e in found (int-step h ∙ ap onward e) (sym q) (omega arith) (omega arith)
-  int-next read.End h e = absurd (true≢false (ap (λ (o : Outcome IntAt). isEnd (onward o)) (sym e)))
+  int-next (read.Refused r) h e = absurd (true≢false (ap (λ (o : Outcome IntAt). isEnd (onward o)) (sym e)))
 
   no-int : (r : IntRead) → length l ≤ at → refuse unexpectedEnd ≡ intRead r → Next (source false src l) at r
   unfolding from
   no-int (read.Int x next o p) h e = absurd (true≢false (ap (λ (o : Outcome IntAt). isEnd (onward o)) e))
-  no-int read.End h e = nothing (λ refusal. rw (int-past h))
+  no-int (read.Refused r) h e = nothing (λ refusal. rw (int-past h))
 
   pub plain-next : (r : IntRead) → plainIntAt l at ≡ intRead r → Next (source false src l) at r
   plain-next r e =

@@ -68,7 +68,7 @@ key-kept w v key (ok n c) g e = sym (ap (λ (h : Got Reading.Head). h .value .ke
 key-kept w v key (err n c) g e = absurd (ok-not-err (sym e))
 
 module _ (s : Source) (at k o p : ℕ) where
-  pub size-end : Next s at read.End → HeadOf s [] at (after (packed o p) (sizeOf none k (from s at))) (head.Refused error.ItemDiffsUnpacking o p)
+  pub size-end : {r : Error} → Next s at (read.Refused r) → HeadOf s [] at (after (packed o p) (sizeOf none k (from s at))) (head.Refused error.ItemDiffsUnpacking o p)
   unfolding sizeOf updateSize
   size-end (nothing e) = Steps.refused {e = error.ItemDiffsUnpacking} {over = o} {padd = p} (rw (e itemDiffsUnpacking) (ap (err itemDiffsUnpacking) (plus-none (packed o p))))
 
@@ -131,12 +131,12 @@ module _ (s : Source) (sizes : List ℤ) (at : ℕ) (t i : ℤ) (o p : ℕ) wher
 -- ---- the head
 
 module _ (s : Source) (sizes : List ℤ) (at : ℕ) where
-  pub no-type : Next s at read.End → Heads s sizes at (head.Refused error.ItemDiffsUnpacking 0 0)
+  pub no-type : {r : Error} → Next s at (read.Refused r) → Heads s sizes at (head.Refused error.ItemDiffsUnpacking 0 0)
   unfolding readHead
   no-type (nothing e) = Source.refused {e = error.ItemDiffsUnpacking} {o = 0} {p = 0} (rw (e itemDiffsUnpacking))
 
   module _ (t : ℤ) (a : ℕ) (overlong padding : Bool) where
-    pub no-id : Next s at (read.Int t a overlong padding) → Next s a read.End → Heads s sizes at (head.Refused error.ItemDiffsUnpacking (cond overlong 1 0) (cond padding 1 0))
+    pub no-id : {r : Error} → Next s at (read.Int t a overlong padding) → Next s a (read.Refused r) → Heads s sizes at (head.Refused error.ItemDiffsUnpacking (cond overlong 1 0) (cond padding 1 0))
     unfolding readHead
     no-id (found e j x y) (nothing f) =
         Source.refused {e = error.ItemDiffsUnpacking} {o = cond overlong 1 0} {p = cond padding 1 0} (rw (e, f itemDiffsUnpacking) (ap (err itemDiffsUnpacking) (plus-none _ ∙ warned-packed overlong padding)))

@@ -21,6 +21,7 @@ use Rattle.laws.specs.WarningLaws.{packed, warned-packed, none-plus, plus-none,
 use Rattle.laws.specs.OutcomeLaws.{ok-value, ok-not-err}
 use Rattle.laws.specs.DeltaReadBack.{reads}
 use Rattle.ints.specs.Copies.{Copied, copyAt}
+use Rattle.format.specs.declared.Error.{Error}
 use Rattle.packer.specs.declared.IntRead.the-variants as read
 use Rattle.delta_source.specs.Source.{Source, source, size, from, behindInts, Next, found, nothing, Skips, past, short, Copies}
 use Rattle.delta_source.specs.SourcePlaces.{behind-none, behind-step, behind-ints}
@@ -120,7 +121,7 @@ module _ (s : Source) (start n : ℕ) where
         last refusal (suc m) h = absurd (omega arith)
 
     -- not all are there
-    pub cut-short : Skipping s start n at left o p → 0 < left → Next s at read.End → Skips s start n (skip.Short o p)
+    pub cut-short : {r : Error} → Skipping s start n at left o p → 0 < left → Next s at (read.Refused r) → Skips s start n (skip.Short o p)
     cut-short i h (nothing e) =
         short (λ refusal.
         i .joins refusal
@@ -243,7 +244,7 @@ module _ (s : Source) (start n to : ℕ) (before : List ℤ) where
         done (suc k) q l = absurd (omega arith)
 
     -- they are not there
-    pub none-left : Copying s start n to before out at i → i < n → Next s at read.End → (l : List ℤ) → Copies s start n to before l
+    pub none-left : {r : Error} → Copying s start n to before out at i → i < n → Next s at (read.Refused r) → (l : List ℤ) → Copies s start n to before l
     none-left c h (nothing f) l xs rest w refusal e =
         let k = c .joins xs rest w refusal e in
         let m : n - i ≡ suc (n - (i + 1)) = omega arith in

@@ -78,7 +78,7 @@ behindUpdate s sizes at u = behindInts s (dataPlace s sizes at (u .key)) (length
 -- the integer at a place, or that there is none
 pub data Next (s : Source) (at : ℕ) : IntRead → Type 0 where
   found : {x : ℤ} {next : ℕ} {o p : Bool} → from s at ≡ int x (warned o p) (from s next) → next ≡ behind s at → at < next → next ≤ size s → Next s at (read.Int x next o p)
-  nothing : ((refusal : ℕ) → Reading.next refusal (from s at) ≡ refuse refusal) → Next s at read.End
+  nothing : {e : Error} → ((refusal : ℕ) → Reading.next refusal (from s at) ≡ refuse refusal) → Next s at (read.Refused e)
 
 -- n integers were skipped, or are not all there
 pub data Skips (s : Source) (at n : ℕ) : Skip → Type 0 where

@@ -25,9 +25,9 @@ pub fn next_int(bytes: &[u8], ints: &[i32], packed: bool, at: usize) -> IntRead
     ensures { λ r. ⌜ Next (source packed (now (bytes .entry)) (now (ints .entry))) at r ⌝ }
 {
     if packed {
-        return packer::read_int(bytes, at);
+        return packer::checked::read_int(bytes, at);
     }
-    packer::places::read_plain_int(ints, at)
+    packer::checked::read_plain_int(ints, at)
 }
 
 // Whether nothing is left.
@@ -69,7 +69,7 @@ pub fn skip_packed(bytes: &[u8], start: usize, n: usize) -> Skip
             overlong: o,
             padding: p,
             ..
-        } = packer::read_int(bytes, at)
+        } = packer::checked::read_int(bytes, at)
         else {
             return Skip::Short { overlong, padding };
         };
@@ -114,7 +114,7 @@ pub fn copy_packed(bytes: &[u8], start: usize, n: usize, out: &mut [i32], to: us
     let mut at = start;
     let mut i: usize = 0;
     while i < n {
-        let IntRead::Int { value, next, .. } = packer::read_int(bytes, at) else {
+        let IntRead::Int { value, next, .. } = packer::checked::read_int(bytes, at) else {
             return;
         };
         out[to + i] = value;

@@ -1,5 +1,6 @@
 -- Facts that the proofs of `packer` share. Assumes nothing.
 pub mod Steps
+pub mod Calls
 pub mod Writes
 pub mod Answers
 pub mod Scanning

@@ -3,7 +3,7 @@ use mathlib.Core.Path.{_≡_, refl, sym, ap, _∙_}
 use mathlib.Core.List.{List, [], _∷_, _++_}
 use mathlib.Core.Bool.{Bool, true, false, cond}
 use Prim.Native.Nat.{ℕ, suc, _+_, _≤_, _<_}
-use native.Mathlib.Nat.{zero-add, add-zero}
+use native.Mathlib.Nat.{zero-add}
 use native.Mathlib.Omega.{arith}
 use borrow.Author.Tests.{le-leb, lt-leb}
 use lib.IntN.{ℤ}
@@ -13,7 +13,7 @@ use Rattle.definitions.specs.Warnings.{Counts, none, plus}
 use Rattle.definitions.specs.Refusals.{capacityError}
 use Rattle.definitions.specs.Outcome.{ok, err, Wrote}
 use Rattle.definitions.specs.Packed.{warned}
-use Rattle.definitions.specs.Packer.{Unpacked, unpackInto}
+use Rattle.definitions.specs.Packer.{Unpacked, unpackStream}
 use Rattle.definitions.specs.Stream.{Stream, int, end, cut, stream, ints, warnings, isCut}
 use Rattle.laws.specs.Tests.{at-most-one}
 use Rattle.laws.specs.AreaLaws.{lay-nowhere, layAt-split, layAt-nothing, length-layAt}
@@ -76,14 +76,6 @@ module _ {src : List ℕ} {before out : List ℤ} {at : ℕ} {t : Totals} where
         laid = sym (layAt-split (t .count) x (ints rest) out) ∙ (rw (f .step) at (s .laid));
       }
 
-  -- one integer more that may be overlong
-  pub turn-short : {x : ℤ} {next : ℕ} (overlong : Bool) → Scanning src before out at t → Found src at x next (warned overlong false) → Scanning src before (layAt (t .count) (x ∷ []) out) next (record { count = t .count + 1; cut = t .cut; overlong = t .overlong + cond overlong 1 0; padding = t .padding })
-  turn-short overlong s f = rw (add-zero (t .padding)) at (turn overlong false s f)
-
-  -- one integer more without a warning
-  pub turn-plain : {x : ℤ} {next : ℕ} → Scanning src before out at t → Found src at x next (warned false false) → Scanning src before (layAt (t .count) (x ∷ []) out) next (record { count = t .count + 1; cut = t .cut; overlong = t .overlong; padding = t .padding })
-  turn-plain s f = rw (add-zero (t .overlong)) at (turn-short false s f)
-
   -- nothing more comes
   last : {u : Stream} → Scanning src before out at t → stream (drop at src) ≡ u → ints u ≡ [] → warnings u ≡ none → Scanned (stream src) before (record { count = t .count; cut = isCut u; overlong = t .overlong; padding = t .padding }) out
   last {u} s e i w =
@@ -110,14 +102,12 @@ module _ {src : List ℕ} {before out : List ℤ} {at : ℕ} {t : Totals} where
 -- ---- what the pass comes to
 
 module _ (src : List ℕ) (before : List ℤ) (t : Totals) (w : Counts) (e : w ≡ packed (t .overlong) (t .padding)) where
-  pub all-unpacked : (out : List ℤ) → length (ints (stream src)) ≤ length before → Scanned (stream src) before t out → unpackInto src before ≡ record { answer = ok (record { count = t .count; cut = t .cut }) w; out = out }
-  unfolding unpackInto
+  pub all-unpacked : (out : List ℤ) → length (ints (stream src)) ≤ length before → Scanned (stream src) before t out → unpackStream (stream src) before ≡ record { answer = ok (record { count = t .count; cut = t .cut }) w; out = out }
   all-unpacked out h s =
       rw (le-leb (length (ints (stream src))) (length before) h, e, s .warnings-are, s .count-is, s .cut-is, s .out-is)
 
   -- a pass that laid nothing found too many
-  pub no-room : (front : List ℤ) → length (front ++ before) < t .count → Scanned (stream src) [] t front → unpackInto src before ≡ record { answer = err capacityError w; out = front ++ before }
-  unfolding unpackInto
+  pub no-room : (front : List ℤ) → length (front ++ before) < t .count → Scanned (stream src) [] t front → unpackStream (stream src) before ≡ record { answer = err capacityError w; out = front ++ before }
   no-room front h s =
       let f : front ≡ [] = s .out-is ∙ lay-nowhere (ints (stream src)) in
       rw (lt-leb (length (ints (stream src))) (length before) (omega (arith, s .count-is, ap (λ (l : List ℤ). length (l ++ before)) f)), e, s .warnings-are, f)

@@ -1,13 +1,14 @@
 -- Reading an integer at a place, one byte at a time. Assumes nothing.
 use mathlib.Core.Path.{_≡_, refl, sym, ap, _∙_}
 use mathlib.Core.List.{List}
-use mathlib.Core.Bool.{Bool, false}
+use mathlib.Core.Bool.{Bool, true, false, true≢false, _||_}
+use mathlib.Core.Logic.{_⊎_, inl, inr, ⊎-elim}
 use Prim.Native.Nat.{ℕ, zero, suc, _+_, _-_, _*_, _%_, _^_, _≤_, _<_}
 use native.Mathlib.Nat.{mul-le-mul-right}
 use native.Mathlib.Numerals.{add-one}
 use native.Mathlib.Omega.{arith}
-use borrow.Author.Tests.{le-leb, lt-leb}
-use lib.Dec.{leb, eqb}
+use borrow.Author.Tests.{le-leb, lt-leb, lt-ltb, le-ltb, eq-eqb, eqb-true}
+use lib.Dec.{leb, ltb, eqb}
 use lib.IntN.{ℤ}
 use lib.ListN.{length, drop, getD, drop-of-length-le, length-drop}
 use lib.Seq.{drop-cons}
@@ -15,15 +16,12 @@ use Rattle.definitions.specs.Refusals.{unexpectedEnd}
 use Rattle.definitions.specs.Outcome.{Outcome, ok, return, refuse}
 use Rattle.definitions.specs.Packed.{signed, sign, warned, more, readInt}
 use Rattle.definitions.specs.Packer.{IntAt, readIntAt}
+use Rattle.laws.specs.Tests.{below}
 use Rattle.packer.specs.Bytes.{moreAt}
 
 -- an int at a place before this one
 abbrev found : ℤ → ℕ → Bool → Bool → Outcome IntAt
 found x next overlong padding = ok (record { value = x; next = next }) (warned overlong padding)
-
--- the fifth byte's bits above bit 4 vanish
-fifth : (d b : ℕ) → d < 2 ^ 27 → (d + b * 134217728) % 2 ^ 32 ≡ d + b % 32 * 134217728
-fifth d b h = omega arith
 
 one-less : (n : ℕ) → 0 < n → suc (n - 1) ≡ n
 one-less n h = omega arith
@@ -63,17 +61,6 @@ module _ (src : List ℕ) (p : ℕ) where
   pub more-more : (n w d : ℕ) (s : Bool) → 0 < n → p < length src → 128 ≤ byte → moreAt src p n w d s ≡ moreAt src (p + 1) (n - 1) (w * 128) (d + byte % 128 * w) s
   more-more n w d s m h k = ap (λ (j : ℕ). moreAt src p j w d s) (sym (one-less n m)) ∙ next-byte (n - 1) w d s h k
 
-  pub more-last : (d : ℕ) (s : Bool) → p < length src → d < 2 ^ 27 → moreAt src p 0 134217728 d s ≡ found (signed s (d + byte % 32 * 134217728)) (p + 1) (eqb byte 0) (leb 16 byte)
-  unfolding moreAt more
-  more-last d s h k = rw (drop-cons src p 0 h, fifth d byte k, next h)
-
--- an integer of two bytes
-pub read-two : (src : List ℕ) (p c : ℕ) → p < length src → 128 ≤ getD src p 0 → p + 1 < length src → c ≡ getD src (p + 1) 0 → c < 128 → readIntAt src p ≡ found (signed (sign (getD src p 0)) (getD src p 0 % 64 + c * 64)) (p + 2) (eqb c 0) false
-read-two src p c h k m e l =
-    let q : p + 1 + 1 ≡ p + 2 = omega arith in
-    let b : getD src (p + 1) 0 < 128 = omega arith in
-    read-more src p h k ∙ more-one src (p + 1) 3 64 (getD src p 0 % 64) (sign (getD src p 0)) (omega arith) m b ∙ rw (q, ← e)
-
 -- ---- the weights of the bytes after the first
 
 -- how many more bytes may follow the next one, and its weight
@@ -95,12 +82,79 @@ lighter third h = fourth
 lighter fourth h = last
 lighter last h = let z : ⊥ = omega arith in absurd z
 
-pub at-last : {n w : ℕ} → Weight n w → n ≤ 0 → (n ≡ 0) × (w ≡ 134217728)
-at-last second h = let z : ⊥ = omega arith in absurd z
-at-last third h = let z : ⊥ = omega arith in absurd z
-at-last fourth h = let z : ⊥ = omega arith in absurd z
-at-last last h = (refl, refl)
+-- a byte before the fifth
+pub earlier : {n w : ℕ} → Weight n w → (w ≡ 134217728 → ⊥) → 0 < n
+earlier second h = omega arith
+earlier third h = omega arith
+earlier fourth h = omega arith
+earlier last h = absurd (h refl)
+
+pub light : {n w : ℕ} → Weight n w → w ≤ 134217728
+light second = omega arith
+light third = omega arith
+light fourth = omega arith
+light last = omega arith
+
+-- any byte at its weight
+pub heavy : {n w b : ℕ} → Weight n w → b < 256 → b * w < 2 ^ 35
+heavy second h = omega arith
+heavy third h = omega arith
+heavy fourth h = omega arith
+heavy last h = omega arith
 
 -- a digit at its weight
 pub digit : {b : ℕ} (w : ℕ) → b < 128 → b * w ≤ 127 * w
 digit w h = mul-le-mul-right w (omega arith)
+
+-- ---- the last byte
+
+-- no other byte follows, or it is the fifth
+pub is-last : (b w : ℕ) → (ltb b 128 || eqb w 134217728) ≡ true → (b < 128) ⊎ (w ≡ 134217728)
+is-last b w e =
+    ⊎-elim
+    (λ (h : b < 128). inl h)
+    (λ (h : 128 ≤ b). inr (eqb-true w 134217728 (rw (le-ltb b 128 h) at e)))
+    (below b 128)
+
+pub not-last : (b w : ℕ) → (ltb b 128 || eqb w 134217728) ≡ false → (128 ≤ b) × (w ≡ 134217728 → ⊥)
+not-last b w e =
+    ⊎-elim
+    (λ (h : b < 128). absurd (true≢false (rw (lt-ltb b 128 h) at e)))
+    (λ (h : 128 ≤ b). (h, λ q. absurd (true≢false (sym (eq-eqb w 134217728 q) ∙ (rw (le-ltb b 128 h) at e)))))
+    (below b 128)
+
+-- the digits of a fifth byte that is padding take more than 31 bits
+padded : (d b : ℕ) → d < 134217728 → leb 16 b ≡ leb 2147483648 (d + b * 134217728)
+padded d b k =
+    ⊎-elim
+    (λ (h : b < 16). lt-leb 16 b h ∙ sym (lt-leb 2147483648 (d + b * 134217728) (omega arith)))
+    (λ (h : 16 ≤ b). le-leb 16 b h ∙ sym (le-leb 2147483648 (d + b * 134217728) (omega arith)))
+    (below b 16)
+
+module _ (src : List ℕ) (p d : ℕ) (s : Bool) (h : p < length src) where
+  -- an integer with these digits that ends here
+  abbrev whole : ℕ → Outcome IntAt
+  whole m = found (signed s (m % 2 ^ 32)) (p + 1) (eqb (byte src p) 0) (leb 2147483648 m)
+
+  before-fifth : {n w : ℕ} → Weight n w → 0 < n → d < w → byte src p < 128 → moreAt src p n w d s ≡ whole (d + byte src p * w)
+  before-fifth {n} {w} k m l b =
+      let f : d + byte src p * w < 2147483648 = omega (arith, digit w b, small k m) in
+      let e : (d + byte src p * w) % 2 ^ 32 ≡ d + byte src p * w = omega arith in
+      more-one src p n w d s m h b ∙ rw (e, lt-leb 2147483648 (d + byte src p * w) f)
+
+  at-fifth : d < 134217728 → moreAt src p 0 134217728 d s ≡ whole (d + byte src p * 134217728)
+  unfolding moreAt more
+  at-fifth l = rw (drop-cons src p 0 h, ← padded d (byte src p) l, next src p h)
+
+  pub more-last : {n w : ℕ} → Weight n w → d < w → (byte src p < 128) ⊎ (w ≡ 134217728) → moreAt src p n w d s ≡ whole (d + byte src p * w)
+  more-last second l e = ⊎-elim (λ b. before-fifth second (omega arith) l b) (λ q. let z : ⊥ = omega arith in absurd z) e
+  more-last third l e = ⊎-elim (λ b. before-fifth third (omega arith) l b) (λ q. let z : ⊥ = omega arith in absurd z) e
+  more-last fourth l e = ⊎-elim (λ b. before-fifth fourth (omega arith) l b) (λ q. let z : ⊥ = omega arith in absurd z) e
+  more-last last l e = at-fifth l
+
+-- what is left to read from a place on comes to the same as all of it
+pub record Reading (src : List ℕ) (start first : ℕ) (sign : Bool) (at digits weight : ℕ) : Type 0 where
+  pub left : ℕ
+  pub weighs : Weight left weight
+  pub few : digits < weight
+  pub same : moreAt src start 3 64 first sign ≡ moreAt src at left weight digits sign

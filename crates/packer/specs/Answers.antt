@@ -1,6 +1,5 @@
 -- What the answers of `packer` mean: the refusal's number and the values of each case. Assumes nothing.
 use Prim.Native.Nat.{ℕ}
-use Rattle.definitions.specs.Refusals.{unexpectedEnd}
 use Rattle.definitions.specs.Warnings.{Counts}
 use Rattle.definitions.specs.Outcome.{Outcome, ok, err, return, refuse}
 use Rattle.definitions.specs.Packed.{warned}
@@ -8,7 +7,7 @@ use Rattle.definitions.specs.Packer.{IntAt, Unpacked}
 use Rattle.format.specs.Numbers.{number}
 use Rattle.format.specs.Totals.{counts}
 use Rattle.packer.specs.declared.IntRead.{IntRead}
-use Rattle.packer.specs.declared.IntRead.the-variants.{Int, End}
+use Rattle.packer.specs.declared.IntRead.the-variants.{Int, Refused}
 use Rattle.packer.specs.declared.IntWrite.{IntWrite}
 use Rattle.packer.specs.declared.IntWrite.the-variants as write
 use Rattle.packer.specs.declared.IntsRead.{IntsRead}
@@ -16,7 +15,12 @@ use Rattle.packer.specs.declared.IntsRead.the-variants as all
 
 abbrev pub intRead : IntRead → Outcome IntAt
 intRead (Int x next overlong padding) = ok (record { value = x; next = next }) (warned overlong padding)
-intRead End = refuse unexpectedEnd
+intRead (Refused e) = refuse (number e)
+
+-- the number of a refusal, 0 of an integer
+abbrev pub refusal : IntRead → ℕ
+refusal (Int x next overlong padding) = 0
+refusal (Refused e) = number e
 
 abbrev pub intWrite : IntWrite → Outcome ℕ
 intWrite (write.Next n) = return n

@@ -1,6 +1,7 @@
 -- What a reader answers, and the reader after reading. Assumes nothing.
 use mathlib.Core.Path.{_≡_}
 use mathlib.Core.List.{List}
+use Prim.Native.Nat.{ℕ}
 use lib.Dec.{leb}
 use lib.ListN.{length, drop}
 use denote.Ref.{now}
@@ -14,14 +15,14 @@ use Rattle.packer.specs.declared.readers.ReaderAnswer.{ReaderAnswer}
 
 -- a reader after reading
 abbrev pub moved : Unpacker → Outcome IntAt → Unpacker
-moved u o = record { src = u .src; at = placeAfter (length (now (u .src))) o }
+moved u o = record { src = u .src; at = placeAfter (length (now (u .src))) (u .at) o }
 
 abbrev pub intsMoved : IntUnpacker → Outcome IntAt → IntUnpacker
-intsMoved u o = record { src = u .src; at = placeAfter (length (now (u .src))) o }
+intsMoved u o = record { src = u .src; at = placeAfter (length (now (u .src))) (u .at) o }
 
--- the answer of a reader of some entries for what it read
-pub record Answered {A : Type 0} (o : Outcome IntAt) (entries : List A) (r : ReaderAnswer) : Type 0 where
+-- the answer of a reader of some entries for what it read at a place
+pub record Answered {A : Type 0} (o : Outcome IntAt) (entries : List A) (at : ℕ) (r : ReaderAnswer) : Type 0 where
   pub read-is : o ≡ intRead (r .read)
-  pub at-is : r .at ≡ placeAfter (length entries) o
+  pub at-is : r .at ≡ placeAfter (length entries) at o
   pub left-is : r .left ≡ length (drop (r .at) entries)
   pub empty-is : r .empty ≡ leb (length entries) (r .at)

@@ -9,15 +9,14 @@ ghost use lib.ListN.{length, getD};
 ghost use lib.Signed.{mag};
 ghost use Rattle.definitions.specs.Areas.{layAt};
 ghost use Rattle.definitions.specs.Outcome.{return};
-ghost use Rattle.definitions.specs.Packed.{signed, sign, signBit, writeMore, writeInt, packInts};
+ghost use Rattle.definitions.specs.Packed.{signBit, writeMore, writeInt, packInts};
 ghost use Rattle.definitions.specs.Stored.{stored};
 ghost use Rattle.definitions.specs.Stream as Stream;
 ghost use Rattle.definitions.specs.Stream.{stream};
-ghost use Rattle.definitions.specs.Packer.{readIntAt, writeIntAt, unpackInto};
+ghost use Rattle.definitions.specs.Packer.{readIntCall, writeIntAt, unpackStream, unpackCall};
 ghost use Rattle.laws.specs.WarningLaws.{packed};
 ghost use Rattle.format.specs.Totals.{counts};
 ghost use Rattle.packer.specs.Answers.{intRead, intWrite, unpacked};
-ghost use Rattle.packer.specs.Bytes.{moreAt};
 use checked::pack_at;
 use checked::scan;
 use format::Error;
@@ -34,7 +33,10 @@ pub use readers::Unpacker;
 pub use readers::read_bytes;
 pub use readers::read_ints;
 
-// What stands at a place: an int with the place after it and whether it has each warning; or the bytes end inside it.
+// The most bytes or ints that a call reads.
+pub const MAX_INPUT: usize = 1048576;
+
+// What stands at a place: an int with the place after it and whether it has each warning; or why none is read.
 pub enum IntRead {
     Int {
         value: i32,
@@ -42,7 +44,7 @@ pub enum IntRead {
         overlong: bool,
         padding: bool,
     },
-    End,
+    Refused(Error),
 }
 
 // The place after what was written, or why nothing was written.
@@ -62,101 +64,14 @@ pub struct Unpacked {
     pub warnings: Warnings,
 }
 
-// The int with the digits d; the sign turns all bits over.
-fn signed_value(sign: bool, d: u32) -> i32
-    ensures { λ r. ⌜ r ≡ signed sign d ⌝ }
-{
-    if sign {
-        ints::from_bits(!d)
-    } else {
-        ints::from_bits(d)
-    }
-}
-
 // The integer at a place of src.
 pub fn read_int(src: &[u8], at: usize) -> IntRead
-    ensures { λ r. ⌜ readIntAt (now (src .entry)) at ≡ intRead r ⌝ }
+    ensures { λ r. ⌜ readIntCall (now (src .entry)) at ≡ intRead r ⌝ }
 {
-    if src.len() <= at {
-        return IntRead::End;
+    if MAX_INPUT < src.len() {
+        return IntRead::Refused(Error::InputTooLong);
     }
-    let b = src[at] as u32;
-    let sign = b / 64 % 2 == 1;
-    if b < 128 {
-        return IntRead::Int {
-            value: signed_value(sign, b % 64),
-            next: at + 1,
-            overlong: false,
-            padding: false,
-        };
-    }
-    read_more(src, at + 1, sign, b % 64)
-}
-
-// The second byte of the integer at a place, where it ends there; else 128.
-fn second_byte(src: &[u8], at: usize) -> u32
-    requires { ⌜ at < length (now src) ⌝ }
-    ensures { λ r. ⌜ (r < 128 → at + 1 < length (now (src .entry))) × (r < 128 → r ≡ getD (now (src .entry)) (at + 1) 0) × (r < 256) ⌝ }
-{
-    if src.len() - at < 2 {
-        return 128;
-    }
-    src[at + 1] as u32
-}
-
-// The int of two bytes.
-fn two_bytes(b: u32, c: u32) -> i32
-    requires { ⌜ c < 128 ⌝ }
-    ensures { λ r. ⌜ r ≡ signed (sign b) (b % 64 + c * 64) ⌝ }
-{
-    signed_value(b / 64 % 2 == 1, b % 64 + c * 64)
-}
-
-// The bytes of an integer after its first, whose digits are first.
-fn read_more(src: &[u8], start: usize, sign: bool, first: u32) -> IntRead
-    requires { ⌜ first < 64 ⌝ }
-    ensures { λ r. ⌜ moreAt (now (src .entry)) start 3 64 first sign ≡ intRead r ⌝ }
-{
-    let mut at = start;
-    let mut digits = first;
-    let mut weight: u32 = 64;
-    let mut left: u32 = 3;
-    while 0 < left {
-        if src.len() <= at {
-            return IntRead::End;
-        }
-        let b = src[at] as u32;
-        if b < 128 {
-            return IntRead::Int {
-                value: signed_value(sign, digits + b * weight),
-                next: at + 1,
-                overlong: b == 0,
-                padding: false,
-            };
-        }
-        digits += b % 128 * weight;
-        weight *= 128;
-        left -= 1;
-        at += 1;
-    }
-    read_fifth(src, at, sign, digits)
-}
-
-// The fifth byte of an integer: bit 4 lands in bit 31, and the bits above vanish.
-fn read_fifth(src: &[u8], at: usize, sign: bool, digits: u32) -> IntRead
-    requires { ⌜ digits < 2 ^ 27 ⌝ }
-    ensures { λ r. ⌜ moreAt (now (src .entry)) at 0 134217728 digits sign ≡ intRead r ⌝ }
-{
-    if src.len() <= at {
-        return IntRead::End;
-    }
-    let b = src[at] as u32;
-    IntRead::Int {
-        value: signed_value(sign, digits + b % 32 * 134217728),
-        next: at + 1,
-        overlong: b == 0,
-        padding: 16 <= b,
-    }
+    checked::read_int(src, at)
 }
 
 // The digits of an int: x, or -1 - x if x is negative.
@@ -270,7 +185,7 @@ pub fn packed_warnings(overlong: usize, padding: usize) -> Warnings
 // All the packed integers of src, into the front of out, which has room for them.
 fn unpack_all(src: &[u8], out: &mut [i32]) -> Unpacked
     requires { ⌜ length (Stream.ints (stream (now src))) ≤ length (now out) ⌝ }
-    ensures { λ r. ⌜ unpackInto (now (src .entry)) (now (out .entry)) ≡ record { answer = unpacked (r .answer) (counts (r .warnings)); out = now (out .exit) } ⌝ }
+    ensures { λ r. ⌜ unpackStream (stream (now (src .entry))) (now (out .entry)) ≡ record { answer = unpacked (r .answer) (counts (r .warnings)); out = now (out .exit) } ⌝ }
 {
     let all = scan(src, out);
     Unpacked {
@@ -283,8 +198,8 @@ fn unpack_all(src: &[u8], out: &mut [i32]) -> Unpacked
 }
 
 // All the packed integers of src, into the front of out; where they do not fit, out is left as it was.
-pub fn unpack(src: &[u8], out: &mut [i32]) -> Unpacked
-    ensures { λ r. ⌜ unpackInto (now (src .entry)) (now (out .entry)) ≡ record { answer = unpacked (r .answer) (counts (r .warnings)); out = now (out .exit) } ⌝ }
+fn unpack_judged(src: &[u8], out: &mut [i32]) -> Unpacked
+    ensures { λ r. ⌜ unpackStream (stream (now (src .entry))) (now (out .entry)) ≡ record { answer = unpacked (r .answer) (counts (r .warnings)); out = now (out .exit) } ⌝ }
 {
     if src.len() <= out.len() {
         return unpack_all(src, out);
@@ -297,6 +212,19 @@ pub fn unpack(src: &[u8], out: &mut [i32]) -> Unpacked
         };
     }
     unpack_all(src, out)
+}
+
+// Unpacks all integers of src into the front of out. A refused call leaves out unchanged.
+pub fn unpack(src: &[u8], out: &mut [i32]) -> Unpacked
+    ensures { λ r. ⌜ unpackCall (now (src .entry)) (now (out .entry)) ≡ record { answer = unpacked (r .answer) (counts (r .warnings)); out = now (out .exit) } ⌝ }
+{
+    if MAX_INPUT < src.len() {
+        return Unpacked {
+            answer: IntsRead::Refused(Error::InputTooLong),
+            warnings: Warnings::none(),
+        };
+    }
+    unpack_judged(src, out)
 }
 
 // Whether the packed form of src has at most room bytes. If five bytes for each int fit, no int is looked at.

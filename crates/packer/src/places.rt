@@ -1,32 +1,47 @@
 // What the readers do at a place of a slice: plain functions, which every caller without a reader may use.
 ghost use mathlib.Core.Path.{_≡_};
 ghost use lib.ListN.{drop};
-ghost use Rattle.definitions.specs.Readers.{plainIntAt, placeAfter};
+ghost use Rattle.definitions.specs.Readers.{plainIntCall, placeAfter};
+ghost use Rattle.packer.specs.Answers as Answers;
 ghost use Rattle.packer.specs.Answers.{intRead};
 use super::IntRead;
+use super::MAX_INPUT;
+use super::checked;
+use format::Error;
 
 // The int at a place of src.
 pub fn read_plain_int(src: &[i32], at: usize) -> IntRead
-    ensures { λ r. ⌜ plainIntAt (now (src .entry)) at ≡ intRead r ⌝ }
+    ensures { λ r. ⌜ plainIntCall (now (src .entry)) at ≡ intRead r ⌝ }
 {
-    if src.len() <= at {
-        return IntRead::End;
+    if MAX_INPUT < src.len() {
+        return IntRead::Refused(Error::InputTooLong);
     }
-    IntRead::Int {
-        value: src[at],
-        next: at + 1,
-        overlong: false,
-        padding: false,
+    checked::read_plain_int(src, at)
+}
+
+// The number of a refusal, 0 of an integer.
+pub fn refusal(read: IntRead) -> u32
+    ensures { λ r. ⌜ r ≡ Answers.refusal read ⌝ }
+{
+    match read {
+        IntRead::Int { .. } => 0,
+        IntRead::Refused(e) => format::error_number(e),
     }
 }
 
-// Where a reader stands after what it read of len entries: behind the integer, or at the end.
-pub fn place_after(read: IntRead, len: usize) -> usize
-    ensures { λ r. ⌜ r ≡ placeAfter len (intRead read) ⌝ }
+// Where a reader of len entries stands after what it read at a place: behind the integer; where it was if there are too many entries
+// (42); else at the end.
+pub fn place_after(read: IntRead, at: usize, len: usize) -> usize
+    ensures { λ r. ⌜ r ≡ placeAfter len at (intRead read) ⌝ }
 {
     match read {
         IntRead::Int { next, .. } => next,
-        IntRead::End => len,
+        IntRead::Refused(e) => {
+            if format::error_number(e) == 42 {
+                return at;
+            }
+            len
+        }
     }
 }
 

@@ -3,8 +3,8 @@
 ghost use mathlib.Core.Path.{_≡_};
 ghost use lib.Dec.{leb};
 ghost use lib.ListN.{length, drop};
-ghost use Rattle.definitions.specs.Packer.{readIntAt};
-ghost use Rattle.definitions.specs.Readers.{plainIntAt};
+ghost use Rattle.definitions.specs.Packer.{readIntCall};
+ghost use Rattle.definitions.specs.Readers.{plainIntCall};
 ghost use Rattle.packer.specs.Answers.{intRead};
 ghost use Rattle.packer.specs.ReaderAnswers.{moved, intsMoved, Answered};
 use super::IntRead;
@@ -45,12 +45,13 @@ impl<'a> Unpacker<'a> {
         self.src.len() <= self.at
     }
 
-    // The next integer. The place moves behind it, or to the end of the bytes where they end inside it.
+    // The next integer. The place moves behind it, or to the end of the bytes where they end inside it; a reader over too many
+    // bytes stays where it is.
     pub fn read_int(&mut self) -> IntRead
-        ensures { λ r. ⌜ (readIntAt (now (now (self .entry) .src)) (now (self .entry) .at) ≡ intRead r) × (now (self .exit) ≡ moved (now (self .entry)) (intRead r)) ⌝ }
+        ensures { λ r. ⌜ (readIntCall (now (now (self .entry) .src)) (now (self .entry) .at) ≡ intRead r) × (now (self .exit) ≡ moved (now (self .entry)) (intRead r)) ⌝ }
     {
         let read = super::read_int(self.src, self.at);
-        self.at = places::place_after(read, self.src.len());
+        self.at = places::place_after(read, self.at, self.src.len());
         read
     }
 
@@ -84,12 +85,13 @@ impl<'a> IntUnpacker<'a> {
         self.src.len() <= self.at
     }
 
-    // The next int. The place moves behind it, or to the end of the ints where there is none.
+    // The next int. The place moves behind it, or to the end of the ints where there is none; a reader over too many ints stays
+    // where it is.
     pub fn read_int(&mut self) -> IntRead
-        ensures { λ r. ⌜ (plainIntAt (now (now (self .entry) .src)) (now (self .entry) .at) ≡ intRead r) × (now (self .exit) ≡ intsMoved (now (self .entry)) (intRead r)) ⌝ }
+        ensures { λ r. ⌜ (plainIntCall (now (now (self .entry) .src)) (now (self .entry) .at) ≡ intRead r) × (now (self .exit) ≡ intsMoved (now (self .entry)) (intRead r)) ⌝ }
     {
         let read = places::read_plain_int(self.src, self.at);
-        self.at = places::place_after(read, self.src.len());
+        self.at = places::place_after(read, self.at, self.src.len());
         read
     }
 
@@ -115,7 +117,7 @@ fn answer(read: IntRead, at: usize, left: usize, empty: bool) -> ReaderAnswer
 
 // What a reader over packed bytes answers that stands at a place.
 pub fn read_bytes(src: &[u8], at: usize) -> ReaderAnswer
-    ensures { λ r. ⌜ Answered (readIntAt (now (src .entry)) at) (now (src .entry)) r ⌝ }
+    ensures { λ r. ⌜ Answered (readIntCall (now (src .entry)) at) (now (src .entry)) at r ⌝ }
 {
     let mut reader = Unpacker::new(src);
     reader.at = at;
@@ -130,7 +132,7 @@ pub fn read_bytes(src: &[u8], at: usize) -> ReaderAnswer
 
 // What a reader over ints answers that stands at a place.
 pub fn read_ints(src: &[i32], at: usize) -> ReaderAnswer
-    ensures { λ r. ⌜ Answered (plainIntAt (now (src .entry)) at) (now (src .entry)) r ⌝ }
+    ensures { λ r. ⌜ Answered (plainIntCall (now (src .entry)) at) (now (src .entry)) at r ⌝ }
 {
     let mut reader = IntUnpacker::new(src);
     reader.at = at;

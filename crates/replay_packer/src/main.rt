@@ -4,7 +4,6 @@
 //     i AT INT..      the same by a reader over the ints
 //     w ROOM AT INT   an int is written into ROOM bytes aa: NEXT HEX, or refused 40 HEX
 //     u ROOM HEX      all ints are unpacked: COUNT CUT OVERLONG PADDING INT.., or refused 40 OVERLONG PADDING
-use format::Error;
 use format::Warnings;
 use libc::STDIN_FILENO;
 use libc::STDOUT_FILENO;
@@ -33,19 +32,21 @@ fn read_case(line: &[u8], out: &mut [u8]) -> usize {
     let mut src = [0u8; 64];
     let len = replay_text::bytes(word(line, 2), &mut src);
     let at = replay_text::number(word(line, 1));
-    let IntRead::Int {
-        value,
-        next,
-        overlong,
-        padding,
-    } = packer::read_int(&src[..len], at)
-    else {
-        return put_refused(out, Error::UnexpectedEnd);
-    };
-    let end = put_int(out, 0, value);
-    let end = put_next(out, end, next);
-    let end = put_next(out, end, ints::one_if(overlong));
-    put_next(out, end, ints::one_if(padding))
+    let read = packer::read_int(&src[..len], at);
+    match read {
+        IntRead::Int {
+            value,
+            next,
+            overlong,
+            padding,
+        } => {
+            let end = put_int(out, 0, value);
+            let end = put_next(out, end, next);
+            let end = put_next(out, end, ints::one_if(overlong));
+            put_next(out, end, ints::one_if(padding))
+        }
+        IntRead::Refused(e) => put_refused(out, e),
+    }
 }
 
 // Writes the position of a reader after a read: its place, how many entries are left, and whether none are.
@@ -58,20 +59,23 @@ fn put_standing(out: &mut [u8], at: usize, r: ReaderAnswer) -> usize {
 // Writes the answer of a reader.
 fn put_reading(out: &mut [u8], r: ReaderAnswer) -> usize {
     let read = r.read;
-    let IntRead::Int {
-        value,
-        overlong,
-        padding,
-        ..
-    } = read
-    else {
-        let end = put_refused(out, Error::UnexpectedEnd);
-        return put_standing(out, end, r);
-    };
-    let end = put_int(out, 0, value);
-    let end = put_standing(out, end, r);
-    let end = put_next(out, end, ints::one_if(overlong));
-    put_next(out, end, ints::one_if(padding))
+    match read {
+        IntRead::Int {
+            value,
+            overlong,
+            padding,
+            ..
+        } => {
+            let end = put_int(out, 0, value);
+            let end = put_standing(out, end, r);
+            let end = put_next(out, end, ints::one_if(overlong));
+            put_next(out, end, ints::one_if(padding))
+        }
+        IntRead::Refused(e) => {
+            let end = put_refused(out, e);
+            put_standing(out, end, r)
+        }
+    }
 }
 
 // Answers b AT HEX.

@@ -101,7 +101,8 @@ fn answer<T>(number: u32, value: T) -> Result<T, Refusal> {
 }
 
 /// The packed integer that begins at place `at` of `src`, and the place after
-/// it. Refused: `UNEXPECTED_END` where the bytes end inside it.
+/// it. Refused: `INPUT_TOO_LONG`; `UNEXPECTED_END` where the bytes end inside
+/// it.
 pub fn read_int(src: &[u8], at: usize) -> (Result<(i32, usize), Refusal>, Warnings) {
     let (mut value, mut next) = (0, 0);
     let mut warnings = Warnings::default();
@@ -112,7 +113,8 @@ pub fn read_int(src: &[u8], at: usize) -> (Result<(i32, usize), Refusal>, Warnin
 /// Where a reader stands after a read.
 #[derive(Clone, Copy, Debug, Eq, PartialEq)]
 pub struct Standing {
-    /// Its place: behind the integer, or the end where there was none.
+    /// Its place: behind the integer, or the end where there was none; where
+    /// it stood if the entries are too many to read.
     pub at: usize,
     /// How many entries are left.
     pub left: usize,
@@ -120,11 +122,18 @@ pub struct Standing {
     pub empty: bool,
 }
 
+// What the calls leave where the entries are too many to read: the reader
+// stands where it stood.
+fn standing(len: usize, at: usize) -> (usize, usize, u32) {
+    (at, len.saturating_sub(at), (len <= at).into())
+}
+
 /// The next integer of a reader over packed bytes that stands at place `at`,
-/// and where it then stands. Refused: `UNEXPECTED_END` where the bytes end
-/// inside it.
+/// and where it then stands. Refused: `INPUT_TOO_LONG`; `UNEXPECTED_END` where
+/// the bytes end inside it.
 pub fn unpacker_read_int(src: &[u8], at: usize) -> (Result<i32, Refusal>, Standing, Warnings) {
-    let (mut value, mut next, mut left, mut empty) = (0, 0, 0, 0);
+    let mut value = 0;
+    let (mut next, mut left, mut empty) = standing(src.len(), at);
     let mut warnings = Warnings::default();
     let number = plain::unpacker_read_int(
         src,
@@ -144,9 +153,11 @@ pub fn unpacker_read_int(src: &[u8], at: usize) -> (Result<i32, Refusal>, Standi
 }
 
 /// The next int of a reader over ints that stands at place `at`, and where it
-/// then stands. Refused: `UNEXPECTED_END` where no int is left.
+/// then stands. Refused: `INPUT_TOO_LONG`; `UNEXPECTED_END` where no int is
+/// left.
 pub fn int_unpacker_read_int(src: &[i32], at: usize) -> (Result<i32, Refusal>, Standing) {
-    let (mut value, mut next, mut left, mut empty) = (0, 0, 0, 0);
+    let mut value = 0;
+    let (mut next, mut left, mut empty) = standing(src.len(), at);
     let number =
         plain::int_unpacker_read_int(src, at, &mut value, &mut next, &mut left, &mut empty);
     let standing = Standing {
@@ -176,7 +187,8 @@ pub struct Unpacked {
 }
 
 /// Reads all the packed integers of `src` into the front of `out`. Refused:
-/// `CAPACITY_ERROR` where they do not fit; `out` is then left as it was.
+/// `INPUT_TOO_LONG`; `CAPACITY_ERROR` where they do not fit. `out` is then left
+/// as it was.
 pub fn unpack(src: &[u8], out: &mut [i32]) -> (Result<Unpacked, Refusal>, Warnings) {
     let (mut count, mut cut) = (0, 0);
     let mut warnings = Warnings::default();

@@ -7,12 +7,11 @@ use lib.IntN.{ℤ}
 use mir.Syntax.{w32}
 use mir.Val.{toZ, ofZ}
 use mir.Facts.{toZ-ofZ}
-use Rattle.definitions.specs.Refusals.{unexpectedEnd}
 use Rattle.definitions.specs.Warnings.{Counts}
-use Rattle.definitions.specs.Outcome.{Outcome, ok, err, refuse}
+use Rattle.definitions.specs.Outcome.{Outcome, ok, err}
 use Rattle.definitions.specs.Packed.{warned}
-use Rattle.definitions.specs.Packer.{IntAt, readIntAt}
-use Rattle.packer.specs.Answers.{intRead}
+use Rattle.definitions.specs.Packer.{IntAt, readIntCall}
+use Rattle.packer.specs.Answers.{intRead, refusal}
 use Rattle.boundary.specs.Boundary.{row, status, warningsOf, output}
 use borrow.Author.Needs.{needs}
 use Rattle.capi_packer.proofs.cef_read_int.Statement.{statement}
@@ -29,16 +28,16 @@ module _ (o : Outcome IntAt) where
 -- what `read_int` found, after the test that it found an integer
 module _ (c : tie.After-known-told) where
   abbrev x : IntAt
-  x = record { value = c .before .v .given .0 .0; next = c .before .v .given .0 .1 .0 }
+  x = record { value = c .before .read .given .0 .0; next = c .before .read .given .0 .1 .0 }
 
   abbrev overlong : Bool
-  overlong = c .before .v .given .0 .1 .1 .0
+  overlong = c .before .read .given .0 .1 .1 .0
 
   abbrev padding : Bool
-  padding = c .before .v .given .0 .1 .1 .1 .0
+  padding = c .before .read .given .0 .1 .1 .1 .0
 
-  read : readIntAt (c .before .before .before .before .before .before .before .args .src .now) (c .before .before .before .before .before .before .before .args .at) ≡ ok x (warned overlong padding)
-  read = c .before .before .before .read-int .ensures ∙ ap intRead (c .before .v .given .1)
+  read : readIntCall (c .before .before .before .before .before .before .before .args .src .now) (c .before .before .before .before .before .before .before .args .at) ≡ ok x (warned overlong padding)
+  read = c .before .before .before .read-int .ensures ∙ ap intRead (c .before .read .given .1)
 
   value : toZ w32 (ofZ w32 (x .value)) ≡ x .value
   value = toZ-ofZ (record { sfits = c .known-told .given .0 .1 })
@@ -52,21 +51,20 @@ row-requires c κs = search needs
 read-int-requires : tie.Need-read-int-requires
 read-int-requires c κs = search needs
 
-enum-known-v : tie.Need-enum-known-v
-enum-known-v c = search needs
+enum-known-read : tie.Need-enum-known-read
+enum-known-read c = search needs
 
 enum-told : tie.Need-enum-told
 enum-told c = search needs
 
-error-number-requires : tie.Need-error-number-requires
-error-number-requires c κs = search needs
+refusal-requires : tie.Need-refusal-requires
+refusal-requires c κs = search needs
 
 returns : tie.Need-returns
 returns c =
-    let a = c .before .before .before .before .before .before .before .args in
-    let e : readIntAt (a .src .now) (a .at) ≡ refuse unexpectedEnd =
-    c .before .before .before .read-int .ensures ∙ ap intRead (c .before .enum-told .given .1) in
-    refused _ e _ _ _ _ (c .error-number .ensures) (c .before .before .before .before .row .ensures ∙ ap row (c .before .before .before .before .before .none .ensures))
+    let told = c .before .enum-told .given .1 in
+    let e = c .before .before .before .read-int .ensures ∙ ap intRead told in
+    refused _ e _ _ _ _ (c .refusal .ensures ∙ ap refusal told) (c .before .before .before .before .row .ensures ∙ ap row (c .before .before .before .before .before .none .ensures))
 
 warned-row-requires : tie.Need-warned-row-requires
 warned-row-requires c κs = search needs
@@ -96,9 +94,9 @@ cef-read-int-spec =
     none-requires
     row-requires
     read-int-requires
-    enum-known-v
+    enum-known-read
     enum-told
-    error-number-requires
+    refusal-requires
     returns
     warned-row-requires
     returns-2

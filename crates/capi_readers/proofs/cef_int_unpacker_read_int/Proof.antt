@@ -17,18 +17,18 @@ enum-known-read c = search needs
 enum-told : tie.Need-enum-told
 enum-told c = search needs
 
-error-number-requires : tie.Need-error-number-requires
-error-number-requires c κs = search needs
+refusal-requires : tie.Need-refusal-requires
+refusal-requires c κs = search needs
 
 returns : tie.Need-returns
 returns c =
     let a = c .before .before .before .before .before .before .before .read-ints in
-    refused _ _ (a .result) (a .ensures) _ _ _ (c .before .before .before .put-standing .ensures) (c .before .enum-told .given .1) _ _ (c .error-number .ensures)
+    refused _ _ _ (a .result) (a .ensures) _ _ _ _ _ _ (c .before .before .before .put-standing .ensures) _ (c .before .enum-told .given .1) _ _ (c .refusal .ensures)
 
 returns-2 : tie.Need-returns-2
 returns-2 c =
     let a = c .before .before .before .before .before .before .before .read-ints in
-    found _ _ (a .result) (a .ensures) _ _ _ (c .before .before .before .put-standing .ensures) _ _ _ _ (c .before .read .given .1) _ _ (toZ-ofZ (record { sfits = c .known-told .given .0 .1 }))
+    found _ _ _ (a .result) (a .ensures) _ _ _ _ _ _ (c .before .before .before .put-standing .ensures) _ _ _ _ (c .before .read .given .1) _ _ (toZ-ofZ (record { sfits = c .known-told .given .0 .1 }))
 
 pub cef-int-unpacker-read-int-spec : {M : Type 1} → statement M
 cef-int-unpacker-read-int-spec =
@@ -38,6 +38,6 @@ cef-int-unpacker-read-int-spec =
     put-standing-requires
     enum-known-read
     enum-told
-    error-number-requires
+    refusal-requires
     returns
     returns-2)

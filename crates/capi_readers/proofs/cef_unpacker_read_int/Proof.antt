@@ -25,16 +25,16 @@ none-requires c κs = search needs
 row-requires : tie.Need-row-requires
 row-requires c κs = search needs
 
-error-number-requires : tie.Need-error-number-requires
-error-number-requires c κs = search needs
+refusal-requires : tie.Need-refusal-requires
+refusal-requires c κs = search needs
 
 returns : tie.Need-returns
 returns c =
     let a = c .before .before .before .before .before .before .before .before .before .read-bytes in
     let set = c .before .before .before .before .before .put-standing .ensures in
     let told = c .before .before .before .enum-told .given .1 in
-    let h = refused _ _ (a .result) (a .ensures) _ _ _ set told _ _ (c .error-number .ensures) in
-    (h .0, (h .1 .0, (h .1 .1, c .before .row .ensures ∙ ap row (c .before .before .none .ensures ∙ sym (no-warnings _ _ (a .result) (a .ensures) _ _ _ set told)))))
+    let h = refused _ _ _ (a .result) (a .ensures) _ _ _ _ _ _ set _ told _ _ (c .refusal .ensures) in
+    (h .0, (h .1 .0, (h .1 .1, c .before .row .ensures ∙ ap row (c .before .before .none .ensures ∙ sym (no-warnings _ _ _ (a .result) (a .ensures) _ _ _ _ _ _ set _ told)))))
 
 warned-row-requires : tie.Need-warned-row-requires
 warned-row-requires c κs = search needs
@@ -44,8 +44,8 @@ returns-2 c =
     let a = c .before .before .before .before .before .before .before .before .read-bytes in
     let set = c .before .before .before .before .put-standing .ensures in
     let g = c .before .before .read .given in
-    let h = found _ _ (a .result) (a .ensures) _ _ _ set _ _ _ _ (g .1) _ _ (toZ-ofZ (record { sfits = c .before .known-told .given .0 .1 })) in
-    (h .0, (h .1 .0, (h .1 .1, c .warned-row .ensures ∙ ap row (sym (found-warnings _ _ (a .result) (a .ensures) _ _ _ set _ _ _ _ (g .1))))))
+    let h = found _ _ _ (a .result) (a .ensures) _ _ _ _ _ _ set _ _ _ _ (g .1) _ _ (toZ-ofZ (record { sfits = c .before .known-told .given .0 .1 })) in
+    (h .0, (h .1 .0, (h .1 .1, c .warned-row .ensures ∙ ap row (sym (found-warnings _ _ _ (a .result) (a .ensures) _ _ _ _ _ _ set _ _ _ _ (g .1))))))
 
 pub cef-unpacker-read-int-spec : {M : Type 1} → statement M
 cef-unpacker-read-int-spec =
@@ -57,7 +57,7 @@ cef-unpacker-read-int-spec =
     enum-told
     none-requires
     row-requires
-    error-number-requires
+    refusal-requires
     returns
     warned-row-requires
     returns-2)

@@ -42,7 +42,7 @@ returns c =
     let a = c .before .before .before .before .before .before .args in
     let l = c .before .before .before .before .loop in
     λ i. none-left (source true (a .bytes .now) i) (a .start) (a .n) (a .to) (a .out .now) (l .out) (l .at) (l .i) (l .inv i) (c .before .before .before .loop-test .taken)
-    (read-next (a .bytes .now) i (l .at) read.End (c .before .before .read-int .ensures ∙ ap intRead (c .enum-told .given .1))) (l .out)
+    (read-next (a .bytes .now) i (l .at) (read.Refused (c .enum-told .given .0 .0)) (c .before .before .read-int .ensures ∙ ap intRead (c .enum-told .given .1))) (l .out)
 
 add-value : tie.Need-add-value Inv-loop μ-loop
 add-value c = omega (arith, c .before .before .before .before .before .before .before .pre .1)

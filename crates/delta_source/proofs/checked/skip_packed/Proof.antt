@@ -38,7 +38,7 @@ returns c =
     let a = c .before .before .before .before .before .before .args in
     let l = c .before .before .before .before .loop in
     λ i. cut-short (source true (a .bytes .now) i) (a .start) (a .n) (l .inv i) (c .before .before .before .loop-test .taken)
-    (read-next (a .bytes .now) i (l .at) read.End (c .before .before .read-int .ensures ∙ ap intRead (c .enum-told .given .1)))
+    (read-next (a .bytes .now) i (l .at) (read.Refused (c .enum-told .given .0 .0)) (c .before .before .read-int .ensures ∙ ap intRead (c .enum-told .given .1)))
 
 one-if-requires : tie.Need-one-if-requires Inv-loop μ-loop
 one-if-requires c κs = search needs

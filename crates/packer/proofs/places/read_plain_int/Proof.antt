@@ -1,27 +1,20 @@
--- `places::read_plain_int` meets its contract: the int, or the end. Assumes nothing.
-use mir.Facts.{toZ-ofZ}
-use native.Mathlib.Omega.{arith}
-use Rattle.laws.specs.ReaderLaws.{int-end, int-found}
+-- `places::read_plain_int` meets its contract: too many ints, or the int at the place. Assumes nothing.
+use mathlib.Core.Path.{_∙_}
+use Rattle.packer.proofs.Calls.{plain-too-long, plain-read}
 use borrow.Author.Needs.{needs}
 use Rattle.packer.proofs.places.read_plain_int.Statement.{statement}
 use Rattle.packer.proofs.places.read_plain_int.Tie as tie
 
 returns : tie.Need-returns
-returns c = let a = c .before .args in int-end (a .src .now) (a .at) (c .if1 .taken)
+returns c = let a = c .before .args in plain-too-long (a .src .now) (a .at) (c .if1 .taken)
 
-mul-t3 : tie.Need-mul-t3
-mul-t3 c = search needs
-
-shared-slice-copy-out-t6 : tie.Need-shared-slice-copy-out-t6
-shared-slice-copy-out-t6 c = search needs
-
-add-t7 : tie.Need-add-t7
-add-t7 c = search needs
+read-plain-int-requires : tie.Need-read-plain-int-requires
+read-plain-int-requires c κs = search needs
 
 returns-2 : tie.Need-returns-2
 returns-2 c =
     let a = c .before .before .args in
-    rw (toZ-ofZ (record { sfits = c .t6 .given })) (int-found (a .src .now) (a .at) (omega arith))
+    plain-read (a .src .now) (a .at) (c .before .if1 .left) ∙ c .read-plain-int .ensures
 
 pub read-plain-int-spec : {M : Type 1} → statement M
-read-plain-int-spec = tie.close (tie.spec returns mul-t3 shared-slice-copy-out-t6 add-t7 returns-2)
+read-plain-int-spec = tie.close (tie.spec returns read-plain-int-requires returns-2)

@@ -50,7 +50,7 @@ use Rattle.packer.specs.Answers.{intRead}
 use Rattle.packer.specs.declared.IntRead.{IntRead}
 use Rattle.packer.proofs.IntRead as S
 use Rattle.packer.proofs.IntRead.Laws as S′
-use Rattle.definitions.specs.Packer.{readIntAt}
+use Rattle.definitions.specs.Packer.{readIntCall}
 use Rattle.definitions.specs.Readers.{placeAfter}
 use Rattle.packer.specs.ReaderAnswers.{Answered}
 use Rattle.packer.specs.declared.readers.Unpacker.{Unpacker}
@@ -198,10 +198,10 @@ module _ {M : Type 1} (𝓤 : URA M) (H : Heap 𝓤) (A : Atoms 𝓤) (W : Given
 
   -- where the reader stands after it
   abbrev next : IntRead → ℕ
-  next r = placeAfter (length (now s)) (intRead r)
+  next r = placeAfter (length (now s)) n (intRead r)
 
   abbrev Found : IntRead → Unpacker → Type 0
-  Found r d = (readIntAt (now s) n ≡ intRead r) × (d ≡ at (next r))
+  Found r d = (readIntCall (now s) n ≡ intRead r) × (d ≡ at (next r))
 
   -- the calls that take the reader at a place by value ask the same
   abbrev to : (m : ℕ) → Empty 𝓤 H A mem run .Ghost
@@ -238,7 +238,7 @@ module _ {M : Type 1} (𝓤 : URA M) (H : Heap 𝓤) (A : Atoms 𝓤) (W : Given
     answer-said : (a : ReaderAnswer) → ent 𝓤 (ensured 𝓤 H A answer.ended (answer.clauses 𝓤 H A mem run) tt (r, (m, (k, (t, tt)))) tt a) (fact 𝓤 (Told a))
     answer-said a = exE 𝓤 _ (λ ws. snd∗ 𝓤 (sem 𝓤 H A (lasts answer.ended tt (r, (m, (k, (t, tt)))) ws)) (fact 𝓤 (Told a)))
 
-  exits : (a : ReaderAnswer) (u : Val) → Answered (readIntAt (now s) n) (now s) a → ent 𝓤 (⋆ 𝓤 H A (‵ (Rd.the-row .own a (u ∷ [])) ∷ token ∷ ‵ OwnS ∷ [])) (Post u)
+  exits : (a : ReaderAnswer) (u : Val) → Answered (readIntCall (now s) n) (now s) n a → ent 𝓤 (⋆ 𝓤 H A (‵ (Rd.the-row .own a (u ∷ [])) ∷ token ∷ ‵ OwnS ∷ [])) (Post u)
   exits a u e =
       qed W (‵ (Rd.the-row .own a (u ∷ [])) ∷ token ∷ ‵ OwnS ∷ []) ∵
       suffices ! _ (ends-at 𝓤 H A read-bytes.ended stayed (read-bytes.clauses 𝓤 H A mem run) W (((κ, tt), (q, tt), tt, (s, (n, tt)), (v ∷ [], (vint w64 n ∷ [], tt))), tt) u a (tt, (tt, tt)) (tt, (tt, tt))) $ says ! e $
@@ -310,7 +310,7 @@ module _ {M : Type 1} (𝓤 : URA M) (H : Heap 𝓤) (A : Atoms 𝓤) (W : Given
           land ! (from ! (stop !)) (init ! 29 refl (LL.lawful Rd.the-type Rd′.the-laws 𝓤 H A W .typed a _ isa .0)) $
           returns ! (look ! 29 refl) $ forget ! 4 refl $ forget ! 6 refl $ forget ! 8 refl $ forget ! 10 refl $ forget ! 12 refl $ forget ! 14 refl $ forget ! 16 refl $ forget ! 18 refl $ forget ! 20 refl $ forget ! 22 refl $ forget ! 25 refl $ forget ! 27 refl $ forget ! 29 refl $
           move ! (29 ∷ 30 ∷ []) $ free1 ! $ move ! (27 ∷ 28 ∷ []) $ free1 ! $ move ! (25 ∷ 26 ∷ []) $ free1 ! $ move ! (4 ∷ 24 ∷ []) $ free1 ! $ move ! (21 ∷ 22 ∷ []) $ free1 ! $ move ! (19 ∷ 20 ∷ []) $ free1 ! $ move ! (17 ∷ 18 ∷ []) $ free1 ! $ move ! (15 ∷ 16 ∷ []) $ free1 ! $ move ! (13 ∷ 14 ∷ []) $ free1 ! $ move ! (11 ∷ 12 ∷ []) $ free1 ! $ move ! (9 ∷ 10 ∷ []) $ free1 ! $ move ! (7 ∷ 8 ∷ []) $ free1 ! $ move ! (5 ∷ 6 ∷ []) $ free1 ! $ free0 ! $
-          keep ! (0 ∷ 2 ∷ 4 ∷ []) $ by ! (exits a b (answered (readIntAt (now s) n) (now s) (now x) r m t a (e .0) em ex et ea))))))))))))))))))))))))))))))))))))))))))))
+          keep ! (0 ∷ 2 ∷ 4 ∷ []) $ by ! (exits a b (answered (readIntCall (now s) n) (now s) (now x) n r m t a (e .0) em ex et ea))))))))))))))))))))))))))))))))))))))))))))
 
 module _ {M : Type 1} (𝓤 : URA M) (H : Heap 𝓤) (A : Atoms 𝓤) (W : Given 𝓤 H A) (mem : Memory → SProp 𝓤) (run : Routine → Fun 𝓤) where
   read-bytes-walks : (C : Calls 𝓤 H) (Λ : Loops 𝓤 H) → FmC 𝓤 H (W .laws) C → Known 𝓤 H A mem run C → Walks 𝓤 H A read-bytes.ended stayed (WpFn 𝓤 H C Λ code.function) (read-bytes.clauses 𝓤 H A mem run)

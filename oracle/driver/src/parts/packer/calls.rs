@@ -211,6 +211,12 @@ impl Calls {
         let needed = self.oracle_ints.ints.len();
         let room = (needed as isize).saturating_add(spare).max(0) as usize;
         let oracle = match said.number() {
+            0 if oracle::too_long(src.len()) => Unpacked {
+                number: 42,
+                count: LEFT_SIZE,
+                cut: LEFT_FLAG,
+                warnings: Warnings::default(),
+            },
             0 if needed > room => Unpacked {
                 number: 40,
                 count: LEFT_SIZE,
@@ -254,6 +260,6 @@ impl Calls {
             cut: oracle.cut != 0,
         };
         let safe = cefdugar::unpack(src, self.ints.lend(room));
-        Shown::compare(&(answer(oracle.number, unpacked), warnings), &safe)
+        Shown::compare(&(answer(oracle.number, unpacked), oracle.warnings), &safe)
     }
 }

@@ -16,6 +16,7 @@ use crate::core::report::Difference;
 use crate::core::report::Length;
 use crate::core::report::Run;
 use calls::Calls;
+use cefdugar::table;
 
 pub use inputs::numbered;
 pub use inputs::MARKED;
@@ -45,6 +46,7 @@ fn compare(run: &mut Run) -> Result {
     telling_strings(run, &mut calls)?;
     ints(run, &mut calls)?;
     lists(run, &mut calls)?;
+    long_lists(run)?;
     for round in 0..run.rounds {
         let mut random = run.random(round);
         random_ints(run, &mut calls, &mut random)?;
@@ -153,6 +155,15 @@ fn lists(run: &mut Run, calls: &mut Calls) -> Result {
             readers::ints(run, &list)?;
             unpack_all_rooms(run, calls, &oracle::packed(&list))?;
         }
+    }
+    Ok(())
+}
+
+/// Readers over lists around the most ints that are read.
+fn long_lists(run: &mut Run) -> Result {
+    for len in [table::INPUT - 1, table::INPUT, table::INPUT + 1] {
+        let list: Vec<i32> = (0..len).map(|at| at as i32).collect();
+        readers::ints(run, &list)?;
     }
     Ok(())
 }

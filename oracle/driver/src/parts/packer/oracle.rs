@@ -1,19 +1,29 @@
 //! The Rust's answers on packed integers, or those of docs/FORMAT.md if the Rust
-//! has no such call: a place outside the bytes, and ints that do not fit.
+//! has no such call: a place outside the bytes, ints that do not fit, and more
+//! entries than a call reads.
 
 use crate::core::oracle::Number;
 use crate::core::oracle::Tally;
 use crate::core::told::told;
 use crate::core::told::Told;
+use cefdugar::table;
 use cefdugar::Standing;
 use cefdugar::Warnings;
 use libtw2_packer::with_packer;
 use libtw2_packer::IntUnpacker;
 use libtw2_packer::Unpacker;
 
+/// Whether so many entries are refused.
+pub fn too_long(len: usize) -> bool {
+    len > table::INPUT
+}
+
 /// The int at place `at`, and the place after it.
 pub fn read_int(src: &[u8], at: usize) -> (Told<(i32, usize)>, Warnings) {
     let mut tally = Tally::default();
+    if too_long(src.len()) {
+        return (Told::Refused(42), tally.0);
+    }
     let Some(rest) = src.get(at..) else {
         return (Told::Refused(1), tally.0);
     };
@@ -32,6 +42,19 @@ pub struct Stood {
     pub said: Told<i32>,
     pub standing: Standing,
     pub warnings: Warnings,
+}
+
+/// A reader at place `at` of too many entries: it stays there.
+pub fn refused_as_too_long(len: usize, at: usize) -> Stood {
+    Stood {
+        said: Told::Refused(42),
+        standing: Standing {
+            at,
+            left: len.saturating_sub(at),
+            empty: len <= at,
+        },
+        warnings: Warnings::default(),
+    }
 }
 
 /// The next int of a reader whose bytes begin at place `from`.

@@ -1,9 +1,9 @@
--- `packer::signed_value` meets its contract: by the sign. Assumes nothing.
+-- `packer::checked::signed_value` meets its contract: by the sign. Assumes nothing.
 use mir.Facts.{toZ-ofZ}
 use Rattle.definitions.specs.Packed.{signed}
 use borrow.Author.Needs.{needs}
-use Rattle.packer.proofs.signed_value.Statement.{statement}
-use Rattle.packer.proofs.signed_value.Tie as tie
+use Rattle.packer.proofs.checked.signed_value.Statement.{statement}
+use Rattle.packer.proofs.checked.signed_value.Tie as tie
 
 from-bits-requires : tie.Need-from-bits-requires
 from-bits-requires c κs = search needs
