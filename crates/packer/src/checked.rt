@@ -165,7 +165,7 @@ pub fn packed_len(xs: &[i32]) -> usize
     n
 }
 
-// The packed form of all of xs, into out from a place on, where it has room; the place after it.
+// Writes the packed form of xs into out from a place on, which has room for it. Answers the place after it.
 pub fn pack_at(xs: &[i32], out: &mut [u8], start: usize) -> usize
     requires { ⌜ start + length (packInts (now xs)) ≤ length (now out) ⌝ }
     ensures { λ r. ⌜ (r ≡ start + length (packInts (now (xs .entry)))) × (now (out .exit) ≡ layAt start (packInts (now (xs .entry))) (now (out .entry))) ⌝ }

@@ -1,6 +1,6 @@
 // Packed integers.
 // Format: ESDD_DDDD EDDD_DDDD EDDD_DDDD EDDD_DDDD PPPP_DDDD
-// E: another byte follows; S: sign; D: digits, the lowest first; P: padding, which must be 0.
+// E: another byte follows; S: sign; D: digits, the lowest first; P: padding, written as 0.
 ghost use mathlib.Core.Path.{_≡_};
 ghost use mathlib.Core.List.{[], _∷_};
 ghost use Prim.Native.Nat.{_+_, _*_, _/_, _%_, _≤_, _<_, _^_};
@@ -36,7 +36,7 @@ pub use readers::read_ints;
 // The most bytes or ints that a call reads.
 pub const MAX_INPUT: usize = 1048576;
 
-// What stands at a place: an int with the place after it and whether it has each warning; or why none is read.
+// The int at a place, with the place after it and a flag for each warning, or why none is read.
 pub enum IntRead {
     Int {
         value: i32,
@@ -197,7 +197,7 @@ fn unpack_all(src: &[u8], out: &mut [i32]) -> Unpacked
     }
 }
 
-// All the packed integers of src, into the front of out; where they do not fit, out is left as it was.
+// Unpacks all integers of src into the front of out. If they do not fit, out is unchanged.
 fn unpack_judged(src: &[u8], out: &mut [i32]) -> Unpacked
     ensures { λ r. ⌜ unpackStream (stream (now (src .entry))) (now (out .entry)) ≡ record { answer = unpacked (r .answer) (counts (r .warnings)); out = now (out .exit) } ⌝ }
 {

@@ -29,8 +29,8 @@ pub fn refusal(read: IntRead) -> u32
     }
 }
 
-// Where a reader of len entries stands after what it read at a place: behind the integer; where it was if there are too many entries
-// (42); else at the end.
+// The place of a reader of len entries after reading at a place: after the integer, unchanged if there are too many entries (42), else
+// the end.
 pub fn place_after(read: IntRead, at: usize, len: usize) -> usize
     ensures { λ r. ⌜ r ≡ placeAfter len at (intRead read) ⌝ }
 {

@@ -22,7 +22,7 @@ pub struct IntUnpacker<'a> {
     pub at: usize,
 }
 
-// What a reader answers: the integer, where it then stands, how many entries are left, and whether none are.
+// The answer of a reader: the integer, the place after reading, how many entries are left, and whether none are.
 pub struct ReaderAnswer {
     pub read: IntRead,
     pub at: usize,
@@ -45,8 +45,8 @@ impl<'a> Unpacker<'a> {
         self.src.len() <= self.at
     }
 
-    // The next integer. The place moves behind it, or to the end of the bytes where they end inside it; a reader over too many
-    // bytes stays where it is.
+    // The next integer. The place moves past it, or to the end if the bytes end inside it. A reader over too many bytes stays where
+    // it is.
     pub fn read_int(&mut self) -> IntRead
         ensures { λ r. ⌜ (readIntCall (now (now (self .entry) .src)) (now (self .entry) .at) ≡ intRead r) × (now (self .exit) ≡ moved (now (self .entry)) (intRead r)) ⌝ }
     {
@@ -85,8 +85,7 @@ impl<'a> IntUnpacker<'a> {
         self.src.len() <= self.at
     }
 
-    // The next int. The place moves behind it, or to the end of the ints where there is none; a reader over too many ints stays
-    // where it is.
+    // The next int. The place moves past it, or to the end if there is none. A reader over too many ints stays where it is.
     pub fn read_int(&mut self) -> IntRead
         ensures { λ r. ⌜ (plainIntCall (now (now (self .entry) .src)) (now (self .entry) .at) ≡ intRead r) × (now (self .exit) ≡ intsMoved (now (self .entry)) (intRead r)) ⌝ }
     {
