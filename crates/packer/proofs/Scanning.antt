@@ -11,9 +11,9 @@ use lib.ListN.{length, drop, drop-of-length-le}
 use Rattle.definitions.specs.Areas.{lay, layAt}
 use Rattle.definitions.specs.Warnings.{Counts, none, plus}
 use Rattle.definitions.specs.Refusals.{capacityError}
-use Rattle.definitions.specs.Outcome.{ok, err, Wrote}
+use Rattle.definitions.specs.Outcome.{ok, err}
 use Rattle.definitions.specs.Packed.{warned}
-use Rattle.definitions.specs.Packer.{Unpacked, unpackStream}
+use Rattle.definitions.specs.Packer.{unpackStream}
 use Rattle.definitions.specs.Stream.{Stream, int, end, cut, stream, ints, warnings, isCut}
 use Rattle.laws.specs.Tests.{at-most-one}
 use Rattle.laws.specs.AreaLaws.{lay-nowhere, layAt-split, layAt-nothing, length-layAt}

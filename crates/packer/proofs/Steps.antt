@@ -3,7 +3,7 @@ use mathlib.Core.Path.{_≡_, refl, sym, ap, _∙_}
 use mathlib.Core.List.{List}
 use mathlib.Core.Bool.{Bool, true, false, true≢false, _||_}
 use mathlib.Core.Logic.{_⊎_, inl, inr, ⊎-elim}
-use Prim.Native.Nat.{ℕ, zero, suc, _+_, _-_, _*_, _%_, _^_, _≤_, _<_}
+use Prim.Native.Nat.{ℕ, suc, _+_, _-_, _*_, _%_, _^_, _≤_, _<_}
 use native.Mathlib.Nat.{mul-le-mul-right}
 use native.Mathlib.Numerals.{add-one}
 use native.Mathlib.Omega.{arith}
@@ -13,7 +13,7 @@ use lib.IntN.{ℤ}
 use lib.ListN.{length, drop, getD, drop-of-length-le, length-drop}
 use lib.Seq.{drop-cons}
 use Rattle.definitions.specs.Refusals.{unexpectedEnd}
-use Rattle.definitions.specs.Outcome.{Outcome, ok, return, refuse}
+use Rattle.definitions.specs.Outcome.{Outcome, ok, refuse}
 use Rattle.definitions.specs.Packed.{signed, sign, warned, more, readInt}
 use Rattle.definitions.specs.Packer.{IntAt, readIntAt}
 use Rattle.laws.specs.Tests.{below}

@@ -1,5 +1,5 @@
 -- `packer::unpack` meets its contract: too many bytes, or what they are unpacked to. Assumes nothing.
-use mathlib.Core.Path.{_≡_, sym, ap, _∙_}
+use mathlib.Core.Path.{_∙_}
 use Rattle.packer.proofs.Calls.{too-long, judged}
 use borrow.Author.Needs.{needs}
 use Rattle.packer.proofs.unpack.Statement.{statement}

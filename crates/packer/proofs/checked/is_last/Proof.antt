@@ -1,7 +1,5 @@
 -- `packer::checked::is_last` meets its contract: by the first test. Assumes nothing.
-use mathlib.Core.Path.{_≡_, refl, sym, _∙_}
 use borrow.Author.Tests.{lt-ltb, le-ltb}
-use borrow.Author.Needs.{needs}
 use Rattle.packer.proofs.checked.is_last.Statement.{statement}
 use Rattle.packer.proofs.checked.is_last.Tie as tie
 

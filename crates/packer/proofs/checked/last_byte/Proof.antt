@@ -1,6 +1,4 @@
 -- `packer::checked::last_byte` meets its contract: the int with its digits' lowest 32 bits. Assumes nothing.
-use mathlib.Core.Path.{_≡_, refl, sym, _∙_}
-use native.Mathlib.Omega.{arith}
 use mir.Facts.{toZ-ofZ}
 use borrow.Author.Needs.{needs}
 use Rattle.packer.proofs.checked.last_byte.Statement.{statement}

@@ -1,10 +1,9 @@
 -- `packer::checked::read_more` meets its contract. The loop's invariant: what is left to read comes to the same as all of it. Assumes nothing.
 use mathlib.Core.Path.{_≡_, refl, sym, ap, _∙_}
-use Prim.Native.Nat.{ℕ, _+_, _-_, _*_, _%_, _^_, _<_, _≤_}
+use Prim.Native.Nat.{ℕ, _-_, _*_, _%_, _^_, _<_, _≤_}
 use native.Mathlib.Omega.{arith}
 use lib.ListN.{length, getD}
 use Rattle.packer.specs.Answers.{intRead}
-use Rattle.packer.specs.Bytes.{moreAt}
 use Rattle.packer.proofs.Steps.{more-end, more-more, more-last, is-last, not-last, Reading, second, small, light, lighter, earlier, heavy, digit}
 use borrow.Author.Needs.{needs}
 use Rattle.packer.proofs.checked.read_more.Statement.{statement}
