@@ -14,7 +14,8 @@ use libtw2_packer::with_packer;
 use libtw2_packer::Unpacker;
 use std::hint::black_box;
 
-const SIZES: [usize; 4] = [1_000, 2_000, 262_144, 524_288];
+// The longest mixed list takes about 786,000 bytes, within the limit of 1,048,576.
+const SIZES: [usize; 4] = [1_000, 2_000, 131_072, 262_144];
 
 /// Ints of one byte each, or of one to five.
 fn lists(size: usize) -> [(&'static str, Vec<i32>); 2] {
