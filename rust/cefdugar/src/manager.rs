@@ -3,7 +3,7 @@
 use crate::answer;
 use crate::receiver::Receiver;
 use crate::storage::Storage;
-use crate::sys::store as sys;
+use crate::sys;
 use crate::Refusal;
 use crate::Warnings;
 

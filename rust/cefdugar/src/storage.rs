@@ -2,7 +2,7 @@
 
 use crate::answer;
 use crate::delta::NoDelta;
-use crate::sys::store as sys;
+use crate::sys;
 use crate::Refusal;
 use crate::Warnings;
 
