@@ -1,13 +1,9 @@
 // Examples of packed integers, one on each line: ints as written, bytes as read, and bytes unpacked.
 ghost use Prim.Native.Nat.{_<_};
-use libc::STDOUT_FILENO;
 use packer::IntRead;
 use packer::IntWrite;
 use packer::IntsRead;
-use replay_text::put;
-use replay_text::put_byte;
-use replay_text::put_int;
-use replay_text::put_ints;
+use replay_text::line::Line;
 
 // The character of a hexadecimal digit, in upper case.
 fn glyph(d: u8) -> u8
@@ -16,55 +12,43 @@ fn glyph(d: u8) -> u8
     if d < 10 { b'0' + d } else { b'A' - 10 + d }
 }
 
-// Writes a space before every byte but the first.
-fn put_gap(out: &mut [u8], at: usize, i: usize) -> usize {
-    if i == 0 {
-        return at;
-    }
-    put_byte(out, at, b' ')
+// Adds a byte as two hexadecimal digits, after a space unless the line is empty.
+fn hex(line: Line, b: u8) -> Line {
+    line.gap().byte(glyph(b / 16)).byte(glyph(b % 16))
 }
 
-// Writes bytes as hexadecimal digits, separated by spaces.
-fn put_bytes(out: &mut [u8], at: usize, bytes: &[u8]) -> usize {
-    let mut end = at;
+// Adds bytes as hexadecimal digits.
+fn all_hex(line: Line, bytes: &[u8]) -> Line {
+    let mut l = line;
     let mut i: usize = 0;
     while i < bytes.len() {
-        end = put_gap(out, end, i);
-        let b = bytes[i];
-        end = put_byte(out, end, glyph(b / 16));
-        end = put_byte(out, end, glyph(b % 16));
+        l = hex(l, bytes[i]);
         i += 1;
     }
-    end
+    l
 }
 
-// Writes a text, if it applies.
-fn put_if(out: &mut [u8], at: usize, applies: bool, text: &[u8]) -> usize {
-    if applies { put(out, at, text) } else { at }
+// Adds a text, if it applies.
+fn with_if(line: Line, applies: bool, text: &[u8]) -> Line {
+    if applies { line.text(text) } else { line }
 }
 
-// Writes the warnings of an int.
-fn put_warnings(out: &mut [u8], at: usize, overlong: bool, padding: bool) -> usize {
-    let end = put_if(out, at, overlong, b", overlong");
-    put_if(out, end, padding, b", padding")
-}
-
-// Ends a line and writes it.
-fn print_line(line: &mut [u8], at: usize) {
-    let end = put_byte(line, at, b'\n');
-    io::write_all(STDOUT_FILENO, &line[..end]);
+// Adds the warnings of an int.
+fn warned(line: Line, overlong: bool, padding: bool) -> Line {
+    let line = with_if(line, overlong, b", overlong");
+    with_if(line, padding, b", padding")
 }
 
 // The first bytes of an area.
 fn first(area: &[u8], len: usize) -> &[u8] {
-    if area.len() < len {
-        return area;
+    if len <= area.len() {
+        return &area[0..len];
     }
-    &area[..len]
+    area
 }
 
-// Writes the int read back from some bytes, and the bytes.
-fn put_read_back(line: &mut [u8], bytes: &[u8]) -> usize {
+// The int read back from some bytes, and the bytes.
+fn read_back(bytes: &[u8]) -> Line {
     let IntRead::Int {
         value,
         next: _,
@@ -72,29 +56,21 @@ fn put_read_back(line: &mut [u8], bytes: &[u8]) -> usize {
         padding,
     } = packer::read_int(bytes, 0)
     else {
-        return put(line, 0, b"not read back");
+        return Line::new().text(b"not read back");
     };
-    let end = put_int(line, 0, value);
-    let end = put(line, end, b" = ");
-    let end = put_bytes(line, end, bytes);
-    put_warnings(line, end, overlong, padding)
-}
-
-// Writes how an int is written.
-fn put_written(line: &mut [u8], int: i32) -> usize {
-    let mut area = [0u8; 5];
-    let answer = packer::write_int(&mut area, 0, int);
-    match answer {
-        IntWrite::Next(next) => put_read_back(line, first(&area, next)),
-        IntWrite::Refused(_) => put(line, 0, b"refused"),
-    }
+    let line = Line::new().int(value).text(b" =");
+    warned(all_hex(line, bytes), overlong, padding)
 }
 
 // Shows how an int is written.
 fn show_int(int: i32) {
-    let mut line = [0u8; 64];
-    let end = put_written(&mut line, int);
-    print_line(&mut line, end);
+    let mut area = [0u8; 5];
+    let answer = packer::write_int(&mut area, 0, int);
+    let line = match answer {
+        IntWrite::Next(next) => read_back(first(&area, next)),
+        IntWrite::Refused(_) => Line::new().text(b"refused"),
+    };
+    line.print();
 }
 
 // Shows how ints are written.
@@ -106,9 +82,8 @@ fn show_ints(ints: &[i32]) {
     }
 }
 
-// Writes what is read at the front of some bytes.
-fn put_read(line: &mut [u8], bytes: &[u8]) -> usize {
-    let end = put_bytes(line, 0, bytes);
+// Adds what is read at the front of some bytes.
+fn read(line: Line, bytes: &[u8]) -> Line {
     let IntRead::Int {
         value,
         next: _,
@@ -116,41 +91,33 @@ fn put_read(line: &mut [u8], bytes: &[u8]) -> usize {
         padding,
     } = packer::read_int(bytes, 0)
     else {
-        return put(line, end, b" ends inside");
+        return line.text(b" ends inside");
     };
-    let end = put(line, end, b" reads ");
-    let end = put_int(line, end, value);
-    put_warnings(line, end, overlong, padding)
+    warned(line.text(b" reads ").int(value), overlong, padding)
 }
 
 // Shows what is read at the front of some bytes.
 fn show_read(bytes: &[u8]) {
-    let mut line = [0u8; 64];
-    let end = put_read(&mut line, bytes);
-    print_line(&mut line, end);
+    read(all_hex(Line::new(), bytes), bytes).print();
 }
 
-// Writes what is unpacked from some bytes.
-fn put_unpacked(line: &mut [u8], bytes: &[u8], area: &mut [i32]) -> usize {
-    let end = put_bytes(line, 0, bytes);
-    let unpacked = packer::unpack(bytes, area);
-    let answer = unpacked.answer;
+// Adds what was unpacked.
+fn unpacked(line: Line, answer: IntsRead, area: &[i32]) -> Line {
     match answer {
         IntsRead::Ints { count, cut } => {
-            let end = put(line, end, b" unpacks");
-            let end = put_ints(line, end, area, count);
-            put_if(line, end, cut, b", cut")
+            let line = line.text(b" unpacks").ints(area, count);
+            with_if(line, cut, b", cut")
         }
-        IntsRead::Refused(_) => put(line, end, b" refused"),
+        IntsRead::Refused(_) => line.text(b" refused"),
     }
 }
 
 // Shows what is unpacked from some bytes.
 fn show_unpacked(bytes: &[u8]) {
-    let mut line = [0u8; 64];
     let mut area = [0i32; 5];
-    let end = put_unpacked(&mut line, bytes, &mut area);
-    print_line(&mut line, end);
+    let done = packer::unpack(bytes, &mut area);
+    let answer = done.answer;
+    unpacked(all_hex(Line::new(), bytes), answer, &area).print();
 }
 
 // Shows the worked examples of docs/FORMAT.md.

@@ -11,6 +11,9 @@ ghost use Rattle.replay_text.specs.Answers as Answers;
 ghost use Rattle.format.specs.Numbers.{number};
 use format::Error;
 
+pub mod line;
+pub mod words;
+
 // How many bytes are before the first b, or in all if there is none.
 fn count_until(src: &[u8], b: u8) -> usize
     ensures { λ r. ⌜ (r ≡ length (Words.until b (now (src .entry)))) × (r ≤ length (now (src .entry))) ⌝ }
@@ -34,7 +37,7 @@ pub fn until(src: &[u8], b: u8) -> &[u8]
 }
 
 // The bytes after the first b, or none.
-fn after(src: &[u8], b: u8) -> &[u8]
+pub fn after(src: &[u8], b: u8) -> &[u8]
     ensures { λ r. ⌜ now r ≡ Words.after b (now (src .entry)) ⌝ }
 {
     let n = count_until(src, b);

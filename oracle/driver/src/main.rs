@@ -137,22 +137,31 @@ fn bench(parts: &[Part]) -> ExitCode {
     ExitCode::SUCCESS
 }
 
+/// Records all parts in one file, so a single part can't be recorded.
 fn record(words: &Words, parts: &[Part]) -> ExitCode {
-    let mut cases = 0;
+    if words.part.is_some() {
+        eprintln!("record takes all parts");
+        return ExitCode::from(2);
+    }
+    let mut record = Record::default();
     for part in parts {
-        if let Some(recorded) = &part.record {
-            let mut record = Record::default();
-            (recorded.fill)(&mut record, &mut Random::new(words.seed, part.name, 0));
-            let folder = words.into.join(recorded.replayed_by);
-            if let Err(error) = record.write(&folder) {
-                eprintln!("{}: {error}", folder.display());
-                return ExitCode::from(2);
-            }
-            println!("{:10} {:>6} cases", part.name, thousands(record.cases()));
-            cases += record.cases();
+        if let Some(fill) = part.record {
+            let before = record.cases();
+            record.about(part.name);
+            fill(&mut record, &mut Random::new(words.seed, part.name, 0));
+            println!(
+                "{:10} {:>6} cases",
+                part.name,
+                thousands(record.cases() - before)
+            );
         }
     }
-    println!("recorded: {} cases", thousands(cases));
+    let folder = words.into.join("replay");
+    if let Err(error) = record.write(&folder) {
+        eprintln!("{}: {error}", folder.display());
+        return ExitCode::from(2);
+    }
+    println!("recorded: {} cases", thousands(record.cases()));
     ExitCode::SUCCESS
 }
 

@@ -5,12 +5,10 @@ use Rattle.example_session.proofs.run.Statement.{statement}
 use Rattle.example_session.proofs.run.Tie as tie
 
 abbrev Inv-loop : tie.InvT-loop
-Inv-loop control₀ made₀ packed₀ bytes₀ parts₀ joined₀ delta₀ area₀ scratch₀ came₀ held₀ s₀ tick₀ control made packed bytes parts joined delta area scratch came held s tick =
-    Unit {0}
+Inv-loop control₀ area₀ s₀ tick₀ control area s tick = Unit {0}
 
 abbrev μ-loop : tie.MeasureT-loop
-μ-loop control₀ made₀ packed₀ bytes₀ parts₀ joined₀ delta₀ area₀ scratch₀ came₀ held₀ s₀ tick₀ control made packed bytes parts joined delta area scratch came held s tick =
-    40 - tick
+μ-loop control₀ area₀ s₀ tick₀ control area s tick = 40 - tick
 
 begin-requires : tie.Need-begin-requires Inv-loop μ-loop
 begin-requires c κs = search needs

@@ -1,5 +1,6 @@
 //! Recorded answers: one case on each line, the questions in `stdin` and the
-//! answers in `stdout` of the program crate that replays them.
+//! answers in `stdout` of the program crate `replay`. A question's first word is
+//! its subject.
 
 use std::fs;
 use std::io;
@@ -7,17 +8,26 @@ use std::path::Path;
 
 #[derive(Default)]
 pub struct Record {
+    subject: &'static str,
     stdin: String,
     stdout: String,
     cases: u64,
 }
 
 impl Record {
-    /// The most that a file may hold.
-    const MOST: usize = 60_000;
+    /// The most that a file may hold: what the program reads.
+    const MOST: usize = 524_288;
 
+    /// The subject of the cases that follow.
+    pub fn about(&mut self, subject: &'static str) {
+        self.subject = subject;
+    }
     pub fn case(&mut self, question: &str, answer: &str) {
-        for (text, line) in [(&mut self.stdin, question), (&mut self.stdout, answer)] {
+        let question = format!("{} {question}", self.subject);
+        for (text, line) in [
+            (&mut self.stdin, question.as_str()),
+            (&mut self.stdout, answer),
+        ] {
             assert!(!line.is_empty() && !line.contains('\n') && !line.contains("  "));
             assert!(line.trim() == line);
             text.push_str(line);

@@ -26,19 +26,13 @@ pub struct Rounds {
     pub full: u64,
 }
 
-/// A sample of the Rust's answers.
-pub struct Recorded {
-    /// The program crate that replays it.
-    pub replayed_by: &'static str,
-    pub fill: fn(&mut Record, &mut Random),
-}
-
 pub struct Part {
     pub name: &'static str,
     pub rounds: Rounds,
     /// Compares until the first difference.
     pub compare: fn(&mut Run) -> Result<(), Difference>,
-    pub record: Option<Recorded>,
+    /// Records a sample of the Rust's answers.
+    pub record: Option<fn(&mut Record, &mut Random)>,
     pub bench: Option<fn(&mut Table)>,
 }
 

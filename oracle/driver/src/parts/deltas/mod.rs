@@ -15,7 +15,6 @@ use super::tables::inputs::KEYS;
 use super::tables::oracle::Item;
 use super::tables::sorted;
 use super::Part;
-use super::Recorded;
 use super::Rounds;
 use crate::core::damage::damage;
 use crate::core::random::Random;
@@ -34,10 +33,7 @@ pub fn part() -> Part {
             full: 100_000,
         },
         compare,
-        record: Some(Recorded {
-            replayed_by: "replay_deltas",
-            fill: record::fill,
-        }),
+        record: Some(record::fill),
         bench: Some(bench::bench),
     }
 }

@@ -8,7 +8,6 @@ mod record;
 
 use super::receiver::oracle::Call;
 use super::Part;
-use super::Recorded;
 use super::Rounds;
 use crate::core::random::Random;
 use crate::core::report::Difference;
@@ -30,10 +29,7 @@ pub fn part() -> Part {
             full: 60_000,
         },
         compare,
-        record: Some(Recorded {
-            replayed_by: "replay_manager",
-            fill: record::fill,
-        }),
+        record: Some(record::fill),
         bench: Some(bench::bench),
     }
 }

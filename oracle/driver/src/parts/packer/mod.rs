@@ -8,7 +8,6 @@ mod readers;
 mod record;
 
 use super::Part;
-use super::Recorded;
 use super::Rounds;
 use crate::core::damage::damage;
 use crate::core::random::Random;
@@ -30,10 +29,7 @@ pub fn part() -> Part {
             full: 20_000,
         },
         compare,
-        record: Some(Recorded {
-            replayed_by: "replay_packer",
-            fill: record::fill,
-        }),
+        record: Some(record::fill),
         bench: Some(bench::bench),
     }
 }

@@ -7,7 +7,6 @@ pub mod oracle;
 mod record;
 
 use super::Part;
-use super::Recorded;
 use super::Rounds;
 use crate::core::report::Difference;
 use crate::core::report::Run;
@@ -24,10 +23,7 @@ pub fn part() -> Part {
             full: 300_000,
         },
         compare,
-        record: Some(Recorded {
-            replayed_by: "replay_receiver",
-            fill: record::fill,
-        }),
+        record: Some(record::fill),
         bench: Some(bench::bench),
     }
 }

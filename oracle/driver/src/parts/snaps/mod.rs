@@ -16,7 +16,6 @@ use super::tables;
 use super::tables::oracle::Item;
 use super::tables::sorted;
 use super::Part;
-use super::Recorded;
 use super::Rounds;
 use crate::core::damage::damage;
 use crate::core::random::Random;
@@ -38,10 +37,7 @@ pub fn part() -> Part {
             full: 100_000,
         },
         compare,
-        record: Some(Recorded {
-            replayed_by: "replay_snaps",
-            fill: record::fill,
-        }),
+        record: Some(record::fill),
         bench: Some(bench::bench),
     }
 }

@@ -8,7 +8,6 @@ pub mod record;
 
 use super::tables;
 use super::Part;
-use super::Recorded;
 use super::Rounds;
 use crate::core::damage::damage;
 use crate::core::random::Random;
@@ -32,10 +31,7 @@ pub fn part() -> Part {
             full: 200_000,
         },
         compare,
-        record: Some(Recorded {
-            replayed_by: "replay_storage",
-            fill: record::fill,
-        }),
+        record: Some(record::fill),
         bench: Some(bench::bench),
     }
 }

@@ -9,7 +9,6 @@ mod record;
 use super::packer::numbered;
 use super::packer::packed;
 use super::Part;
-use super::Recorded;
 use super::Rounds;
 use crate::core::damage::damage;
 use crate::core::random::Random;
@@ -28,10 +27,7 @@ pub fn part() -> Part {
             full: 200_000,
         },
         compare,
-        record: Some(Recorded {
-            replayed_by: "replay_tables",
-            fill: record::fill,
-        }),
+        record: Some(record::fill),
         bench: Some(bench::bench),
     }
 }

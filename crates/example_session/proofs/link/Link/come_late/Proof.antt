@@ -1,16 +1,14 @@
 -- `Link::come_late` is safe and ends. Assumes nothing.
 use Prim.Native.Nat.{_-_}
 use borrow.Author.Needs.{needs}
-use Rattle.example_session.proofs.Link.come_late.Statement.{statement}
-use Rattle.example_session.proofs.Link.come_late.Tie as tie
+use Rattle.example_session.proofs.link.Link.come_late.Statement.{statement}
+use Rattle.example_session.proofs.link.Link.come_late.Tie as tie
 
 abbrev Inv-loop : tie.InvT-loop
-Inv-loop bytes parts₀ joined₀ delta₀ area₀ scratch₀ came₀ held₀ h₀ k₀ parts joined delta area scratch came held h k =
-    Unit {0}
+Inv-loop area₀ h₀ k₀ area h k = Unit {0}
 
 abbrev μ-loop : tie.MeasureT-loop
-μ-loop bytes parts₀ joined₀ delta₀ area₀ scratch₀ came₀ held₀ h₀ k₀ parts joined delta area scratch came held h k =
-    8 - k
+μ-loop area₀ h₀ k₀ area h k = 8 - k
 
 loop-holds : tie.Need-loop-holds Inv-loop μ-loop
 loop-holds c = search needs

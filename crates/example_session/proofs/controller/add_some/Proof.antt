@@ -1,8 +1,8 @@
 -- `add_some` is safe and ends. Assumes nothing.
 use Prim.Native.Nat.{_-_}
 use borrow.Author.Needs.{needs}
-use Rattle.example_session.proofs.add_some.Statement.{statement}
-use Rattle.example_session.proofs.add_some.Tie as tie
+use Rattle.example_session.proofs.controller.add_some.Statement.{statement}
+use Rattle.example_session.proofs.controller.add_some.Tie as tie
 
 abbrev Inv-loop : tie.InvT-loop
 Inv-loop table₀ sort ids seed wide s₀ id₀ table s id =

@@ -1,8 +1,8 @@
 -- `Radio::free` is safe and ends. Assumes nothing.
 use Prim.Native.Nat.{_-_}
 use borrow.Author.Needs.{needs}
-use Rattle.example_session.proofs.Radio.free.Statement.{statement}
-use Rattle.example_session.proofs.Radio.free.Tie as tie
+use Rattle.example_session.proofs.radio.Radio.free.Statement.{statement}
+use Rattle.example_session.proofs.radio.Radio.free.Tie as tie
 
 abbrev Inv-loop : tie.InvT-loop
 Inv-loop self k₀ k = Unit {0}

@@ -1,16 +1,14 @@
 -- `Link::send_all` is safe and ends. Assumes nothing.
 use Prim.Native.Nat.{_-_}
 use borrow.Author.Needs.{needs}
-use Rattle.example_session.proofs.Link.send_all.Statement.{statement}
-use Rattle.example_session.proofs.Link.send_all.Tie as tie
+use Rattle.example_session.proofs.link.Link.send_all.Statement.{statement}
+use Rattle.example_session.proofs.link.Link.send_all.Tie as tie
 
 abbrev Inv-loop : tie.InvT-loop
-Inv-loop sent «data» sure bytes₀ parts₀ joined₀ delta₀ area₀ scratch₀ came₀ held₀ n h₀ i₀ bytes parts joined delta area scratch came held h i =
-    Unit {0}
+Inv-loop sent «data» sure area₀ n h₀ i₀ area h i = Unit {0}
 
 abbrev μ-loop : tie.MeasureT-loop
-μ-loop sent «data» sure bytes₀ parts₀ joined₀ delta₀ area₀ scratch₀ came₀ held₀ n h₀ i₀ bytes parts joined delta area scratch came held h i =
-    n - i
+μ-loop sent «data» sure area₀ n h₀ i₀ area h i = n - i
 
 num-chunks-requires : tie.Need-num-chunks-requires Inv-loop μ-loop
 num-chunks-requires c κs = search needs

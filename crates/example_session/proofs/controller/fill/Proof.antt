@@ -1,8 +1,8 @@
 -- `fill` is safe and ends. Assumes nothing.
 use Prim.Native.Nat.{_-_}
 use borrow.Author.Needs.{needs}
-use Rattle.example_session.proofs.fill.Statement.{statement}
-use Rattle.example_session.proofs.fill.Tie as tie
+use Rattle.example_session.proofs.controller.fill.Statement.{statement}
+use Rattle.example_session.proofs.controller.fill.Tie as tie
 
 abbrev Inv-loop : tie.InvT-loop
 Inv-loop data₀ seed wide s₀ i₀ «data» s i = Unit {0}
