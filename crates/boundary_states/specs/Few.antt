@@ -17,14 +17,14 @@ use Rattle.definitions.specs.Tables.{Table}
 use Rattle.definitions.specs.TableCalls.{held}
 use Rattle.definitions.specs.Deltas.{Delta}
 use Rattle.definitions.specs.DeltaCalls.{heldDelta}
-use Rattle.definitions.specs.Storage.{StoredSnap, Storage, Store, storageOf, Keeps, AddedSnap, newestTick, dropFor, withSnaps, baseFor, isNegative, isHeld, pushSnap, sumFits, storeInts, addTable, addOn, addDelta, adding, addedTo, addSnap, setDeltaTick}
+use Rattle.definitions.specs.Storage.{StoredSnap, Storage, Store, storageOf, Keeps, AddedSnap, newestTick, dropFor, withSnaps, baseFor, isNegative, isHeld, pushSnap, sumFits, addTable, addOn, addDelta, adding, addedTo, addSnap, setDeltaTick}
 use Rattle.definitions.specs.TableCalls.{orNotInForm}
 use Rattle.definitions.specs.StorageCalls.{StoreStep, Both, WithTable, afterJudging, heldStorage, judgeDelta, judgeTable, addSnapStep, addStep, addDeltaCall, addSnapCall, setDeltaTickCall}
 use Rattle.definitions.specs.Messages.{Message}
 use Rattle.definitions.specs.Receiver.{Receiver, ReceivedDelta, Receives, receiverForm}
 use Rattle.definitions.specs.Manager.{Manager, fittingDelta, sumOf, receive, afterReading, afterReceiving, handle, judgeManager, managed, messageCall}
-use Rattle.laws.specs.StoreForm.{storage-laid}
-use Rattle.storage.specs.Fewer.{few-for}
+use Rattle.laws.specs.StoreForm.{storage-laid, storeRoom}
+use Rattle.laws.specs.StoreRoom.{length-for}
 
 -- ---- what holds of a value, if there is one
 
@@ -75,14 +75,14 @@ either false k l p q = q
 
 -- older tables are dropped
 for-few : (tick : ℤ) (s : Storage) → Few s → length (dropFor tick (s .snaps)) ≤ 100
-for-few tick s f = omega (arith, few-for tick (s .snaps) (isNegative tick))
+for-few tick s f = omega (arith, length-for tick (s .snaps))
 
 table-few : (n : ℕ) (sum : Option ℤ) (tick : ℤ) (s : Storage) (o : Outcome Table) → Few s → Few (addTable n sum tick s o .storage)
 unfolding addTable
 table-few n sum tick s (err e w) f = f
 table-few n sum tick s (ok t w) f =
     either (sumFits sum t) _ _
-    (either (leb (length (storeInts (pushSnap tick t (s .snaps)))) n) _ _
+    (either (leb (storeRoom (pushSnap tick t (s .snaps))) n) _ _
     (omega (arith, length-take 100 (record { tick = tick; snap = t } ∷ s .snaps))) f)
     f
 

@@ -23,6 +23,7 @@ pub mod TableWalk
 pub mod TableSettled
 pub mod TableChanged
 pub mod StoreForm
+pub mod StoreRoom
 pub mod StoreLaws
 pub mod DeltaShape
 pub mod DeltaRestores
@@ -59,6 +60,7 @@ pub mod PartSteps
 pub mod PartRuns
 pub mod ApplyFound
 pub mod ApplyJudging
+pub mod AppliedSound
 pub mod ApplyMerge
 pub mod ApplyHalves
 pub mod ApplyWriting

@@ -67,6 +67,28 @@ pub fresh-area : (n : ℕ) → storeArea n [] ≡ replicate n (pos 0)
 unfolding storeInts
 fresh-area n = let e : n - 0 ≡ n = omega arith in rw e
 
+-- how many ints tables take
+abbrev pub storeRoom : List StoredSnap → ℕ
+storeRoom l = length (storeInts l)
+
+-- no tables take none
+pub room-none : storeRoom [] ≡ 0
+unfolding storeInts
+room-none = refl
+
+-- a table takes its written form and two ints
+pub room-cons : (x : StoredSnap) (l : List StoredSnap) → storeRoom (x ∷ l) ≡ length (written (x .snap)) + 2 + storeRoom l
+unfolding storeInts
+room-cons x l = omega (arith, length-append (written (x .snap)) (storeInts l))
+
+-- an area of n ints is these tables laid out
+abbrev pub LaidIn : ℕ → List StoredSnap → List ℤ → Type 0
+LaidIn n l area = area ≡ storeArea n l
+
+-- an area that is laid out is at least as long
+pub area-long : (n : ℕ) (l : List StoredSnap) → n ≤ length (storeArea n l)
+area-long n l = omega (arith, length-append (storeInts l) (replicate (n - length (storeInts l)) (pos 0)), length-replicate {A = ℤ} (n - length (storeInts l)) (pos 0))
+
 -- an area that is laid out keeps its length
 pub length-area : (n : ℕ) (l : List StoredSnap) → length (storeInts l) ≤ n → length (storeArea n l) ≡ n
 length-area n l h = omega (arith, length-append (storeInts l) (replicate (n - length (storeInts l)) (pos 0)), length-replicate {A = ℤ} (n - length (storeInts l)) (pos 0))

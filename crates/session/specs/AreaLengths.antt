@@ -4,11 +4,11 @@ use mathlib.Core.Bool.{Bool, true, false, cond, not, _&&_}
 use mathlib.Core.List.{List}
 use mathlib.Core.Option.{Option, some}
 use mathlib.Core.Option as Option
-use Prim.Native.Nat.{ℕ, _-_, _*_, _≤_}
+use Prim.Native.Nat.{ℕ, _*_, _≤_}
 use native.Mathlib.Omega.{arith}
 use lib.Dec.{eqb, leb, ltb}
-use lib.IntN.{ℤ, pos}
-use lib.ListN.{length, length-append, replicate, length-replicate}
+use lib.IntN.{ℤ}
+use lib.ListN.{length}
 use Rattle.definitions.specs.Areas.{layAt}
 use Rattle.definitions.specs.Refusals.{oldDelta, invalidNumParts, invalidPart, duplicatePart, scratchTooShort, partTooLong, notInForm}
 use Rattle.definitions.specs.Warnings.{Counts, Warning, DuplicateSnap, DifferingAttributes}
@@ -17,10 +17,11 @@ use Rattle.definitions.specs.Tables.{num}
 use Rattle.definitions.specs.Deltas.{Delta, writtenDelta}
 use Rattle.definitions.specs.Messages.{SnapMsg, Snap, SnapEmpty, SnapSingle, Message}
 use Rattle.definitions.specs.Receiver.{Receiver, receiverForm, isOld, isCurrent, isIn, Part, Opened, Taken, countIn, joined, opened, differs, withPart, finish, wait, putPart, takeSnap, takeSingle, takeEmpty, Receives, ReceivedDelta, leaves}
-use Rattle.definitions.specs.Storage.{StoredSnap, Storage, Store, storeInts, storeArea, Keeps, AddedSnap}
+use Rattle.definitions.specs.Storage.{Storage, Store, Keeps, AddedSnap}
 use Rattle.definitions.specs.StorageCalls.{StoreStep, heldStorage, afterJudging, judgeTable, addSnapStep, addStep, setDeltaTickCall}
 use Rattle.definitions.specs.Manager.{Manager, Handled, receive, afterReading, afterReceiving, handle, managed, fittingDelta, judgeManager}
 use Rattle.laws.specs.AreaLaws.{length-lay, length-layAt}
+use Rattle.laws.specs.StoreForm.{area-long}
 use Rattle.session.specs.Lengths.{storeAreaInts, deltaAreaInts}
 use Rattle.session.specs.Runs.{ControllerCall, addSnap, setDeltaTick, Controller, controllerCall, Printer, left, printerCall}
 use Rattle.session.specs.Statement.{PrinterLong}
@@ -140,11 +141,6 @@ handle-long : (sizes : List ℤ) (n : ℕ) (g : Manager) (m : Message) (area sec
 unfolding handle
 handle-long sizes n g m area second delta =
     receiving-long n (g .storage) area second delta _ (receive-long area second (g .receiver) (m .numbers) (m .bytes)) sizes _
-
--- a store laid out takes the whole area
-area-long : (n : ℕ) (l : List StoredSnap) → n ≤ length (storeArea n l)
-area-long n l = rw (length-append (storeInts l) (replicate (n - length (storeInts l)) (pos 0)), length-replicate (n - length (storeInts l)) (pos 0))
-    (omega arith)
 
 -- areas that always suffice still do afterwards
 pub long-left : (sizes : List ℤ) (p : Printer) (m : Message) (scratch : ℕ) → PrinterLong p → PrinterLong (left (printerCall sizes p m scratch))

@@ -17,13 +17,14 @@ use Rattle.definitions.specs.Outcome.{Outcome, ok, err, return}
 use Rattle.definitions.specs.Tables.{Table, sound, tableOf}
 use Rattle.definitions.specs.Deltas.{Delta, writtenDelta, deltaOf}
 use Rattle.definitions.specs.DeltaMaking.{alike, deltaFrom}
-use Rattle.definitions.specs.Storage.{StoredSnap, Storage, storageOf, storeInts, dropOlder, oldestOr, oldestAt, baseFor, isHeld, chosenBase, AddedSnap, adding, Keeps}
+use Rattle.definitions.specs.Storage.{StoredSnap, Storage, storageOf, dropOlder, oldestOr, oldestAt, baseFor, isHeld, chosenBase, AddedSnap, adding, Keeps}
 use Rattle.definitions.specs.Storage as Storage
 use Rattle.definitions.specs.StorageCalls.{Added, addStep}
 use Rattle.laws.specs.AreaLaws.{lay-append}
 use Rattle.laws.specs.TableRoundTrip.{soundly}
 use Rattle.laws.specs.TableReadBack.{holds}
 use Rattle.laws.specs.DeltaMade.{made-short, made-held}
+use Rattle.laws.specs.StoreForm.{storeRoom}
 use Rattle.laws.specs.StoreForm as StoreForm
 use Rattle.session.specs.Runs.{ControllerCall, addSnap, setDeltaTick, Controller, ControllerStep, controllerCall, afterCalls, Accepted, acceptedAs, acceptedFrom, packed, chunksOf}
 use Rattle.session.specs.ControllerList.{Told, toldFrom}
@@ -69,10 +70,10 @@ module _ (c : Controller) (tick : ℤ) (table : List ℤ) (t : Table) (s : Stora
   -- long areas have room for the table and its delta
   long-room : ControllerLong c → length (s .snaps) < 100 → alike b t ≡ true → hasRoom (length (c .area)) (length (c .delta)) x s ≡ true
   long-room h few a =
-      let i : length (storeInts (x ∷ s .snaps)) ≤ length (c .area) = let m = h .0 in omega
+      let i : storeRoom (x ∷ s .snaps) ≤ length (c .area) = let m = h .0 in omega
       (arith, store-most (StoreForm.more {x = x} t-sound (k .sounds)) few) in
       let j : length (writtenDelta (deltaFrom b t)) ≤ length (c .delta) = let m = h .1 in omega (arith, made-short b t b-sound t-sound a) in
-      rw (le-leb (length (storeInts (x ∷ s .snaps))) (length (c .area)) i, le-leb (length (writtenDelta (deltaFrom b t))) (length (c .delta)) j) refl
+      rw (le-leb (storeRoom (x ∷ s .snaps)) (length (c .area)) i, le-leb (length (writtenDelta (deltaFrom b t))) (length (c .delta)) j) refl
 
   -- so no table is refused for want of room
   not-lacking : {w : Counts} → length (s .snaps) < 100 → alike b t ≡ true → hasRoom (length (c .area)) (length (c .delta)) x s ≡ false

@@ -19,13 +19,14 @@ use Rattle.definitions.specs.Storage as Storage
 use Rattle.definitions.specs.StorageCalls.{Added}
 use Rattle.laws.specs.TableReadBack.{holds}
 use Rattle.laws.specs.StoreForm.{nothing, fresh-found}
+use Rattle.laws.specs.StoreRoom.{sounds-older, length-older}
 use Rattle.session.specs.Runs.{ControllerCall, addSnap, setDeltaTick, Controller, ControllerStep, controllerCall, freshController, afterCalls, Accepted, acceptedBy, acceptedFrom}
 use Rattle.session.specs.ControllerList.{Told, toldBy, toldFrom, lastBase, notOlder, tablesLeft, storageTold}
 use Rattle.session.specs.Statement.{Rising}
 use Rattle.session.specs.Statement as Statement
 use Rattle.session.specs.Lists.{contra, either}
 use Rattle.session.specs.HeldTicks.{snapAt, Falls, end, next, falls-drop, all-drop}
-use Rattle.session.specs.Dropping.{sounds-drop, length-dropOlder, Oldest, oldest-found}
+use Rattle.session.specs.Dropping.{Oldest, oldest-found}
 use Rattle.session.specs.ControllerSteps.{drops, base-left, adding-is, call-adds, call-unformed, Sets, unsets, sets, setting-is, setStep, call-sets}
 use Rattle.session.specs.ControllerSteps as ControllerSteps
 use Rattle.session.specs.ControllerState.{Based, unset, set, none, more, Keeping, Controls, laid-out, told-refused, told-adding, adds-controls}
@@ -41,8 +42,8 @@ keeping-dropped b s l o k h =
       falls = falls-drop b (k .falls);
       based = h;
       accepted = all-drop (pos b) (s .snaps) (k .accepted);
-      sounds = sounds-drop (pos b) (s .snaps) (k .sounds);
-      few = omega (arith, length-dropOlder (pos b) (s .snaps), k .few);
+      sounds = sounds-older (pos b) (s .snaps) (k .sounds);
+      few = omega (arith, length-older (pos b) (s .snaps), k .few);
       chain = k .chain;
       sound-all = k .sound-all;
     }
@@ -120,7 +121,7 @@ sets-controls : (c : Controller) (tick : ℤ) (s : Storage) (l : List Accepted) 
     → o .storage ≡ storageTold (toldBy (setDeltaTick tick) (setStep c o) k) → Sets tick s o
     → Controls (setStep c o .next) l (toldBy (setDeltaTick tick) (setStep c o) k)
 sets-controls c tick s l k h o q (unsets e u) =
-    laid-out (length (c .area)) (c .delta) (withDeltaTick s Option.none) l _
+    laid-out (length (c .area)) (c .delta) (withDeltaTick s Option.none) l _ refl
     (record {
       top = h .top;
       falls = h .falls;
@@ -133,9 +134,9 @@ sets-controls c tick s l k h o q (unsets e u) =
     })
     q
 sets-controls c tick s l k h o q (sets e i) =
-    laid-out (length (c .area)) (c .delta) _ l _ (keeping-for tick s l (some tick) h e (set-based tick s l h e i)) q
+    laid-out (length (c .area)) (c .delta) _ l _ refl (keeping-for tick s l (some tick) h e (set-based tick s l h e i)) q
 sets-controls c tick s l k h o q (ControllerSteps.lacks e i) =
-    laid-out (length (c .area)) (c .delta) _ l _ (keeping-for tick s l Option.none h e unset) q
+    laid-out (length (c .area)) (c .delta) _ l _ refl (keeping-for tick s l Option.none h e unset) q
 
 -- ---- a call, and a list of calls
 

@@ -15,13 +15,13 @@ use Rattle.definitions.specs.Outcome.{Outcome, ok, err, return}
 use Rattle.definitions.specs.Tables.{Table, body, offsets, written, rising, sound, items, tableOf}
 use Rattle.definitions.specs.Deltas.{Delta, writtenDelta, deltaForm, deltaIn, deltaOf}
 use Rattle.definitions.specs.DeltaMaking.{alike, deltaFrom, createDelta}
-use Rattle.definitions.specs.Storage.{StoredSnap, Storage, storeArea, beside, storageOf, oldestOr, withSnaps, chosenBase, AddedSnap, addedTo}
+use Rattle.definitions.specs.Storage.{StoredSnap, Storage, beside, storageOf, oldestOr, withSnaps, chosenBase, AddedSnap, addedTo}
 use Rattle.definitions.specs.StorageCalls.{addStep}
 use Rattle.laws.specs.AreaLaws.{lay-append}
 use Rattle.laws.specs.TableRoundTrip.{soundly}
 use Rattle.laws.specs.TableReadBack.{holds}
 use Rattle.laws.specs.DeltaMade.{made-held}
-use Rattle.laws.specs.StoreForm.{Sounds, storage-found}
+use Rattle.laws.specs.StoreForm.{Sounds, LaidIn, storage-found}
 use Rattle.laws.specs.StoreForm as StoreForm
 use Rattle.session.specs.Runs.{Controller, Accepted, acceptedBy}
 use Rattle.session.specs.Runs as Runs
@@ -75,10 +75,10 @@ pub record Controls (c : Controller) (l : List Accepted) (k : List Told) : Type 
   pub told : storage ≡ storageTold k
 
 -- a store that was laid out is held
-pub laid-out : (n : ℕ) (delta : List ℤ) (s : Storage) (l : List Accepted) (k : List Told) → Keeping s l → s ≡ storageTold k
-    → Controls (record { store = beside s; area = storeArea n (s .snaps); delta = delta }) l k
-laid-out n delta s l k keeps told =
-    record { storage = s; held = storage-found n s (keeps .sounds) (keeps .few); keeping = keeps; told = told }
+pub laid-out : {area : List ℤ} (n : ℕ) (delta : List ℤ) (s : Storage) (l : List Accepted) (k : List Told) → LaidIn n (s .snaps) area → Keeping s l
+    → s ≡ storageTold k → Controls (record { store = beside s; area = area; delta = delta }) l k
+laid-out n delta s l k laid keeps told =
+    record { storage = s; held = rw laid (storage-found n s (keeps .sounds) (keeps .few)); keeping = keeps; told = told }
 
 -- ---- the delta that was made
 
@@ -209,14 +209,14 @@ pub adds-controls : (c : Controller) (tick : ℤ) (table : List ℤ) (t : Table)
     → Adds (length (c .area)) (length (c .delta)) x s o → Rising (acceptedBy (Runs.addSnap tick table) y (y .answer) l)
     → Controls (y .next) (acceptedBy (Runs.addSnap tick table) y (y .answer) l) (toldBy (Runs.addSnap tick table) y k)
 unfolding addStep
-adds-controls c tick table t s l k e h o q (full n) r = laid-out (length (c .area)) (c .delta) s l _ h q
-adds-controls c tick table t s l k e h o q (clashes n a) r = laid-out (length (c .area)) (c .delta) s l _ h q
-adds-controls c tick table t s l k e h o q (ControllerSteps.lacks n a f) r = laid-out (length (c .area)) (c .delta) s l _ h q
+adds-controls c tick table t s l k e h o q (full n) r = laid-out (length (c .area)) (c .delta) s l _ refl h q
+adds-controls c tick table t s l k e h o q (clashes n a) r = laid-out (length (c .area)) (c .delta) s l _ refl h q
+adds-controls c tick table t s l k e h o q (ControllerSteps.lacks n a f) r = laid-out (length (c .area)) (c .delta) s l _ refl h q
 adds-controls c tick table t s l k e h o q (fits n a f) r =
     let x : StoredSnap = record { tick = tick; snap = t } in
     let t-is : items table ≡ t = holds table t e .1 in
     let w = lay (writtenDelta (deltaFrom (baseOf x s .snap) t)) (c .delta) in
-    laid-out (length (c .area)) w (withSnaps s (x ∷ s .snaps)) _ _
+    laid-out (length (c .area)) w (withSnaps s (x ∷ s .snaps)) _ _ refl
     (keeping-more s l x (record { tick = tick; base = baseOf x s .tick; table = items table; delta = deltaIn [] w }) h n (soundly table t e .1) refl
     t-is (made-from c tick table t s l e h a f) r)
     q

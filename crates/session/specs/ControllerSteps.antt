@@ -18,9 +18,10 @@ use Rattle.definitions.specs.TableCalls.{held}
 use Rattle.definitions.specs.Deltas.{writtenDelta}
 use Rattle.definitions.specs.DeltaMaking.{alike, deltaFrom, createDelta}
 use Rattle.definitions.specs.Receiver.{same}
-use Rattle.definitions.specs.Storage.{StoredSnap, Storage, storeInts, storageOf, dropOlder, oldestAt, baseFor, dropFor, isNegative, warnWeird, isHeld, Keeps, withSnaps, withDeltaTick, chosenBase, AddedSnap, adding, addedTo, addSnap, setDeltaTick}
+use Rattle.definitions.specs.Storage.{StoredSnap, Storage, storageOf, dropOlder, oldestAt, baseFor, dropFor, isNegative, warnWeird, isHeld, Keeps, withSnaps, withDeltaTick, chosenBase, AddedSnap, adding, addedTo, addSnap, setDeltaTick}
 use Rattle.definitions.specs.StorageCalls.{laidOut, afterJudging, heldStorage, judgeTable, addSnapStep, addStep}
 use Rattle.laws.specs.TableShape.{both}
+use Rattle.laws.specs.StoreForm.{storeRoom}
 use Rattle.session.specs.Runs.{Controller, ControllerStep, added, baseSet, controllerCall}
 use Rattle.session.specs.Runs as Runs
 use Rattle.session.specs.Statement.{Weird, minusOne, other}
@@ -35,7 +36,7 @@ baseOf x s = chosenBase (s .deltaTick) x (s .snaps)
 -- whether the table and its delta have room
 abbrev pub hasRoom : ℕ → ℕ → StoredSnap → Storage → Bool
 hasRoom n m x s =
-    leb (length (storeInts (x ∷ s .snaps))) n
+    leb (storeRoom (x ∷ s .snaps)) n
     && leb (length (writtenDelta (deltaFrom (baseOf x s .snap) (x .snap)))) m
 
 -- the outcome of adding a table, for a store area of n ints and a delta area of m
@@ -61,7 +62,7 @@ tests-are n m x s false same room f a r = full (ltb-false (length (s .snaps)) 10
 tests-are n m x s true false room f a r = clashes (ltb-true (length (s .snaps)) 100 f) a
 tests-are n m x s true true false f a r = lacks (ltb-true (length (s .snaps)) 100 f) a r
 tests-are n m x s true true true f a r =
-    fits (ltb-true (length (s .snaps)) 100 f) a (leb-true _ m (both (leb (length (storeInts (x ∷ s .snaps))) n) _ r .1))
+    fits (ltb-true (length (s .snaps)) 100 f) a (leb-true _ m (both (leb (storeRoom (x ∷ s .snaps)) n) _ r .1))
 
 -- adding a table has one of these outcomes
 pub adding-is : (n m : ℕ) (x : StoredSnap) (s : Storage) → Adds n m x s (adding n m x s)

@@ -13,7 +13,6 @@ use Rattle.definitions.specs.Ints.{signedLess}
 use Rattle.definitions.specs.Receiver.{same}
 use Rattle.definitions.specs.Storage.{StoredSnap, dropOlder, oldestOr, oldestAt, isHeld}
 use Rattle.definitions.specs.Logbook.{hasTick}
-use Rattle.laws.specs.StoreForm.{Sounds, nothing, more}
 use Rattle.session.specs.Statement.{Among, here, there, HeldAt}
 use Rattle.session.specs.Lists.{contra, either, among-first, among-nothing}
 use Rattle.session.specs.HeldTicks.{Falls, next, same-pos, ticks-drop, falls-drop, dropped-atLeast, oldest-among, Found, found, missing, find-base, hasTick-notBelow, held-hasTick}
@@ -28,20 +27,6 @@ falls-tick (next {n = n} h f) here = (n, refl, h)
 falls-tick (next {n = n} h f) (there m) = let (j, q, i) = falls-tick f m in (j, q, omega arith)
 
 -- ---- what is left
-
--- those left of sound tables are sound
-pub sounds-drop : (b : ℤ) (l : List StoredSnap) → Sounds l → Sounds (dropOlder b l)
-unfolding dropOlder
-sounds-drop b [] nothing = nothing
-sounds-drop b (x ∷ l) (more p f) =
-    either (signedLess (x .tick) b) (λ q. rw q nothing) (λ q. rw q (more p (sounds-drop b l f)))
-
--- no more are left than there were
-pub length-dropOlder : (b : ℤ) (l : List StoredSnap) → length (dropOlder b l) ≤ length l
-unfolding dropOlder
-length-dropOlder b [] = omega arith
-length-dropOlder b (x ∷ l) =
-    either (signedLess (x .tick) b) (λ q. rw q (omega arith)) (λ q. rw q (omega (arith, length-dropOlder b l)))
 
 -- one that is left was there
 pub among-drop : (b : ℤ) (l : List StoredSnap) {x : StoredSnap} → Among x (dropOlder b l) → Among x l

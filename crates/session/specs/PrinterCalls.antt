@@ -14,12 +14,12 @@ use Rattle.definitions.specs.Outcome.{err}
 use Rattle.definitions.specs.Tables.{Table}
 use Rattle.definitions.specs.Messages.{Message}
 use Rattle.definitions.specs.Receiver.{Receiver}
-use Rattle.definitions.specs.Storage.{Storage, freshStorage, storeArea, beside, storageOf}
+use Rattle.definitions.specs.Storage.{Storage, freshStorage, beside, storageOf}
 use Rattle.definitions.specs.StorageCalls.{heldStorage}
 use Rattle.definitions.specs.Manager.{ManagerStep, judgeManager, managed}
 use Rattle.definitions.specs.Logbook.{Logbook, freshLogbook, Note, noteMessage}
 use Rattle.laws.specs.TableShape.{both}
-use Rattle.laws.specs.StoreForm.{storage-found, fresh-area, length-area}
+use Rattle.laws.specs.StoreForm.{LaidIn, storage-found, fresh-area, length-area}
 use Rattle.session.specs.Runs.{Accepted, Printer, freshPrinter, left, printerCall, answerOf}
 use Rattle.session.specs.Statement.{Among, Rising, PrinterLong}
 use Rattle.session.specs.Lengths.{packedBytes}
@@ -61,7 +61,7 @@ module _ (sizes : List ℤ) (instead : ℤ → Bool) (es : List Accepted) (At : 
   pub record Keeps (p : Printer) (g : Logbook) : Type 0 where
     pub storage : Storage
     pub store-is : p .store ≡ beside storage
-    pub area-is : p .area ≡ storeArea n (storage .snaps)
+    pub area-is : LaidIn n (storage .snaps) (p .area)
     pub agree : Agree sizes instead es At n (p .receiver) (p .parts) storage g
 
   module _ {p : Printer} {g : Logbook} (k : Keeps p g) where

@@ -1,6 +1,6 @@
 -- How a printer's receiver and store agree with the logbook, while messages of accepted tables come. Assumes nothing.
 use mathlib.Core.Path.{_≡_, refl, sym, ap, subst}
-use mathlib.Core.Bool.{Bool, true, false, cond, not}
+use mathlib.Core.Bool.{Bool, true, false, not}
 use mathlib.Core.List.{List, [], _∷_}
 use mathlib.Core.Option.{Option, some}
 use mathlib.Core.Option as Option
@@ -9,21 +9,21 @@ use native.Mathlib.Omega.{arith}
 use borrow.Author.Tests.{ltb-true, le-leb, lt-ltb}
 use lib.Dec.{ltb}
 use lib.IntN.{ℤ, pos}
-use lib.ListN.{length, length-append}
+use lib.ListN.{length}
 use Rattle.definitions.specs.Ints.{signedLess}
-use Rattle.definitions.specs.Tables.{Table, written, sound, crc}
+use Rattle.definitions.specs.Tables.{Table, sound, crc}
 use Rattle.definitions.specs.Messages.{numParts}
 use Rattle.definitions.specs.Receiver.{Receiver, freshReceiver, finishedAt, countIn, abovePrevious, receiverForm, isOld}
-use Rattle.definitions.specs.Storage.{StoredSnap, Storage, storeInts, dropOlder}
+use Rattle.definitions.specs.Storage.{StoredSnap, Storage, dropOlder}
 use Rattle.definitions.specs.Logbook.{Logbook, freshLogbook, allCame}
-use Rattle.laws.specs.StoreForm.{Sounds}
+use Rattle.laws.specs.StoreForm.{Sounds, storeRoom}
 use Rattle.laws.specs.StoreForm as StoreForm
+use Rattle.laws.specs.StoreRoom.{room-older, length-older}
 use Rattle.session.specs.Runs.{Accepted, packed}
 use Rattle.session.specs.Statement.{Among, here, there, All, none, more, Rising, Carried}
 use Rattle.session.specs.Lists.{all-among}
 use Rattle.session.specs.PartsHeld.{Holding, holding-count, holding-few}
 use Rattle.session.specs.HeldTicks.{ticks, Falls, falls-drop, falls-weaken, all-drop}
-use Rattle.session.specs.Dropping.{length-dropOlder}
 use Rattle.session.specs.Sending.{isLarge, partsNeeded}
 
 -- ---- accepted tables by tick
@@ -71,20 +71,6 @@ pub named-sounds : {es : List Accepted} {At : ℤ → Table → Type 0} {l : Lis
 named-sounds nm none = StoreForm.nothing
 named-sounds nm (more p ps) = StoreForm.more (nm .sounds p) (named-sounds nm ps)
 
--- ---- what is held
-
--- dropping leaves no more ints
-room-dropOlder : (b : ℤ) (l : List StoredSnap) → length (storeInts (dropOlder b l)) ≤ length (storeInts l)
-unfolding dropOlder storeInts
-room-dropOlder b [] = omega arith
-room-dropOlder b (x ∷ l) = go (signedLess (x .tick) b) (room-dropOlder b l)
-  where
-    go : (t : Bool) → length (storeInts (dropOlder b l)) ≤ length (storeInts l) → length (storeInts (cond t [] (x ∷ dropOlder b l))) ≤ length (storeInts (x ∷ l))
-    go true h = unfold storeInts in omega arith
-    go false h =
-        unfold storeInts in
-        rw (length-append (written (x .snap)) (storeInts (dropOlder b l)), length-append (written (x .snap)) (storeInts l)) (omega arith)
-
 -- ---- what is compared
 
 -- a receiver while parts of a table's tick are missing, under known sizes
@@ -131,7 +117,7 @@ module _ (sizes : List ℤ) (instead : ℤ → Bool) (es : List Accepted) (At : 
     pub falls : Falls k l
     pub accepted : All (AtTick At) l
     pub few : length l ≤ 100
-    pub room : length (storeInts l) ≤ n
+    pub room : storeRoom l ≤ n
 
   -- what is held after dropping
   pub held-drop : (b : ℕ) {k : ℕ} {l : List StoredSnap} → Held k l → Held k (dropOlder (pos b) l)
@@ -139,8 +125,8 @@ module _ (sizes : List ℤ) (instead : ℤ → Bool) (es : List Accepted) (At : 
       record {
         falls = falls-drop b (h .falls);
         accepted = all-drop (pos b) l (h .accepted);
-        few = omega (arith, length-dropOlder (pos b) l, h .few);
-        room = omega (arith, room-dropOlder (pos b) l, h .room);
+        few = omega (arith, length-older (pos b) l, h .few);
+        room = omega (arith, room-older (pos b) l, h .room);
       }
 
   -- what is held below k is held below j, where j is not less

@@ -17,9 +17,10 @@ use Rattle.definitions.specs.DeltaReading.{DeltaRead}
 use Rattle.definitions.specs.Applying.{applyDelta}
 use Rattle.definitions.specs.Types.{typed}
 use Rattle.definitions.specs.Receiver.{Receiver, freshReceiver, finishedAt, receiverForm, isOld, DataAndCrc, Taken}
-use Rattle.definitions.specs.Storage.{Storage, storeInts, sumFits}
+use Rattle.definitions.specs.Storage.{Storage, sumFits}
 use Rattle.definitions.specs.Manager.{receivedDelta, sumOf}
 use Rattle.definitions.specs.Logbook.{Logbook, allCame, note, partCame}
+use Rattle.laws.specs.StoreForm.{room-none}
 use Rattle.session.specs.Runs.{Accepted}
 use Rattle.session.specs.Statement.{Among, none, Rising, Base}
 use Rattle.session.specs.Lengths.{deltaAreaInts}
@@ -34,8 +35,7 @@ use Rattle.session.specs.ReceiverSteps.{Gives, Refuses}
 
 -- nothing is held
 pub held-nothing : (sizes : List ℤ) (instead : ℤ → Bool) (es : List Accepted) (At : ℤ → Table → Type 0) (n t : ℕ) → Held sizes instead es At n t []
-unfolding storeInts
-held-nothing sizes instead es At n t = record { falls = end; accepted = none; few = omega arith; room = omega arith }
+held-nothing sizes instead es At n t = record { falls = end; accepted = none; few = omega arith; room = omega (arith, room-none) }
 
 module _ (sizes : List ℤ) (instead : ℤ → Bool) (es : List Accepted) (At : ℤ → Table → Type 0) (n : ℕ) (up : Rising es) (nm : Naming es At) {a : Accepted} {t : ℕ} (m : Among a es) (is : a .tick ≡ pos t) where
   -- the table accepted at this tick is this one

@@ -2,17 +2,17 @@
 use mathlib.Core.Path.{_≡_, refl}
 use mathlib.Core.Bool.{false}
 use mathlib.Core.List.{List}
-use Prim.Native.Nat.{ℕ, _*_, _≤_}
+use Prim.Native.Nat.{ℕ, _≤_}
 use native.Mathlib.Omega.{arith}
 use borrow.Author.Tests.{leb-false}
 use lib.Dec.{leb}
-use lib.ListN.{length, length-append}
+use lib.ListN.{length}
 use Rattle.definitions.specs.Refusals.{capacityError}
 use Rattle.definitions.specs.Warnings.{Counts}
 use Rattle.definitions.specs.Outcome.{Outcome, err}
-use Rattle.definitions.specs.Tables.{written}
-use Rattle.definitions.specs.Storage.{StoredSnap, storeInts}
-use Rattle.laws.specs.StoreForm.{Sounds, nothing, more, sound-short}
+use Rattle.definitions.specs.Storage.{StoredSnap}
+use Rattle.laws.specs.StoreForm.{Sounds, storeRoom}
+use Rattle.laws.specs.StoreRoom.{room-most}
 use Rattle.session.specs.Lengths.{storeAreaInts, deltaAreaInts}
 use Rattle.session.specs.Statement.{Suffices}
 
@@ -39,13 +39,6 @@ StoreLong n = storeAreaInts ≤ n
 abbrev pub BothLong : ℕ → ℕ → Type 0
 BothLong n m = StoreLong n × (deltaAreaInts ≤ m)
 
--- sound tables take at most 16,386 ints each
-ints-most : {l : List StoredSnap} → Sounds l → length (storeInts l) ≤ 16386 * length l
-unfolding storeInts
-ints-most nothing = omega arith
-ints-most (more {x = x} {l = l} e h) =
-    rw (length-append (written (x .snap)) (storeInts l)) (omega (arith, sound-short (x .snap) e, ints-most h))
-
--- so an area that always suffices has room for 100
-pub store-most : {l : List StoredSnap} → Sounds l → length l ≤ 100 → length (storeInts l) ≤ storeAreaInts
-store-most h few = omega (arith, ints-most h)
+-- an area that always suffices has room for 100 sound tables
+pub store-most : {l : List StoredSnap} → Sounds l → length l ≤ 100 → storeRoom l ≤ storeAreaInts
+store-most h few = omega (arith, room-most h)

@@ -19,8 +19,9 @@ use Rattle.definitions.specs.Deltas.{Delta}
 use Rattle.definitions.specs.Applying.{applyDelta}
 use Rattle.definitions.specs.Types.{typed}
 use Rattle.definitions.specs.Receiver.{finishedAt, same}
-use Rattle.definitions.specs.Storage.{StoredSnap, storeInts, dropOlder, oldestAt, isNegative, warnWeird, Keeps, sumFits, pushSnap, addTable, addOn, addDelta}
+use Rattle.definitions.specs.Storage.{StoredSnap, dropOlder, oldestAt, isNegative, warnWeird, Keeps, sumFits, pushSnap, addTable, addOn, addDelta}
 use Rattle.definitions.specs.Logbook.{Answer, refused, acknowledges, Note, allCame, hasTick, heldFor, holding, complete}
+use Rattle.laws.specs.StoreForm.{storeRoom}
 use Rattle.session.specs.Runs.{Accepted, answerOf}
 use Rattle.session.specs.Statement.{Among, All, more, Rising, Base, empty, named}
 use Rattle.session.specs.Lists.{either, all-among}
@@ -76,9 +77,9 @@ module _ (sizes : List ℤ) (instead : ℤ → Bool) (es : List Accepted) (At : 
         let f : Falls (suc t) (snapAt t (a .table) ∷ l) = next {k = suc t} {n = t} (omega arith) (h .falls) in
         let i : All (AtTick At) (pushSnap (pos t) (a .table) l) = all-take 100 (snapAt t (a .table) ∷ l) (more accepted-here (h .accepted)) in
         let few : length (pushSnap (pos t) (a .table) l) ≤ 100 = simp length-take (omega arith) in
-        let most : StoreLong n → length (storeInts (pushSnap (pos t) (a .table) l)) ≤ n = λ z. omega (arith, store-most (named-sounds nm i) few) in
+        let most : StoreLong n → storeRoom (pushSnap (pos t) (a .table) l) ≤ n = λ z. omega (arith, store-most (named-sounds nm i) few) in
         rw (fits, ← (push-holding f (h .few)))
-        (either (leb (length (storeInts (pushSnap (pos t) (a .table) l))) n)
+        (either (leb (storeRoom (pushSnap (pos t) (a .table) l)) n)
         (λ e. rw e
         (record {
           answer = refl;
@@ -88,7 +89,7 @@ module _ (sizes : List ℤ) (instead : ℤ → Bool) (es : List Accepted) (At : 
                 falls = falls-take 100 f;
                 accepted = i;
                 few = few;
-                room = leb-true (length (storeInts (pushSnap (pos t) (a .table) l))) n e;
+                room = leb-true (storeRoom (pushSnap (pos t) (a .table) l)) n e;
               });
         }))
         (λ e. absurd (no-room _ n most e (rw (fits, e) at s))))

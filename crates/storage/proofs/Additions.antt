@@ -1,5 +1,5 @@
 -- Adding a table, case by case. Assumes nothing.
-use mathlib.Core.Path.{_≡_, refl, sym, ap, ap₂, _∙_, subst}
+use mathlib.Core.Path.{_≡_, refl, sym, ap, _∙_, subst}
 use mathlib.Core.Bool.{Bool, true, false, cond, _&&_}
 use mathlib.Core.List.{List, [], _∷_, _++_, append-nil}
 use mathlib.Core.Option.{some, none}
@@ -23,6 +23,7 @@ use Rattle.definitions.specs.StorageCalls as Calls
 use Rattle.laws.specs.AreaLaws.{lay-nowhere}
 use Rattle.laws.specs.TableShape.{some-is}
 use Rattle.laws.specs.TableRoundTrip.{back}
+use Rattle.laws.specs.StoreForm.{storeRoom, LaidIn}
 use Rattle.laws.specs.DeltaSize.{length-deltaFrom}
 use Rattle.format.specs.Numbers.{number}
 use Rattle.format.specs.declared.Error.{Error}
@@ -32,19 +33,21 @@ use Rattle.delta_making.specs.Answers.{createdInts, madeInts, Clash}
 use Rattle.delta_making.specs.declared.Made.{Made}
 use Rattle.delta_making.specs.declared.Made.the-variants as made
 use Rattle.storage.specs.Answers.{addedIn}
-use Rattle.storage.specs.Steps.{making, addedOf, storeAfter, areaAfter, addingTo}
+use Rattle.storage.specs.Steps.{making, addedOf, storeAfter, tablesAfter, addingTo}
 
--- what a delta that was not made leaves
-refused-by : (s : Store.Store) (a : List ℤ) (l : List Store.StoredSnap) (x : Store.StoredSnap) (base : ℤ) (n : ℕ) (m : Made) → err n Warnings.none ≡ madeInts m → (err n Warnings.none ≡ addedIn (addedOf base m)) × (s ≡ storeAfter s m) × (a ≡ areaAfter a l x m)
-refused-by s a l x base n (made.Ints k) e = let z : _≡_ {A = ℕ} 0 1 = cc in absurd (omega arith)
-refused-by s a l x base n (made.DifferingSizes k) e = let d : n ≡ deltaDifferingSizes = cc in (ap refuse d, refl, refl)
-refused-by s a l x base n (made.Refused k) e = let d : n ≡ number k = cc in (ap refuse d, refl, refl)
+module _ (s : Store.Store) (l : List Store.StoredSnap) (x : Store.StoredSnap) (base : ℤ) (n : ℕ) where
+  -- what a delta that was not made leaves
+  refused-by : (m : Made) → err n Warnings.none ≡ madeInts m → (err n Warnings.none ≡ addedIn (addedOf base m)) × (s ≡ storeAfter s m) × (tablesAfter l x m ≡ l)
+  refused-by (made.Ints k) e = let z : _≡_ {A = ℕ} 0 1 = cc in absurd (omega arith)
+  refused-by (made.DifferingSizes k) e = let d : n ≡ deltaDifferingSizes = cc in (ap refuse d, refl, refl)
+  refused-by (made.Refused k) e = let d : n ≡ number k = cc in (ap refuse d, refl, refl)
 
--- what one that was made does
-made-by : (s : Store.Store) (a : List ℤ) (l : List Store.StoredSnap) (x : Store.StoredSnap) (base : ℤ) (n : ℕ) (m : Made) → ok n Warnings.none ≡ madeInts m → (return (record { base = base; ints = n }) ≡ addedIn (addedOf base m)) × (record { count = s .count + 1; ackTick = s .ackTick; deltaTick = s .deltaTick } ≡ storeAfter s m) × (Store.storeArea (length a) (x ∷ l) ≡ areaAfter a l x m)
-made-by s a l x base n (made.Ints k) e = let d : n ≡ k = cc in (ap (λ (i : ℕ). return (record { base = base; ints = i })) d, refl, refl)
-made-by s a l x base n (made.DifferingSizes k) e = let z : _≡_ {A = ℕ} 0 1 = cc in absurd (omega arith)
-made-by s a l x base n (made.Refused k) e = let z : _≡_ {A = ℕ} 0 1 = cc in absurd (omega arith)
+  -- what one that was made does
+  made-by : (m : Made) → ok n Warnings.none ≡ madeInts m
+      → (return (record { base = base; ints = n }) ≡ addedIn (addedOf base m)) × (record { count = s .count + 1; ackTick = s .ackTick; deltaTick = s .deltaTick } ≡ storeAfter s m) × (tablesAfter l x m ≡ x ∷ l)
+  made-by (made.Ints k) e = let d : n ≡ k = cc in (ap (λ (i : ℕ). return (record { base = base; ints = i })) d, refl, refl)
+  made-by (made.DifferingSizes k) e = let z : _≡_ {A = ℕ} 0 1 = cc in absurd (omega arith)
+  made-by (made.Refused k) e = let z : _≡_ {A = ℕ} 0 1 = cc in absurd (omega arith)
 
 module _ (h : Store.Storage) (x : Store.StoredSnap) (a delta : List ℤ) (few : length (h .snaps) < 100) where
   -- the base
@@ -57,51 +60,58 @@ module _ (h : Store.Storage) (x : Store.StoredSnap) (a delta : List ℤ) (few : 
 
   -- whether the store has room for the table
   abbrev Room : Bool
-  Room = leb (length (Store.storeInts (x ∷ h .snaps))) (length a)
+  Room = leb (storeRoom (x ∷ h .snaps)) (length a)
 
-  -- the call as a whole
-  abbrev Comes : Outcome Calls.Added → Store.Store → List ℤ → List ℤ → Type 0
-  Comes o s l d = addingTo h x a delta ≡ record { answer = o; store = s; area = l; delta = d }
+  module _ (area : List ℤ) where
+    -- the call as a whole
+    abbrev Comes : Outcome Calls.Added → Store.Store → List ℤ → Type 0
+    Comes o s d = addingTo h x a delta ≡ record { answer = o; store = s; area = area; delta = d }
 
-  -- the tables do not agree
-  adding-10 : alike (B .snap) (x .snap) ≡ false → Comes (refuse deltaDifferingSizes) (Store.beside h) (Store.storeArea (length a) (h .snaps)) delta
-  unfolding addingTo Store.addSnap Store.adding createDelta Calls.addStep
-  adding-10 e = rw (lt-ltb (length (h .snaps)) 100 few, e)
+    -- the tables do not agree
+    adding-10 : alike (B .snap) (x .snap) ≡ false → LaidIn (length a) (h .snaps) area → Comes (refuse deltaDifferingSizes) (Store.beside h) delta
+    unfolding addingTo Store.addSnap Store.adding createDelta Calls.addStep
+    adding-10 e o = rw (lt-ltb (length (h .snaps)) 100 few, e, o)
 
-  -- there is no room
-  adding-40 : alike (B .snap) (x .snap) ≡ true → (Room && leb (length D) (length delta)) ≡ false → Comes (refuse capacityError) (Store.beside h) (Store.storeArea (length a) (h .snaps)) delta
-  unfolding addingTo Store.addSnap Store.adding createDelta Calls.addStep
-  adding-40 e f = rw (lt-ltb (length (h .snaps)) 100 few, e, f)
+    -- there is no room
+    adding-40 : alike (B .snap) (x .snap) ≡ true → (Room && leb (length D) (length delta)) ≡ false → LaidIn (length a) (h .snaps) area
+        → Comes (refuse capacityError) (Store.beside h) delta
+    unfolding addingTo Store.addSnap Store.adding createDelta Calls.addStep
+    adding-40 e f o = rw (lt-ltb (length (h .snaps)) 100 few, e, f, o)
 
-  -- there is
-  adding-done : alike (B .snap) (x .snap) ≡ true → (Room && leb (length D) (length delta)) ≡ true → Comes (return (record { base = B .tick; ints = length D })) (record { count = length (h .snaps) + 1; ackTick = h .ackTick; deltaTick = h .deltaTick }) (Store.storeArea (length a) (x ∷ h .snaps)) (lay D delta)
-  unfolding addingTo Store.addSnap Store.adding createDelta Calls.addStep
-  adding-done e f = rw (lt-ltb (length (h .snaps)) 100 few, e, f, add-one (length (h .snaps)))
+    -- there is
+    adding-done : alike (B .snap) (x .snap) ≡ true → (Room && leb (length D) (length delta)) ≡ true → LaidIn (length a) (x ∷ h .snaps) area
+        → Comes (return (record { base = B .tick; ints = length D })) (record { count = length (h .snaps) + 1; ackTick = h .ackTick; deltaTick = h .deltaTick }) (lay D delta)
+    unfolding addingTo Store.addSnap Store.adding createDelta Calls.addStep
+    adding-done e f o = rw (lt-ltb (length (h .snaps)) 100 few, e, f, o, add-one (length (h .snaps)))
 
-  module _ (whole : a ≡ Store.storeArea (length a) (h .snaps)) (room : Bool) (rm : room ≡ Room) (m : Made) (out : List ℤ) (e : making room delta (createdInts (B .snap) (x .snap)) ≡ record { answer = madeInts m; out = out }) where
+  module _ (room : Bool) (rm : room ≡ Room) (m : Made) (out : List ℤ)
+      (e : making room delta (createdInts (B .snap) (x .snap)) ≡ record { answer = madeInts m; out = out }) (area : List ℤ)
+      (laid : LaidIn (length a) (tablesAfter (h .snaps) x m) area) where
     -- the result of the call, by what was made
     abbrev Result : Type 0
-    Result = addingTo h x a delta ≡ record { answer = addedIn (addedOf (B .tick) m); store = storeAfter (Store.beside h) m; area = areaAfter a (h .snaps) x m; delta = out }
+    Result = Comes area (addedIn (addedOf (B .tick) m)) (storeAfter (Store.beside h) m) out
+
+    -- with equal parts
+    same-result : (o : Outcome Calls.Added) (s : Store.Store) (d : List ℤ) → o ≡ addedIn (addedOf (B .tick) m) → s ≡ storeAfter (Store.beside h) m
+        → d ≡ out → Comes area o s d → Result
+    same-result o s d p q r c = c ∙ rw (p, q, r)
 
     -- refused
-    refused : (n : ℕ) → Comes (refuse n) (Store.beside h) (Store.storeArea (length a) (h .snaps)) delta → err n Warnings.none ≡ madeInts m → delta ≡ out → Result
-    refused n c f g =
-        let r = refused-by (Store.beside h) a (h .snaps) x (B .tick) n m f in
-        c ∙ rw (← whole, r .0, g) (ap₂ (λ (s : Store.Store) (l : List ℤ). record { answer = addedIn (addedOf (B .tick) m); store = s; area = l; delta = out }) (r .1) (r .2))
+    refused : (n : ℕ) → (LaidIn (length a) (h .snaps) area → Comes area (refuse n) (Store.beside h) delta)
+        → _≡_ {A = Wrote ℕ ℤ} (record { answer = refuse n; out = delta }) (record { answer = madeInts m; out = out }) → Result
+    refused n c f =
+        let r = refused-by (Store.beside h) (h .snaps) x (B .tick) n m (ap (λ (w : Wrote ℕ ℤ). w .answer) f) in
+        same-result _ _ _ (r .0) (r .1) (ap (λ (w : Wrote ℕ ℤ). w .out) f) (c (rw (r .2) at laid))
 
     -- by whether the tables agree, and by the room
     by-alike : (b c : Bool) → alike (B .snap) (x .snap) ≡ b → (Room && leb (length D) (length delta)) ≡ c → Result
     unfolding making createDelta
-    by-alike false c p q =
-        let f : _≡_ {A = Wrote ℕ ℤ} (record { answer = refuse deltaDifferingSizes; out = delta }) (record { answer = madeInts m; out = out }) = rw p at e in
-        refused deltaDifferingSizes (adding-10 p) (ap (λ (w : Wrote ℕ ℤ). w .answer) f) (ap (λ (w : Wrote ℕ ℤ). w .out) f)
-    by-alike true false p q =
-        let f : _≡_ {A = Wrote ℕ ℤ} (record { answer = refuse capacityError; out = delta }) (record { answer = madeInts m; out = out }) = rw (p, rm, q) at e in
-        refused capacityError (adding-40 p q) (ap (λ (w : Wrote ℕ ℤ). w .answer) f) (ap (λ (w : Wrote ℕ ℤ). w .out) f)
+    by-alike false c p q = refused deltaDifferingSizes (adding-10 area p) (rw p at e)
+    by-alike true false p q = refused capacityError (adding-40 area p q) (rw (p, rm, q) at e)
     by-alike true true p q =
         let f : _≡_ {A = Wrote ℕ ℤ} (record { answer = ok (length D) Warnings.none; out = lay D delta }) (record { answer = madeInts m; out = out }) = rw (p, rm, q) at e in
-        let r = made-by (Store.beside h) a (h .snaps) x (B .tick) (length D) m (ap (λ (w : Wrote ℕ ℤ). w .answer) f) in
-        adding-done p q ∙ rw (r .0, ap (λ (w : Wrote ℕ ℤ). w .out) f) (ap₂ (λ (s : Store.Store) (l : List ℤ). record { answer = addedIn (addedOf (B .tick) m); store = s; area = l; delta = out }) (r .1) (r .2))
+        let r = made-by (Store.beside h) (h .snaps) x (B .tick) (length D) m (ap (λ (w : Wrote ℕ ℤ). w .answer) f) in
+        same-result _ _ _ (r .0) (r .1) (ap (λ (w : Wrote ℕ ℤ). w .out) f) (adding-done area p q (rw (r .2) at laid))
 
     -- the result of the call, by the delta that was to be made
     pub added-by : Result
@@ -110,7 +120,8 @@ module _ (h : Store.Storage) (x : Store.StoredSnap) (a delta : List ℤ) (few : 
 -- ---- whether the delta was made
 
 -- a store without room makes none
-pub made-room : (room : Bool) (delta out : List ℤ) (b t : Table) (m : Made) (n : ℕ) → making room delta (createdInts b t) ≡ record { answer = madeInts m; out = out } → m ≡ made.Ints n → room ≡ true
+pub made-room : (room : Bool) (delta out : List ℤ) (b t : Table) (m : Made) (n : ℕ)
+    → making room delta (createdInts b t) ≡ record { answer = madeInts m; out = out } → m ≡ made.Ints n → room ≡ true
 unfolding making createDelta
 made-room true delta out b t m n e f = refl
 made-room false delta out b t m n e f = go (alike b t) refl
@@ -146,7 +157,8 @@ nothing-out (ok xs w) = by (leb (length xs) 0)
     by true = lay-nowhere xs
     by false = refl
 
-module _ (room : Bool) (r : room ≡ false) (delta out : List ℤ) (b t : Table) (m : Made) (e : stored [] (createdInts b t) ≡ record { answer = madeInts m; out = out }) where
+module _ (room : Bool) (r : room ≡ false) (delta out : List ℤ) (b t : Table) (m : Made)
+    (e : stored [] (createdInts b t) ≡ record { answer = madeInts m; out = out }) where
   -- nothing was written
   out-is : out ≡ []
   out-is = sym (ap (λ (w : Wrote ℕ ℤ). w .out) e) ∙ nothing-out (createdInts b t)
@@ -194,7 +206,8 @@ module _ (room : Bool) (r : room ≡ false) (delta out : List ℤ) (b t : Table)
           let z : _≡_ {A = ℕ} 0 1 = cc in absurd (omega arith)
 
   -- it is refused, and no key clashes
-  pub judged-40 : (k : Error) → m ≡ made.Refused k → Clash b t m → making room delta (createdInts b t) ≡ record { answer = refuse capacityError; out = out ++ delta }
+  pub judged-40 : (k : Error) → m ≡ made.Refused k → Clash b t m
+      → making room delta (createdInts b t) ≡ record { answer = refuse capacityError; out = out ++ delta }
   judged-40 k f h = go (alike b t) refl
     where
       go : (c : Bool) → alike b t ≡ c → making room delta (createdInts b t) ≡ record { answer = refuse capacityError; out = out ++ delta }
@@ -222,7 +235,9 @@ unfolding written body offsets sound rising
 empty-table = whole-table (pos 0 ∷ pos 0 ∷ []) [] refl refl
 
 -- a delta from a base is one from an equal table
-pub by-base : (room : Bool) (delta out : List ℤ) (b c t : Table) (m : Made) → b ≡ c → (making room delta (createdInts b t) ≡ record { answer = madeInts m; out = out }) × Clash b t m → (making room delta (createdInts c t) ≡ record { answer = madeInts m; out = out }) × Clash c t m
+pub by-base : (room : Bool) (delta out : List ℤ) (b c t : Table) (m : Made) → b ≡ c
+    → (making room delta (createdInts b t) ≡ record { answer = madeInts m; out = out }) × Clash b t m
+    → (making room delta (createdInts c t) ≡ record { answer = madeInts m; out = out }) × Clash c t m
 by-base room delta out b c t m e h =
     subst (λ (y : Table). (making room delta (createdInts y t) ≡ record { answer = madeInts m; out = out }) × Clash y t m) e h
 

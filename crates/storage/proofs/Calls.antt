@@ -15,20 +15,20 @@ use Rattle.definitions.specs.Tables.{Table, tableOf, written}
 use Rattle.definitions.specs.TableCalls as TableCalls
 use Rattle.definitions.specs.Storage as Store
 use Rattle.definitions.specs.StorageCalls as Calls
+use Rattle.laws.specs.StoreForm.{storeRoom, room-cons, LaidIn}
 use Rattle.store_area.specs.Held.{snapsIn}
-use Rattle.store_area.specs.Tables.{length-cons}
+use Rattle.store_area.specs.Stores.{holdsIn, Holds, beside-is}
 use Rattle.delta_making.specs.Answers.{createdInts, madeInts, Clash}
 use Rattle.delta_making.specs.declared.Made.{Made}
 use Rattle.delta_making.specs.declared.Made.the-variants as made
-use Rattle.storage.specs.States.{storeOf, holdsIn, Holds}
-use Rattle.storage.specs.Answers.{addedIn, addings, Clashing}
+use Rattle.storage.specs.States.{storeOf}
+use Rattle.storage.specs.Answers.{addings, Clashing}
 use Rattle.format.specs.Numbers.{number}
 use Rattle.format.specs.declared.Error.{Error}
 use Rattle.storage.specs.declared.Added.{Added}
 use Rattle.storage.specs.declared.Added.the-variants as added
 use Rattle.storage.specs.declared.Adding.{Adding}
-use Rattle.storage.specs.Steps.{making, addedOf, storeAfter, areaAfter, addingTo}
-use Rattle.storage.specs.Told.{beside-is}
+use Rattle.storage.specs.Steps.{making, addedOf, storeAfter, tablesAfter, addingTo}
 use Rattle.storage.proofs.Additions.{added-by}
 
 -- ---- the call
@@ -55,7 +55,8 @@ module _ (s : Store.Store) (a : List ℤ) (tick : ℤ) (table delta : List ℤ) 
     both-held t f = rw (e, f)
 
 -- the store is full
-pub full-44 : (s : Store.Store) (a : List ℤ) (k : ℕ) → Holds s a k → s .count ≡ 100 → (x : Store.StoredSnap) (delta : List ℤ) → addingTo (holdsIn s a) x a delta ≡ record { answer = refuse storeFull; store = s; area = a; delta = delta }
+pub full-44 : (s : Store.Store) (a : List ℤ) (k : ℕ) → Holds s a k → s .count ≡ 100 → (x : Store.StoredSnap) (delta : List ℤ)
+    → addingTo (holdsIn s a) x a delta ≡ record { answer = refuse storeFull; store = s; area = a; delta = delta }
 unfolding addingTo Store.addSnap Store.adding Calls.addStep
 full-44 s a k h c x delta =
     rw (le-ltb (length (snapsIn (s .count) a)) 100 (omega (arith, h .held .many)), h .held .many, ← h .held .stands .area-is)
@@ -63,53 +64,63 @@ full-44 s a k h c x delta =
 -- ---- its steps
 
 -- whether the store has room for a table
-pub room-is : (x : Store.StoredSnap) (l : List Store.StoredSnap) (n k m : ℕ) → k ≡ length (Store.storeInts l) → m ≡ length (written (x .snap)) → leb (k + (m + 2)) n ≡ leb (length (Store.storeInts (x ∷ l))) n
+pub room-is : (x : Store.StoredSnap) (l : List Store.StoredSnap) (n k m : ℕ) → k ≡ storeRoom l → m ≡ length (written (x .snap))
+    → leb (k + (m + 2)) n ≡ leb (storeRoom (x ∷ l)) n
 room-is x l n k m e f =
-    let d : length (Store.storeInts (x ∷ l)) ≡ k + (m + 2) = omega (arith, length-cons x l) in
+    let d : storeRoom (x ∷ l) ≡ k + (m + 2) = omega (arith, room-cons x l) in
     ap (λ (i : ℕ). leb i n) (sym d)
 
--- the steps together
-pub adds-by : (s : Store.Store) (a delta : List ℤ) (k : ℕ) (h : Holds s a k) (x : Store.StoredSnap) (room : Bool) (m : Made) (out : List ℤ) → s .count < 100 → room ≡ leb (length (Store.storeInts (x ∷ snapsIn (s .count) a))) (length a) → making room delta (createdInts (Store.chosenBase (s .deltaTick) x (snapsIn (s .count) a) .snap) (x .snap)) ≡ record { answer = madeInts m; out = out } → addingTo (holdsIn s a) x a delta ≡ record { answer = addedIn (addedOf (Store.chosenBase (s .deltaTick) x (snapsIn (s .count) a) .tick) m); store = storeAfter s m; area = areaAfter a (snapsIn (s .count) a) x m; delta = out }
-adds-by s a delta k h x room m out c r e =
-    added-by (holdsIn s a) x a delta (omega (arith, h .held .many)) (h .held .stands .area-is) room r m out e
-    ∙ ap (λ (b : Store.Store). record { answer = addedIn (addedOf (Store.chosenBase (s .deltaTick) x (snapsIn (s .count) a) .tick) m); store = storeAfter b m; area = areaAfter a (snapsIn (s .count) a) x m; delta = out }) (beside-is s a k h)
-
 -- the key that is named clashes
-pub clashes : (s : Store.Store) (a : List ℤ) (tick : ℤ) (table : List ℤ) (t : Table) (h : Store.Storage) (base : ℤ) (m : Made) → Store.storageOf s a ≡ some h → tableOf table ≡ some t → Clash (Store.chosenBase (h .deltaTick) (record { tick = tick; snap = t }) (h .snaps) .snap) t m → Clashing s a tick table (addedOf base m)
+pub clashes : (s : Store.Store) (a : List ℤ) (tick : ℤ) (table : List ℤ) (t : Table) (h : Store.Storage) (base : ℤ) (m : Made)
+    → Store.storageOf s a ≡ some h → tableOf table ≡ some t
+    → Clash (Store.chosenBase (h .deltaTick) (record { tick = tick; snap = t }) (h .snaps) .snap) t m → Clashing s a tick table (addedOf base m)
 clashes s a tick table t h base (made.Ints n) e f c = tt
 clashes s a tick table t h base (made.DifferingSizes k) e f c =
     record { storage = h; new = t; storage-is = e; new-is = f; differing = c }
 clashes s a tick table t h base (made.Refused n) e f c = c
 
--- what the steps leave is the call's answer
-pub finished : (s : Store.Store) (a : List ℤ) (l : List Store.StoredSnap) (x : Store.StoredSnap) (base : ℤ) (m : Made) (out area : List ℤ) (r : Adding) → r .answer ≡ addedOf base m → storeOf (r .storage) ≡ storeAfter s m → area ≡ areaAfter a l x m → record { answer = addedIn (addedOf base m); store = storeAfter s m; area = areaAfter a l x m; delta = out } ≡ addings r area out
-finished s a l x base m out area r f g h = rw (f, g, h)
-
 module _ (s : Store.Store) (a : List ℤ) (l : List Store.StoredSnap) (tick base : ℤ) where
   -- what is promised of a call that ends
   abbrev pub Ends : List ℤ → List ℤ → Added → Store.Store → Made → Type 0
-  Ends table out r t m = (r ≡ addedOf base m) × (t ≡ storeAfter s m) × ((u : Table) → table ≡ written u → out ≡ areaAfter a l (record { tick = tick; snap = u }) m)
+  Ends table out r t m = (r ≡ addedOf base m) × (t ≡ storeAfter s m) × ((u : Table) → table ≡ written u → LaidIn (length a) (tablesAfter l (record { tick = tick; snap = u }) m) out)
 
   -- the delta was made
-  pub made-leaves : (n : ℕ) (table out : List ℤ) (r : Adding) (m : Made) → m ≡ made.Ints n → r .answer ≡ addedOf base m → storeOf (r .storage) ≡ record { count = s .count + 1; ackTick = s .ackTick; deltaTick = s .deltaTick } → ((u : Table) → table ≡ written u → out ≡ Store.storeArea (length a) (record { tick = tick; snap = u } ∷ l)) → Ends table out (r .answer) (storeOf (r .storage)) m
-  made-leaves n table out r m e f g h = (f, g ∙ rw e, λ u w. h u w ∙ rw e)
+  pub made-leaves : (n : ℕ) (table out : List ℤ) (r : Adding) (m : Made) → m ≡ made.Ints n → r .answer ≡ addedOf base m
+      → storeOf (r .storage) ≡ record { count = s .count + 1; ackTick = s .ackTick; deltaTick = s .deltaTick }
+      → ((u : Table) → table ≡ written u → LaidIn (length a) (record { tick = tick; snap = u } ∷ l) out)
+      → Ends table out (r .answer) (storeOf (r .storage)) m
+  made-leaves n table out r m e f g h = (f, g ∙ rw e, λ u w. rw e (h u w))
 
-  -- a key clashes
-  pub clash-leaves : (k : ℤ) (r : Added) (table : List ℤ) (m : Made) → m ≡ made.DifferingSizes k → r ≡ addedOf base m → Ends table a r s m
-  clash-leaves k r table m e f = (f, rw e, λ u w. rw e)
+  module _ (laid : LaidIn (length a) l a) (r : Added) (table : List ℤ) (m : Made) where
+    -- a key clashes
+    pub clash-leaves : (k : ℤ) → m ≡ made.DifferingSizes k → r ≡ addedOf base m → Ends table a r s m
+    clash-leaves k e f = (f, rw e, λ u w. rw e laid)
 
-  -- it was refused
-  pub refused-leaves : (k : Error) (r : Added) (table : List ℤ) (m : Made) → m ≡ made.Refused k → r ≡ addedOf base m → Ends table a r s m
-  refused-leaves k r table m e f = (f, rw e, λ u w. rw e)
+    -- it was refused
+    pub refused-leaves : (k : Error) → m ≡ made.Refused k → r ≡ addedOf base m → Ends table a r s m
+    refused-leaves k e f = (f, rw e, λ u w. rw e laid)
 
--- a table that is added, in all its steps
-pub adding-ends : (s : Store.Store) (a delta : List ℤ) (k : ℕ) (h : Holds s a k) (x : Store.StoredSnap) (room : Bool) (m : Made) (out : List ℤ) → s .count < 100 → room ≡ leb (length (Store.storeInts (x ∷ snapsIn (s .count) a))) (length a) → making room delta (createdInts (Store.chosenBase (s .deltaTick) x (snapsIn (s .count) a) .snap) (x .snap)) ≡ record { answer = madeInts m; out = out } → (base : ℤ) → base ≡ Store.chosenBase (s .deltaTick) x (snapsIn (s .count) a) .tick → (r : Adding) (area : List ℤ) → r .answer ≡ addedOf base m → storeOf (r .storage) ≡ storeAfter s m → area ≡ areaAfter a (snapsIn (s .count) a) x m → addingTo (holdsIn s a) x a delta ≡ addings r area out
-adding-ends s a delta k h x room m out c i e base b r area f g j =
-    adds-by s a delta k h x room m out c i e
-    ∙ (ap (λ (z : ℤ). record { answer = addedIn (addedOf z m); store = storeAfter s m; area = areaAfter a (snapsIn (s .count) a) x m; delta = out }) (sym b)
-    ∙ finished s a (snapsIn (s .count) a) x base m out area r f g j)
+module _ (s : Store.Store) (a delta : List ℤ) (k : ℕ) (h : Holds s a k) (x : Store.StoredSnap) (room : Bool) (m : Made) (out : List ℤ) where
+  -- the tables held
+  abbrev L : List Store.StoredSnap
+  L = snapsIn (s .count) a
+
+  -- the base
+  abbrev B : Store.StoredSnap
+  B = Store.chosenBase (s .deltaTick) x L
+
+  -- a table that is added, in all its steps
+  pub adding-ends : s .count < 100 → room ≡ leb (storeRoom (x ∷ L)) (length a)
+      → making room delta (createdInts (B .snap) (x .snap)) ≡ record { answer = madeInts m; out = out } → (r : Adding) (area : List ℤ)
+      → r .answer ≡ addedOf (B .tick) m → storeOf (r .storage) ≡ storeAfter s m → LaidIn (length a) (tablesAfter L x m) area
+      → addingTo (holdsIn s a) x a delta ≡ addings r area out
+  adding-ends c i e r area f g laid =
+      added-by (holdsIn s a) x a delta (omega (arith, h .held .many)) room i m out e area laid
+      ∙ rw (beside-is s a k h, f, g)
 
 -- a call that adds nothing
-pub not-added-by : (s : Store.Store) (a : List ℤ) (tick : ℤ) (table delta : List ℤ) (r : Adding) (e : Error) → r .answer ≡ added.Refused e → storeOf (r .storage) ≡ s → (number e ≡ deltaDifferingSizes → ⊥) → Refused s a tick table delta (number e) → (Calls.addSnapCall s a tick table delta ≡ addings r a delta) × Clashing s a tick table (r .answer)
+pub not-added-by : (s : Store.Store) (a : List ℤ) (tick : ℤ) (table delta : List ℤ) (r : Adding) (e : Error) → r .answer ≡ added.Refused e
+    → storeOf (r .storage) ≡ s → (number e ≡ deltaDifferingSizes → ⊥) → Refused s a tick table delta (number e)
+    → (Calls.addSnapCall s a tick table delta ≡ addings r a delta) × Clashing s a tick table (r .answer)
 not-added-by s a tick table delta r e f g n q =
     (q ∙ rw (f, g), subst (Clashing s a tick table) (sym f) n)

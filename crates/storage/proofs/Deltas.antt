@@ -1,5 +1,5 @@
 -- The steps of taking a delta: the base, the warnings, and the table that is held. Assumes nothing.
-use mathlib.Core.Path.{_≡_, refl, sym, ap, ap₂, _∙_, subst}
+use mathlib.Core.Path.{_≡_, refl, sym, ap, _∙_, subst}
 use mathlib.Core.Bool.{Bool, true, false, cond}
 use mathlib.Core.List.{List, [], _∷_}
 use mathlib.Core.Option.{Option, some, none}
@@ -8,7 +8,7 @@ use native.Mathlib.Nat.{zero-add}
 use native.Mathlib.Numerals.{add-one}
 use native.Mathlib.Omega.{arith}
 use borrow.Author.Tests.{le-leb, lt-leb}
-use lib.IntN.{ℤ, negsuc}
+use lib.IntN.{ℤ}
 use lib.ListN.{length, take}
 use lib.Seq.{take-all, length-take-le}
 use Rattle.definitions.specs.Warnings.{Counts, plus}
@@ -25,94 +25,34 @@ use Rattle.format.specs.Totals.{counts}
 use Rattle.format.specs.declared.Error.{Error}
 use Rattle.format.specs.declared.Error.the-variants as error
 use Rattle.format.specs.declared.Warnings.{Warnings}
-use Rattle.store_area.specs.Held.{snapsIn, snapAt, HeldStore, Stands}
-use Rattle.store_area.specs.Tables.{laid-stands, stands-held, stands-in, sound-take, sound-older, older-within, place-within, length-cons}
-use Rattle.laws.specs.StoreForm.{Sounds, length-area}
-use Rattle.store_area.specs.declared.checked.Left.{Left}
+use Rattle.laws.specs.StoreForm.{storeRoom, room-cons, LaidIn}
+use Rattle.store_area.specs.Held.{snapsIn, snapAt, Leaves}
+use Rattle.store_area.specs.Stores.{holdsIn, Holds}
 use Rattle.table.specs.Held.{formOf}
 use Rattle.table.specs.declared.checked.TableForm.the-variants as tableForm
-use Rattle.typed_applying.specs.Answers.{typedCounts, typedTable, tableWith}
+use Rattle.format.specs.Sources.{weirdly, typedCounts, takenCounts}
+use Rattle.typed_applying.specs.Answers.{typedTable, tableWith}
 use Rattle.typed_applying.specs.Answers as Applied
 use Rattle.typed_applying.specs.declared.checked.Table.{Table}
 use Rattle.typed_applying.specs.declared.checked.Table.the-variants as table
 use Rattle.typed_applying.specs.declared.checked.Typed.{Typed}
-use Rattle.storage.specs.Fewer.{few-for}
-use Rattle.storage.specs.States.{storeOf, deltaOf, holdsIn, Holds}
-use Rattle.storage.specs.Taking.{sumOf, takings, baseIn, warned, DropsFor, Applies}
+use Rattle.storage.specs.States.{storeOf, deltaOf}
+use Rattle.storage.specs.Taking.{sumOf, takings, baseIn, warned, Applies}
 use Rattle.storage.specs.declared.Storage.{Storage}
 use Rattle.storage.specs.declared.Taken.the-variants as taken
 use Rattle.storage.specs.declared.checked.Sent.{Sent}
 use Rattle.storage.proofs.Forms.{oldest-cons}
-use Rattle.storage.proofs.Bases.{weirdly}
-
--- ---- the newest tick
-
--- there is no table
-pub newest-none : (l : List Store.StoredSnap) (n : ℕ) → length l ≡ n → n ≡ 0 → Store.newestTick l ≡ negsuc 0
-newest-none [] n e z = refl
-newest-none (x ∷ l) n e z = absurd (omega arith)
-
--- that of the first
-pub newest-first : (l : List Store.StoredSnap) (n : ℕ) → length l ≡ n → (n ≡ 0 → ⊥) → Store.newestTick l ≡ snapAt l 0 .tick
-newest-first [] n e z = absurd (z (sym e))
-newest-first (x ∷ l) n e z = refl
 
 -- ---- what is dropped
 
--- a negative tick drops nothing
-pub none-dropped : (a : List ℤ) (l : List Store.StoredSnap) (tick : ℤ) (n k : ℕ) → Store.isNegative tick ≡ true → Stands a l → length l ≡ n → k ≡ length (Store.storeInts l) → DropsFor a l tick (record { count = n; ints = k }) a
-none-dropped a l tick n k e h m i =
-    let d : l ≡ Store.dropFor tick l = rw e in
-    record {
-      count-is = sym m ∙ ap length d;
-      ints-is = i ∙ ap (λ (z : List Store.StoredSnap). length (Store.storeInts z)) d;
-      area-is = h .area-is ∙ ap (Store.storeArea (length a)) d;
-    }
+module _ (a : List ℤ) (l : List Store.StoredSnap) (tick : ℤ) (n k : ℕ) (out : List ℤ) where
+  -- a negative tick drops nothing
+  pub none-dropped : Store.isNegative tick ≡ true → Leaves a l n k out → Leaves a (Store.dropFor tick l) n k out
+  none-dropped e h = rw e h
 
--- another one drops what is older
-pub some-dropped : (a : List ℤ) (l : List Store.StoredSnap) (tick : ℤ) (r : Left) (out : List ℤ) → Store.isNegative tick ≡ false → (r .count ≡ length (Store.dropOlder tick l)) × (r .ints ≡ length (Store.storeInts (Store.dropOlder tick l))) × (out ≡ Store.storeArea (length a) (Store.dropOlder tick l)) → DropsFor a l tick r out
-some-dropped a l tick r out e h =
-    let d : Store.dropOlder tick l ≡ Store.dropFor tick l = rw e in
-    record {
-      count-is = h .0 ∙ ap length d;
-      ints-is = h .1 ∙ ap (λ (z : List Store.StoredSnap). length (Store.storeInts z)) d;
-      area-is = h .2 ∙ ap (Store.storeArea (length a)) d;
-    }
-
--- a list with what is older dropped, or not
-sound-for : (tick : ℤ) (l : List Store.StoredSnap) (b : Bool) → Sounds l → Sounds (cond b l (Store.dropOlder tick l))
-sound-for tick l true s = s
-sound-for tick l false s = sound-older tick l s
-
--- it takes no more ints
-within-for : (tick : ℤ) (l : List Store.StoredSnap) (b : Bool) → length (Store.storeInts (cond b l (Store.dropOlder tick l))) ≤ length (Store.storeInts l)
-within-for tick l true = omega arith
-within-for tick l false = older-within tick l
-
--- what is left
-pub record LeftFor (s : Store.Store) (a : List ℤ) (tick : ℤ) (n k : ℕ) (out : List ℤ) : Type 0 where
-  pub held : HeldStore out n
-  pub snaps-are : snapsIn n out ≡ Store.dropFor tick (snapsIn (s .count) a)
-  pub few : n ≤ 100
-  pub ints-are : k ≡ length (Store.storeInts (snapsIn n out))
-  pub same-length : length out ≡ length a
-
--- it is in form
-pub left-for : (s : Store.Store) (a : List ℤ) (k : ℕ) → Holds s a k → (tick : ℤ) (r : Left) (out : List ℤ) → DropsFor a (snapsIn (s .count) a) tick r out → LeftFor s a tick (r .count) (r .ints) out
-left-for s a k h tick r out d =
-    let l = snapsIn (s .count) a in
-    let m = Store.dropFor tick l in
-    let w = within-for tick l (Store.isNegative tick) in
-    let i : Stands (Store.storeArea (length a) m) m = laid-stands (length a) m (sound-for tick l (Store.isNegative tick) (h .held .stands .sounds)) (omega (arith, w, h .held .stands .room)) in
-    let j : Stands out m = subst (λ (z : List ℤ). Stands z m) (sym (d .area-is)) i in
-    let q : snapsIn (r .count) out ≡ m = stands-in out m (r .count) j (d .count-is) in
-    record {
-      held = stands-held out m (r .count) j (d .count-is);
-      snaps-are = q;
-      few = omega (arith, few-for tick l (Store.isNegative tick), h .held .many, h .few, d .count-is);
-      ints-are = d .ints-is ∙ ap (λ (z : List Store.StoredSnap). length (Store.storeInts z)) (sym q);
-      same-length = ap length (d .area-is) ∙ length-area (length a) m (omega (arith, w, h .held .stands .room));
-    }
+  -- another one drops what is older
+  pub some-dropped : Store.isNegative tick ≡ false → Leaves a (Store.dropOlder tick l) n k out → Leaves a (Store.dropFor tick l) n k out
+  some-dropped e h = rw e h
 
 -- ---- the base
 
@@ -129,7 +69,8 @@ pub old-base : (tick : ℤ) (l : List Store.StoredSnap) → Store.isNegative tic
 old-base tick l e = rw e
 
 -- the oldest of some tables
-pub oldest-held : (tick : ℤ) (l : List Store.StoredSnap) (n : ℕ) → length l ≡ n → Store.isHeld (Store.oldestAt tick l) ≡ true → (0 < n) × (Store.oldestAt tick l ≡ some (snapAt l (n - 1) .snap))
+pub oldest-held : (tick : ℤ) (l : List Store.StoredSnap) (n : ℕ) → length l ≡ n → Store.isHeld (Store.oldestAt tick l) ≡ true
+    → (0 < n) × (Store.oldestAt tick l ≡ some (snapAt l (n - 1) .snap))
 unfolding Store.oldestAt
 oldest-held tick [] n m e = let z : _≡_ {A = ℕ} 0 1 = cc in absurd (omega arith)
 oldest-held tick (x ∷ l) n m e =
@@ -139,12 +80,14 @@ oldest-held tick (x ∷ l) n m e =
     last : Store.oldestOr x l ≡ snapAt (x ∷ l) (n - 1)
     last = oldest-cons x l (n - 1) (omega arith)
 
-    go : (b : Bool) → Store.isHeld (cond b (some (Store.oldestOr x l .snap)) none) ≡ true → cond b (some (Store.oldestOr x l .snap)) none ≡ some (Store.oldestOr x l .snap)
+    go : (b : Bool) → Store.isHeld (cond b (some (Store.oldestOr x l .snap)) none) ≡ true
+        → cond b (some (Store.oldestOr x l .snap)) none ≡ some (Store.oldestOr x l .snap)
     go true q = refl
     go false q = let z : _≡_ {A = ℕ} 0 1 = cc in absurd (omega arith)
 
 -- a delta that was applied to it
-pub applies-by : (o : Option Tables.Table) (d : Delta) (out : List ℤ) (r : Typed) (b c : Tables.Table) → o ≡ some b → c ≡ b → ((applyDelta c d >>= typed) ≡ typedTable (Tables.items out) r) × Applied.Stands out (r .table) → Applies o d out r
+pub applies-by : (o : Option Tables.Table) (d : Delta) (out : List ℤ) (r : Typed) (b c : Tables.Table) → o ≡ some b → c ≡ b
+    → ((applyDelta c d >>= typed) ≡ typedTable (Tables.items out) r) × Applied.Stands out (r .table) → Applies o d out r
 applies-by o d out r b c e f h =
     record {
       made = λ x q. let i : some b ≡ some x = sym e ∙ q in let j : b ≡ x = cc in ap (λ (y : Tables.Table). applyDelta y d >>= typed) (sym j) ∙ (ap (λ (y : Tables.Table). applyDelta y d >>= typed) (sym f) ∙ h .0);
@@ -152,25 +95,6 @@ applies-by o d out r b c e f h =
     }
 
 -- ---- the warnings
-
--- all three kinds
-abbrev takenCounts : Bool → Bool → ℕ → Counts
-takenCounts weird unknown n =
-    record {
-      overlongIntEncoding = 0;
-      nonZeroIntPadding = 0;
-      nonZeroPadding = 0;
-      duplicateDelete = 0;
-      duplicateUpdate = 0;
-      unknownDelete = cond unknown 1 0;
-      deleteUpdate = 0;
-      numUpdatedItems = 0;
-      excessSnapData = 0;
-      excessUuidItemData = n;
-      duplicateSnap = 0;
-      differingAttributes = 0;
-      weirdNegativeDeltaTick = cond weird 1 0;
-    }
 
 -- the counts of both steps
 counts-are : (b u : Bool) (n : ℕ) → plus (weirdly b) (typedCounts u n) ≡ takenCounts b u n
@@ -185,7 +109,9 @@ with-weird b u n t (table.Made i k) = ap (ok t) (counts-are b u n)
 with-weird b u n t (table.Refused e) = ap (err (number e)) (counts-are b u n)
 
 -- the warnings of a delta that was applied
-pub taken-counted : (tick : ℤ) (made : Typed) (w : Counts) (b : Bool) → Store.warnWeird tick ≡ ok tt (weirdly b) → w ≡ takenCounts b (made .«unknown_delete») (made .excess) → (t : Tables.Table) → (Store.warnWeird tick >> typedTable t made) ≡ tableWith t (made .table) w
+pub taken-counted : (tick : ℤ) (made : Typed) (w : Counts) (b : Bool) → Store.warnWeird tick ≡ ok tt (weirdly b)
+    → w ≡ takenCounts b (made .«unknown_delete») (made .excess) → (t : Tables.Table)
+    → (Store.warnWeird tick >> typedTable t made) ≡ tableWith t (made .table) w
 taken-counted tick made w b e f t =
     ap (λ (o : Outcome (Unit {0})). o >> typedTable t made) e ∙ (with-weird b (made .«unknown_delete») (made .excess) t (made .table) ∙ ap (tableWith t (made .table)) (sym f))
 
@@ -205,48 +131,48 @@ no-sum m t e = rw e
 pub stays-all : (l : List Store.StoredSnap) (n : ℕ) → length l ≡ n → n ≤ 99 → take n l ≡ take 99 l
 stays-all l n e h = take-all n l (omega arith) ∙ sym (take-all 99 l (omega arith))
 
--- what a cut leaves
-pub cut-held : (s : Store.Store) (a : List ℤ) (k : ℕ) → Holds s a k → (n : ℕ) (out : List ℤ) → n ≤ s .count → out ≡ Store.storeArea (length a) (take n (snapsIn (s .count) a)) → HeldStore out n × (snapsIn n out ≡ take n (snapsIn (s .count) a))
-cut-held s a k h n out i o =
-    let l = snapsIn (s .count) a in
-    let m = take n l in
-    let w = place-within l n in
-    let j : Stands out m = subst (λ (z : List ℤ). Stands z m) (sym o) (laid-stands (length a) m (sound-take l n (h .held .stands .sounds)) (omega (arith, w, h .held .stands .room))) in
-    let c : n ≡ length m = sym (length-take-le n l (omega (arith, h .held .many))) in
-    (stands-held out m n j c, stands-in out m n j c)
-
 -- ---- a table is held
 
 -- refused
-pub refused-taken : (s : Storage) (a : List ℤ) (k : ℕ) → Holds (storeOf s) a k → (n : ℕ) (sum : Option ℤ) (tick : ℤ) (e : Error) (w : Warnings) (o : Outcome Tables.Table) → o ≡ err (number e) (counts w) → Calls.laidOut a (Store.addTable n sum tick (holdsIn (storeOf s) a) o) ≡ takings (record { answer = taken.Refused e; warnings = w; storage = s }) a
+pub refused-taken : (s : Storage) (a : List ℤ) (k : ℕ) → Holds (storeOf s) a k
+    → (n : ℕ) (sum : Option ℤ) (tick : ℤ) (e : Error) (w : Warnings) (o : Outcome Tables.Table) → o ≡ err (number e) (counts w)
+    → Calls.laidOut a (Store.addTable n sum tick (holdsIn (storeOf s) a) o) ≡ takings (record { answer = taken.Refused e; warnings = w; storage = s }) a
 unfolding Store.addTable
 refused-taken s a k h n sum tick e w o q = rw (q, ← h .held .stands .area-is, h .held .many)
 
 -- the sum is wrong
-pub wrong-sum : (s t : Storage) (a : List ℤ) (k : ℕ) → Holds (storeOf s) a k → (n : ℕ) (sum : Option ℤ) (tick : ℤ) (w : Warnings) (x : Tables.Table) (o : Outcome Tables.Table) → o ≡ ok x (counts w) → Store.sumFits sum x ≡ false → storeOf t ≡ record { count = s .count; ackTick = none; deltaTick = deltaOf s } → Calls.laidOut a (Store.addTable n sum tick (holdsIn (storeOf s) a) o) ≡ takings (record { answer = taken.Refused error.InvalidCrc; warnings = w; storage = t }) a
+pub wrong-sum : (s t : Storage) (a : List ℤ) (k : ℕ) → Holds (storeOf s) a k
+    → (n : ℕ) (sum : Option ℤ) (tick : ℤ) (w : Warnings) (x : Tables.Table) (o : Outcome Tables.Table) → o ≡ ok x (counts w)
+    → Store.sumFits sum x ≡ false → storeOf t ≡ record { count = s .count; ackTick = none; deltaTick = deltaOf s }
+    → Calls.laidOut a (Store.addTable n sum tick (holdsIn (storeOf s) a) o) ≡ takings (record { answer = taken.Refused error.InvalidCrc; warnings = w; storage = t }) a
 unfolding Store.addTable
 wrong-sum s t a k h n sum tick w x o q f g = rw (q, f, g, ← h .held .stands .area-is, h .held .many)
 
-module _ (s : Storage) (a : List ℤ) (k : ℕ) (h : Holds (storeOf s) a k) (n used : ℕ) (i : n ≤ s .count) (u : used ≡ length (Store.storeInts (take n (snapsIn (s .count) a)))) (z : take n (snapsIn (s .count) a) ≡ take 99 (snapsIn (s .count) a)) (tick : ℤ) (x : Tables.Table) (long : ℕ) (y : long ≡ length (Tables.written x)) (w : Warnings) (sum : Option ℤ) (f : Store.sumFits sum x ≡ true) where
+module _ (s : Storage) (a : List ℤ) (k : ℕ) (h : Holds (storeOf s) a k) (n used : ℕ) (i : n ≤ s .count)
+    (u : used ≡ storeRoom (take n (snapsIn (s .count) a))) (z : take n (snapsIn (s .count) a) ≡ take 99 (snapsIn (s .count) a)) (tick : ℤ)
+    (x : Tables.Table) (long : ℕ) (y : long ≡ length (Tables.written x)) (w : Warnings) (sum : Option ℤ) (f : Store.sumFits sum x ≡ true) where
   -- the table that comes
   abbrev new : Store.StoredSnap
   new = record { tick = tick; snap = x }
 
   -- how many ints the tables take then
-  then-long : length (Store.storeInts (Store.pushSnap tick x (snapsIn (s .count) a))) ≡ used + (long + 2)
-  then-long = rw (← z) (omega (arith, length-cons new (take n (snapsIn (s .count) a))))
+  then-long : storeRoom (Store.pushSnap tick x (snapsIn (s .count) a)) ≡ used + (long + 2)
+  then-long = rw (← z) (omega (arith, room-cons new (take n (snapsIn (s .count) a))))
 
   -- there is no room
-  pub hold-40 : length a < used + (long + 2) → Calls.laidOut a (Store.addTable (length a) sum tick (holdsIn (storeOf s) a) (ok x (counts w))) ≡ takings (record { answer = taken.Refused error.CapacityError; warnings = w; storage = s }) a
+  pub hold-40 : length a < used + (long + 2)
+      → Calls.laidOut a (Store.addTable (length a) sum tick (holdsIn (storeOf s) a) (ok x (counts w))) ≡ takings (record { answer = taken.Refused error.CapacityError; warnings = w; storage = s }) a
   unfolding Store.addTable
-  hold-40 r = rw (f, lt-leb (length (Store.storeInts (Store.pushSnap tick x (snapsIn (s .count) a)))) (length a) (omega (arith, then-long)), ← h .held .stands .area-is, h .held .many)
+  hold-40 r = rw (f, lt-leb (storeRoom (Store.pushSnap tick x (snapsIn (s .count) a))) (length a) (omega (arith, then-long)), ← h .held .stands .area-is, h .held .many)
 
   -- there is
-  pub hold-done : (t : Storage) (out : List ℤ) (at : ℤ) → used + (long + 2) ≤ length a → out ≡ Store.storeArea (length a) (new ∷ take n (snapsIn (s .count) a)) → at ≡ tick → storeOf t ≡ record { count = n + 1; ackTick = some tick; deltaTick = deltaOf s } → Calls.laidOut a (Store.addTable (length a) sum tick (holdsIn (storeOf s) a) (ok x (counts w))) ≡ takings (record { answer = taken.Tick at; warnings = w; storage = t }) out
+  pub hold-done : (t : Storage) (out : List ℤ) (at : ℤ) → used + (long + 2) ≤ length a → LaidIn (length a) (new ∷ take n (snapsIn (s .count) a)) out
+      → at ≡ tick → storeOf t ≡ record { count = n + 1; ackTick = some tick; deltaTick = deltaOf s }
+      → Calls.laidOut a (Store.addTable (length a) sum tick (holdsIn (storeOf s) a) (ok x (counts w))) ≡ takings (record { answer = taken.Tick at; warnings = w; storage = t }) out
   unfolding Store.addTable
   hold-done t out at r o v g =
       let c : length (take 99 (snapsIn (s .count) a)) ≡ n = ap length (sym z) ∙ length-take-le n (snapsIn (s .count) a) (omega (arith, h .held .many)) in
-      rw (f, le-leb (length (Store.storeInts (Store.pushSnap tick x (snapsIn (s .count) a)))) (length a) (omega (arith, then-long)), g, o, z, v, c, add-one n)
+      rw (f, le-leb (storeRoom (Store.pushSnap tick x (snapsIn (s .count) a))) (length a) (omega (arith, then-long)), g, o, z, v, c, add-one n)
 
 -- ---- what a delta made
 
@@ -262,7 +188,3 @@ module _ (base : ℤ) (made : Typed) (t : Tables.Table) (w : Counts) (q : warned
 -- the table is in its area
 pub made-form : (a : List ℤ) (x : Table) (n k : ℕ) → x ≡ table.Made n k → Applied.Stands a x → tableForm.Table n k ≡ formOf (Tables.tableOf a)
 made-form a x n k e h = subst (Applied.Stands a) e h
-
--- the newest table before those that stay
-pub pushed : (a b out : List ℤ) (x : Store.StoredSnap) (k n : List Store.StoredSnap) → out ≡ Store.storeArea (length b) (x ∷ k) → length b ≡ length a → k ≡ n → out ≡ Store.storeArea (length a) (x ∷ n)
-pushed a b out x k n e f g = e ∙ ap₂ (λ (i : ℕ) (z : List Store.StoredSnap). Store.storeArea i (x ∷ z)) f g

@@ -15,7 +15,8 @@ use Rattle.definitions.specs.Storage as Store
 use Rattle.definitions.specs.StorageCalls as Calls
 use Rattle.store_area.specs.Held.{snapsIn, snapAt, noSnap, HeldStore}
 use Rattle.format.specs.declared.OptionTick.the-variants as tick
-use Rattle.storage.specs.States.{deltaOf, holdsIn}
+use Rattle.store_area.specs.Stores.{holdsIn}
+use Rattle.storage.specs.States.{deltaOf}
 use Rattle.storage.specs.declared.Storage.{Storage}
 
 -- ---- a table of a place
@@ -93,7 +94,8 @@ no-oldest tick [] n e z = refl
 no-oldest tick (x ∷ l) n e z = absurd (omega arith)
 
 -- whether it is of a tick
-pub oldest-of : (tick : ℤ) (l : List Store.StoredSnap) (n : ℕ) → length l ≡ n → (n ≡ 0 → ⊥) → same (snapAt l (n - 1) .tick) tick ≡ Store.isHeld (Store.oldestAt tick l)
+pub oldest-of : (tick : ℤ) (l : List Store.StoredSnap) (n : ℕ) → length l ≡ n → (n ≡ 0 → ⊥)
+    → same (snapAt l (n - 1) .tick) tick ≡ Store.isHeld (Store.oldestAt tick l)
 unfolding Store.oldestAt
 oldest-of tick [] n e z = absurd (z (omega arith))
 oldest-of tick (x ∷ l) n e z =
@@ -112,7 +114,8 @@ cleared-zeros [] = refl
 cleared-zeros (x ∷ a) = ap (λ (l : List ℤ). pos 0 ∷ l) (cleared-zeros a)
 
 -- a store that is emptied
-pub reset-is : (s t : Store.Store) (a b : List ℤ) → t ≡ record { count = 0; ackTick = none; deltaTick = s .deltaTick } → b ≡ cleared a → Calls.resetCall s a ≡ record { answer = return tt; store = t; area = b }
+pub reset-is : (s t : Store.Store) (a b : List ℤ) → t ≡ record { count = 0; ackTick = none; deltaTick = s .deltaTick } → b ≡ cleared a
+    → Calls.resetCall s a ≡ record { answer = return tt; store = t; area = b }
 reset-is s t a b e f = rw (e, f, cleared-zeros a)
 
 -- ---- the base of the next table

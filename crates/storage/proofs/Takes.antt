@@ -1,5 +1,5 @@
 -- The call that takes a delta: refusals in their order, and the results of its steps. Assumes nothing.
-use mathlib.Core.Path.{_≡_, refl, sym, ap, ap₂, _∙_, subst}
+use mathlib.Core.Path.{_≡_, refl, sym, ap, _∙_, subst}
 use mathlib.Core.Bool.{Bool, true, false, cond}
 use mathlib.Core.List.{List, []}
 use mathlib.Core.Option.{Option, some, none}
@@ -20,14 +20,16 @@ use Rattle.definitions.specs.StorageCalls as Calls
 use Rattle.format.specs.Totals.{counts}
 use Rattle.format.specs.declared.Error.the-variants as error
 use Rattle.format.specs.declared.Warnings.{Warnings}
-use Rattle.store_area.specs.Held.{snapsIn}
+use Rattle.laws.specs.StoreRoom.{length-for}
+use Rattle.store_area.specs.Held.{snapsIn, Leaves}
+use Rattle.store_area.specs.Laid.{leaves-many, leaves-laid}
+use Rattle.store_area.specs.Stores.{holdsIn, Holds}
 use Rattle.typed_applying.specs.Answers.{typedTable}
 use Rattle.typed_applying.specs.declared.checked.Typed.{Typed}
-use Rattle.storage.specs.States.{storeOf, ackOf, deltaOf, holdsIn, Holds}
+use Rattle.storage.specs.States.{storeOf, ackOf, deltaOf}
 use Rattle.storage.specs.Taking.{takings, refusing, baseIn, Applies, addingOn}
 use Rattle.storage.specs.declared.Storage.{Storage}
 use Rattle.storage.specs.declared.Taken.the-variants as taken
-use Rattle.storage.proofs.Deltas.{LeftFor}
 
 -- ---- the base
 
@@ -35,7 +37,8 @@ use Rattle.storage.proofs.Deltas.{LeftFor}
 base-same : (tick : ℤ) (l : List Store.StoredSnap) → Store.baseFor tick l ≡ baseIn tick (Store.dropFor tick l)
 base-same tick l = go (Store.isNegative tick)
   where
-    go : (b : Bool) → cond b (some []) (Store.oldestAt tick (Store.dropOlder tick l)) ≡ cond b (some []) (Store.oldestAt tick (cond b l (Store.dropOlder tick l)))
+    go : (b : Bool)
+        → cond b (some []) (Store.oldestAt tick (Store.dropOlder tick l)) ≡ cond b (some []) (Store.oldestAt tick (cond b l (Store.dropOlder tick l)))
     go true = refl
     go false = refl
 
@@ -54,7 +57,17 @@ held-base : (o : Option Tables.Table) → Store.isHeld o ≡ true → Base o
 held-base none e = let z : _≡_ {A = ℕ} 0 1 = cc in absurd (omega arith)
 held-base (some t) e = record { table = t; is = refl }
 
-module _ (s : Storage) (a : List ℤ) (k : ℕ) (h : Holds (storeOf s) a k) (sum : Option ℤ) (base tick : ℤ) (d : Delta) (n i : ℕ) (out : List ℤ) (f : LeftFor (storeOf s) a base n i out) where
+-- what is left is in form
+pub left-holds : (s : Storage) (a : List ℤ) (k : ℕ) → Holds (storeOf s) a k → (base : ℤ) (n i : ℕ) (out : List ℤ)
+    → Leaves a (Store.dropFor base (snapsIn (s .count) a)) n i out → (t : Storage)
+    → storeOf t ≡ record { count = n; ackTick = ackOf s; deltaTick = deltaOf s } → Holds (storeOf t) out i
+left-holds s a k h base n i out f t e =
+    let l = snapsIn (s .count) a in
+    let few : n ≤ 100 = omega (arith, length-for base l, h .held .many, h .few, leaves-many f) in
+    subst (λ (u : Store.Store). Holds u out i) (sym e) (record { held = f .held; few = few; ints-are = f .ints-are })
+
+module _ (s : Storage) (a : List ℤ) (k : ℕ) (h : Holds (storeOf s) a k) (sum : Option ℤ) (base tick : ℤ) (d : Delta) (n i : ℕ) (out : List ℤ)
+    (f : Leaves a (Store.dropFor base (snapsIn (s .count) a)) n i out) where
   -- the tables that are left
   abbrev Left : List Store.StoredSnap
   Left = Store.dropFor base (snapsIn (s .count) a)
@@ -64,34 +77,34 @@ module _ (s : Storage) (a : List ℤ) (k : ℕ) (h : Holds (storeOf s) a k) (sum
   Whole = Calls.laidOut a (addingOn (length a) sum base tick d (holdsIn (storeOf s) a))
 
   -- the base is not held
-  pub take-31 : (t : Storage) (w : Warnings) → Store.isHeld (baseIn base (snapsIn n out)) ≡ false → storeOf t ≡ record { count = n; ackTick = none; deltaTick = deltaOf s } → counts w ≡ Counts.none → Whole ≡ takings (record { answer = taken.Refused error.UnknownSnap; warnings = w; storage = t }) out
+  pub take-31 : (t : Storage) (w : Warnings) → Store.isHeld (baseIn base (snapsIn n out)) ≡ false
+      → storeOf t ≡ record { count = n; ackTick = none; deltaTick = deltaOf s } → counts w ≡ Counts.none
+      → Whole ≡ takings (record { answer = taken.Refused error.UnknownSnap; warnings = w; storage = t }) out
   unfolding addingOn Store.addOn
   take-31 t w e g c =
       let b : Store.baseFor base (snapsIn (s .count) a) ≡ none =
       base-same base (snapsIn (s .count) a) ∙ unheld (baseIn base Left) (ap (λ (l : List Store.StoredSnap). Store.isHeld (baseIn base l)) (sym (f .snaps-are)) ∙ e) in
-      let m : length Left ≡ n = ap length (sym (f .snaps-are)) ∙ f .held .many in
-      let o : out ≡ Store.storeArea (length a) Left = f .held .stands .area-is ∙ ap₂ (λ (j : ℕ) (l : List Store.StoredSnap). Store.storeArea j l) (f .same-length) (f .snaps-are) in
-      rw (b, g, c, m, ← o)
+      rw (b, g, c, leaves-many f, ← leaves-laid f)
 
   -- what is held then
-  same-holds : (t : Storage) → storeOf t ≡ record { count = n; ackTick = ackOf s; deltaTick = deltaOf s } → holdsIn (storeOf t) out ≡ Store.withSnaps (holdsIn (storeOf s) a) Left
+  same-holds : (t : Storage) → storeOf t ≡ record { count = n; ackTick = ackOf s; deltaTick = deltaOf s }
+      → holdsIn (storeOf t) out ≡ Store.withSnaps (holdsIn (storeOf s) a) Left
   same-holds t e =
       ap (λ (u : Store.Store). holdsIn u out) e
       ∙ ap (λ (l : List Store.StoredSnap). record { snaps = l; ackTick = ackOf s; deltaTick = deltaOf s }) (f .snaps-are)
 
   -- the delta is applied to it
-  pub take-held : (t : Storage) (r : Typed) (front : List ℤ) (z : Calls.StoreStep ℤ) → storeOf t ≡ record { count = n; ackTick = ackOf s; deltaTick = deltaOf s } → Store.isHeld (baseIn base (snapsIn n out)) ≡ true → Applies (baseIn base (snapsIn n out)) d front r → Calls.laidOut out (Store.addTable (length out) sum tick (holdsIn (storeOf t) out) (Store.warnWeird base >> typedTable (Tables.items front) r)) ≡ z → Whole ≡ z
+  pub take-held : (t : Storage) (r : Typed) (front : List ℤ) (z : Calls.StoreStep ℤ)
+      → storeOf t ≡ record { count = n; ackTick = ackOf s; deltaTick = deltaOf s } → Store.isHeld (baseIn base (snapsIn n out)) ≡ true
+      → Applies (baseIn base (snapsIn n out)) d front r
+      → Calls.laidOut out (Store.addTable (length out) sum tick (holdsIn (storeOf t) out) (Store.warnWeird base >> typedTable (Tables.items front) r)) ≡ z
+      → Whole ≡ z
   unfolding addingOn Store.addOn
   take-held t r front z e g p q =
       let b = held-base (baseIn base (snapsIn n out)) g in
       let c : Store.baseFor base (snapsIn (s .count) a) ≡ some (b .table) =
       base-same base (snapsIn (s .count) a) ∙ (ap (baseIn base) (sym (f .snaps-are)) ∙ b .is) in
       rw (c, p .made (b .table) (b .is), ← same-holds t e, ← f .same-length) q
-
-  -- the store then is in form
-  pub left-holds : (t : Storage) → storeOf t ≡ record { count = n; ackTick = ackOf s; deltaTick = deltaOf s } → Holds (storeOf t) out i
-  left-holds t e =
-      subst (λ (u : Store.Store). Holds u out i) (sym e) (record { held = f .held; few = f .few; ints-are = f .ints-are })
 
 -- ---- the call
 

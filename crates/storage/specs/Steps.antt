@@ -35,11 +35,11 @@ storeAfter s (made.Ints n) = record { count = s .count + 1; ackTick = s .ackTick
 storeAfter s (made.DifferingSizes k) = s
 storeAfter s (made.Refused e) = s
 
--- its area afterwards
-abbrev pub areaAfter : List ℤ → List Store.StoredSnap → Store.StoredSnap → Made → List ℤ
-areaAfter a l x (made.Ints n) = Store.storeArea (length a) (x ∷ l)
-areaAfter a l x (made.DifferingSizes k) = a
-areaAfter a l x (made.Refused e) = a
+-- its tables afterwards
+abbrev pub tablesAfter : List Store.StoredSnap → Store.StoredSnap → Made → List Store.StoredSnap
+tablesAfter l x (made.Ints n) = x ∷ l
+tablesAfter l x (made.DifferingSizes k) = l
+tablesAfter l x (made.Refused e) = l
 
 -- adding a table to what a store holds, with the areas of the store and of the delta
 unfoldable pub addingTo : Store.Storage → Store.StoredSnap → List ℤ → List ℤ → Calls.AddStep

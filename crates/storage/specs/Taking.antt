@@ -5,7 +5,6 @@ use mathlib.Core.List.{List, []}
 use mathlib.Core.Option.{Option, some, none}
 use Prim.Native.Nat.{ℕ}
 use lib.IntN.{ℤ}
-use lib.ListN.{length}
 use Rattle.definitions.specs.Warnings.{Counts}
 use Rattle.definitions.specs.Outcome.{Outcome, ok, err, refuse, _>>_}
 use Rattle.definitions.specs.Tables.{Table, items}
@@ -14,7 +13,6 @@ use Rattle.definitions.specs.Storage as Store
 use Rattle.definitions.specs.StorageCalls as Calls
 use Rattle.format.specs.Numbers.{number}
 use Rattle.format.specs.Totals.{counts}
-use Rattle.store_area.specs.declared.checked.Left.{Left}
 use Rattle.typed_applying.specs.Answers.{appliedTyped, typedTable, Stands}
 use Rattle.typed_applying.specs.declared.checked.Typed.{Typed}
 use Rattle.storage.specs.States.{storeOf}
@@ -44,12 +42,6 @@ refusing n s area = record { answer = refuse n; store = s; area = area }
 -- the table of a base, among tables of which none is older
 abbrev pub baseIn : ℤ → List Store.StoredSnap → Option Table
 baseIn tick l = cond (Store.isNegative tick) (some []) (Store.oldestAt tick l)
-
--- what is left after older tables were dropped
-pub record DropsFor (a : List ℤ) (l : List Store.StoredSnap) (tick : ℤ) (r : Left) (out : List ℤ) : Type 0 where
-  pub count-is : r .count ≡ length (Store.dropFor tick l)
-  pub ints-is : r .ints ≡ length (Store.storeInts (Store.dropFor tick l))
-  pub area-is : out ≡ Store.storeArea (length a) (Store.dropFor tick l)
 
 -- a delta was applied to a base, and the table that it made is at the front of an area
 pub record Applies (o : Option Table) (d : Delta) (out : List ℤ) (r : Typed) : Type 0 where

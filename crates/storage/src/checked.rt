@@ -18,15 +18,17 @@ ghost use Rattle.format.specs.Numbers.{number};
 ghost use Rattle.format.specs.Totals.{counts};
 ghost use Rattle.table.specs.Held.{Held, formOf};
 ghost use Rattle.table.specs.declared.checked.TableForm.the-variants as tableForm;
-ghost use Rattle.store_area.specs.Held.{snapsIn, HeldStore};
+ghost use Rattle.laws.specs.StoreForm.{storeRoom, LaidIn};
+ghost use Rattle.store_area.specs.Held.{snapsIn, HeldStore, Leaves};
+ghost use Rattle.store_area.specs.Stores.{storageForm, holdsIn, Holds};
 ghost use Rattle.delta_making.specs.Answers.{createdInts, madeInts, Clash};
 ghost use Rattle.delta_making.specs.declared.Made.the-variants as made;
 ghost use Rattle.delta_form.specs.Held.{HeldDelta};
 ghost use Rattle.typed_applying.specs.Answers.{typedTable, tableWith, Stands};
-ghost use Rattle.storage.specs.Taking.{sumOf, takings, refusing, warned, baseIn, DropsFor, Applies, addingOn};
-ghost use Rattle.storage.specs.States.{storeOf, ackOf, deltaOf, storageForm, holdsIn, Holds};
+ghost use Rattle.storage.specs.Taking.{sumOf, takings, refusing, warned, baseIn, Applies, addingOn};
+ghost use Rattle.storage.specs.States.{storeOf, ackOf, deltaOf};
 ghost use Rattle.storage.specs.Answers.{settings, addings, Clashing};
-ghost use Rattle.storage.specs.Steps.{making, addedOf, storeAfter, areaAfter, addingTo};
+ghost use Rattle.storage.specs.Steps.{making, addedOf, storeAfter, tablesAfter, addingTo};
 ghost use Rattle.storage.specs.declared.Added.the-variants as added;
 use super::Added;
 use super::Adding;
@@ -45,10 +47,11 @@ use store_area::checked::Left;
 use store_area::checked::StoreForm;
 use store_area::checked::cut;
 use store_area::checked::drop_older;
-use store_area::checked::place;
+use store_area::checked::newest_tick;
 use store_area::checked::push;
 use store_area::checked::table_at;
 use store_area::checked::tick_at;
+use store_area::checked::used;
 use typed_applying::checked::Table;
 use typed_applying::checked::Typed;
 use typed_applying::checked::apply_typed;
@@ -61,19 +64,12 @@ pub struct Sent {
     pub tick: i32,
 }
 
-// Whether two ints are equal.
-pub fn same(a: i32, b: i32) -> bool
-    ensures { λ r. ⌜ r ≡ Receiver.same a b ⌝ }
-{
-    ints::to_bits(a) == ints::to_bits(b)
-}
-
 // Whether a base tick is negative and not -1.
 pub fn is_weird(tick: i32) -> bool
     ensures { λ r. ⌜ r ≡ Store.isNegative tick && not (Receiver.same tick (negsuc 0)) ⌝ }
 {
     if ints::signed_less(tick, 0) {
-        return !same(tick, -1);
+        return !ints::same(tick, -1);
     }
     false
 }
@@ -82,21 +78,7 @@ pub fn is_weird(tick: i32) -> bool
 pub fn weird(tick: i32) -> Warnings
     ensures { λ r. ⌜ Store.warnWeird tick ≡ ok tt (counts r) ⌝ }
 {
-    Warnings {
-        overlong_int_encoding: 0,
-        non_zero_int_padding: 0,
-        non_zero_padding: 0,
-        duplicate_delete: 0,
-        duplicate_update: 0,
-        unknown_delete: 0,
-        delete_update: 0,
-        num_updated_items: 0,
-        excess_snap_data: 0,
-        excess_uuid_item_data: 0,
-        duplicate_snap: 0,
-        differing_attributes: 0,
-        weird_negative_delta_tick: ints::one_if(is_weird(tick)),
-    }
+    Warnings::taken(is_weird(tick), false, 0)
 }
 
 // Checks the form of a store and its area.
@@ -154,7 +136,7 @@ pub fn is_oldest(area: &[i32], count: usize, tick: i32) -> bool
     if count == 0 {
         return false;
     }
-    same(tick_at(area, count, count - 1), tick)
+    ints::same(tick_at(area, count, count - 1), tick)
 }
 
 // Drops the tables older than a tick that is not negative, and sets it as the base tick if its table is then the oldest.
@@ -265,7 +247,7 @@ pub fn store(
     ints: usize,
 ) -> Adding
     requires { ⌜ Holds (storeOf s) (now area) ints × (s .count < 100) × (length (now table) ≤ 16384) × (ints + (length (now table) + 2) ≤ length (now area)) ⌝ }
-    ensures { λ r. ⌜ (r .answer ≡ answer) × (storeOf (r .storage) ≡ record { count = s .count + 1; ackTick = ackOf s; deltaTick = deltaOf s }) × ((t : Tables.Table) → now (table .entry) ≡ written t → now (area .exit) ≡ Store.storeArea (length (now (area .entry))) (record { tick = tick; snap = t } ∷ snapsIn (s .count) (now (area .entry)))) ⌝ }
+    ensures { λ r. ⌜ (r .answer ≡ answer) × (storeOf (r .storage) ≡ record { count = s .count + 1; ackTick = ackOf s; deltaTick = deltaOf s }) × ((t : Tables.Table) → now (table .entry) ≡ written t → LaidIn (length (now (area .entry))) (record { tick = tick; snap = t } ∷ snapsIn (s .count) (now (area .entry))) (now (area .exit))) ⌝ }
 {
     push(area, s.count, ints, tick, table);
     Adding {
@@ -285,7 +267,7 @@ pub fn finish(
     ints: usize,
 ) -> Adding
     requires { ⌜ Holds (storeOf s) (now area) ints × (s .count < 100) × (length (now table) ≤ 16384) × ((n : ℕ) → result ≡ made.Ints n → ints + (length (now table) + 2) ≤ length (now area)) ⌝ }
-    ensures { λ r. ⌜ (r .answer ≡ addedOf base result) × (storeOf (r .storage) ≡ storeAfter (storeOf s) result) × ((t : Tables.Table) → now (table .entry) ≡ written t → now (area .exit) ≡ areaAfter (now (area .entry)) (snapsIn (s .count) (now (area .entry))) (record { tick = tick; snap = t }) result) ⌝ }
+    ensures { λ r. ⌜ (r .answer ≡ addedOf base result) × (storeOf (r .storage) ≡ storeAfter (storeOf s) result) × ((t : Tables.Table) → now (table .entry) ≡ written t → LaidIn (length (now (area .entry))) (tablesAfter (snapsIn (s .count) (now (area .entry))) (record { tick = tick; snap = t }) result) (now (area .exit))) ⌝ }
 {
     let answer = answer(base, result);
     match result {
@@ -332,16 +314,13 @@ pub fn is_newer(area: &[i32], count: usize, tick: i32) -> bool
     requires { ⌜ HeldStore (now area) count ⌝ }
     ensures { λ r. ⌜ r ≡ signedLess (Store.newestTick (snapsIn count (now (area .entry)))) tick ⌝ }
 {
-    if count == 0 {
-        return ints::signed_less(-1, tick);
-    }
-    ints::signed_less(tick_at(area, count, 0), tick)
+    ints::signed_less(newest_tick(area, count), tick)
 }
 
 // Drops the tables older than a base; a negative tick names the empty table and drops nothing.
 pub fn drop_for(area: &mut [i32], count: usize, ints: usize, tick: i32) -> Left
-    requires { ⌜ HeldStore (now area) count × (ints ≡ length (Store.storeInts (snapsIn count (now area)))) ⌝ }
-    ensures { λ r. ⌜ DropsFor (now (area .entry)) (snapsIn count (now (area .entry))) tick r (now (area .exit)) ⌝ }
+    requires { ⌜ HeldStore (now area) count × (ints ≡ storeRoom (snapsIn count (now area))) ⌝ }
+    ensures { λ r. ⌜ Leaves (now (area .entry)) (Store.dropFor tick (snapsIn count (now (area .entry)))) (r .count) (r .ints) (now (area .exit)) ⌝ }
 {
     if ints::signed_less(tick, 0) {
         return Left { count, ints };
@@ -386,21 +365,7 @@ pub fn apply_on(
 pub fn taken_warnings(tick: i32, made: Typed) -> Warnings
     ensures { λ r. ⌜ ((t : Tables.Table) → warned tick (typedTable t made) ≡ tableWith t (made .table) (counts r)) ⌝ }
 {
-    Warnings {
-        overlong_int_encoding: 0,
-        non_zero_int_padding: 0,
-        non_zero_padding: 0,
-        duplicate_delete: 0,
-        duplicate_update: 0,
-        unknown_delete: ints::one_if(made.unknown_delete),
-        delete_update: 0,
-        num_updated_items: 0,
-        excess_snap_data: 0,
-        excess_uuid_item_data: made.excess,
-        duplicate_snap: 0,
-        differing_attributes: 0,
-        weird_negative_delta_tick: ints::one_if(is_weird(tick)),
-    }
+    Warnings::taken(is_weird(tick), made.unknown_delete, made.excess)
 }
 
 // Whether a table of n items has the sum that was sent, if one was.
@@ -409,7 +374,7 @@ pub fn sum_fits(m: Sent, table: &[i32], n: usize) -> bool
     ensures { λ r. ⌜ r ≡ Store.sumFits (sumOf m) (Tables.items (now (table .entry))) ⌝ }
 {
     if m.has_crc {
-        return same(m.crc, table::checked::crc(table, n));
+        return ints::same(m.crc, table::checked::crc(table, n));
     }
     true
 }
@@ -462,7 +427,7 @@ pub fn hold(
     ensures { λ r. ⌜ ((t : Tables.Table) (sum : Option ℤ) → now (table .entry) ≡ written t → Store.sumFits sum t ≡ true → laidOut (now (area .entry)) (Store.addTable (length (now (area .entry))) sum tick (holdsIn (storeOf s) (now (area .entry))) (ok t (counts warnings))) ≡ takings r (now (area .exit))) ⌝ }
 {
     let kept = stay(s.count);
-    let used = place(area, s.count, kept);
+    let used = used(area, s.count, kept);
     if area.len() < used + (table.len() + 2) {
         return Taking {
             answer: Taken::Refused(Error::CapacityError),

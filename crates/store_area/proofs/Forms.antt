@@ -13,6 +13,7 @@ use lib.ListN.{length, getD, take, drop, length-append, length-take, length-drop
 use lib.Seq.{drop-drop, drop-cons}
 use Rattle.definitions.specs.Tables.{Table, num, nat, written, tableOf, items, size}
 use Rattle.definitions.specs.Storage.{StoredSnap, storeInts, allZero, exactly, consSnap, snapsOf}
+use Rattle.laws.specs.StoreForm.{storeRoom, room-none, room-cons}
 use Rattle.laws.specs.TableRoundTrip.{soundly}
 use Rattle.laws.specs.TableShape.{some-is}
 use Rattle.laws.specs.TableForm.{length-written, length-form}
@@ -20,7 +21,7 @@ use Rattle.table.specs.Forms.{formed, unformed}
 use Rattle.table.specs.Held as Held
 use Rattle.table.specs.declared.checked.TableForm.the-variants as tableForm
 use Rattle.store_area.specs.Held.{formOf, firstTable, sizeOf}
-use Rattle.store_area.specs.Tables.{ints-append, length-cons, ints-none}
+use Rattle.store_area.proofs.Places.{ints-append}
 use Rattle.store_area.specs.declared.checked.StoreForm.the-variants as form
 
 -- ---- one table
@@ -100,7 +101,8 @@ module _ (a : List ℤ) (p : ℕ) (h : p + 2 ≤ length a) where
 -- ---- zeros
 
 -- one more int was looked at
-pub zero-passed : (all : Bool) (n : ℕ) (a : List ℤ) (from i : ℕ) → i < length a → n ≡ nat a i → (all && allZero (drop i a)) ≡ allZero (drop from a) → ((all && eqb n 0) && allZero (drop (i + 1) a)) ≡ allZero (drop from a)
+pub zero-passed : (all : Bool) (n : ℕ) (a : List ℤ) (from i : ℕ) → i < length a → n ≡ nat a i → (all && allZero (drop i a)) ≡ allZero (drop from a)
+    → ((all && eqb n 0) && allZero (drop (i + 1) a)) ≡ allZero (drop from a)
 unfolding allZero nat
 zero-passed all n a from i h z e =
     let d : drop (i + 1) a ≡ drop (suc i) a = ap (λ (j : ℕ). drop j a) (add-one i) in
@@ -121,7 +123,7 @@ behind l none = none
 -- i tables were found, which take p ints
 pub record Walked (a : List ℤ) (n i p : ℕ) : Type 0 where
   pub tables : List StoredSnap
-  pub ints-are : p ≡ length (storeInts tables)
+  pub ints-are : p ≡ storeRoom tables
   pub few : i ≤ n
   pub room : p ≤ length a
   pub leads : snapsOf n a ≡ behind tables (snapsOf (n - i) (drop p a))
@@ -135,7 +137,7 @@ behind-nothing none = refl
 pub walk-start : (a : List ℤ) (n : ℕ) → Walked a n 0 0
 walk-start a n =
     let z : n - 0 ≡ n = omega arith in
-    record { tables = []; ints-are = ap length (sym ints-none); few = omega arith; room = omega arith; leads = rw z (behind-nothing (snapsOf n a)) }
+    record { tables = []; ints-are = sym room-none; few = omega arith; room = omega arith; leads = rw z (behind-nothing (snapsOf n a)) }
 
 -- a first table, and the rest after it
 pub record First (a : List ℤ) (t : Table) : Type 0 where
@@ -147,7 +149,8 @@ pub record First (a : List ℤ) (t : Table) : Type 0 where
 exact : (a : List ℤ) (n : ℕ) (t : Table) → exactly n (tableOf (take n a)) ≡ some t → (length (written t) ≡ n) × (n ≤ length a)
 exact a n t e = go (tableOf (take n a)) refl e
   where
-    by : (u : Table) (b : Bool) → tableOf (take n a) ≡ some u → eqb (length (written u)) n ≡ b → cond b (some u) none ≡ some t → (length (written t) ≡ n) × (n ≤ length a)
+    by : (u : Table) (b : Bool) → tableOf (take n a) ≡ some u → eqb (length (written u)) n ≡ b → cond b (some u) none ≡ some t
+        → (length (written t) ≡ n) × (n ≤ length a)
     by u true q m e =
         let d : u ≡ t = cc in
         let k : length (written u) ≡ n = eqb-true (length (written u)) n m in
@@ -176,7 +179,8 @@ no-first (tick ∷ []) n e = refl
 no-first (tick ∷ size ∷ a) n e = rw e
 
 -- a table is found after others
-behind-cons : (l : List StoredSnap) (tick : ℤ) (t : Table) (o : Option (List StoredSnap)) → behind l (consSnap tick (some t) o) ≡ behind (l ++ record { tick = tick; snap = t } ∷ []) o
+behind-cons : (l : List StoredSnap) (tick : ℤ) (t : Table) (o : Option (List StoredSnap))
+    → behind l (consSnap tick (some t) o) ≡ behind (l ++ record { tick = tick; snap = t } ∷ []) o
 behind-cons l tick t none = refl
 behind-cons l tick t (some m) = ap some (sym (append-assoc l (record { tick = tick; snap = t } ∷ []) m))
 
@@ -208,7 +212,7 @@ module _ (a : List ℤ) (n i p : ℕ) (w : Walked a n i p) (s : ℕ) (e : s ≡ 
           rw (d, k, ← drop-drop (2 + length (written t)) p a) (f .step (n - (i + 1))) in
           record {
             tables = w .tables ++ x ∷ [];
-            ints-are = rw (ints-append (w .tables) (x ∷ [])) (omega (arith, w .ints-are, k, length-append (storeInts (w .tables)) (storeInts (x ∷ [])), length-cons x [], ap length ints-none));
+            ints-are = rw (ints-append (w .tables) (x ∷ [])) (omega (arith, w .ints-are, k, length-append (storeInts (w .tables)) (storeInts (x ∷ [])), room-cons x [], room-none));
             few = omega arith;
             room = omega (arith, f .fits, k, length-drop p a, w .room);
             leads = w .leads ∙ (ap (behind (w .tables)) g ∙ behind-cons (w .tables) (f .tick) t (snapsOf (n - (i + 1)) (drop (p + (2 + s)) a)));

@@ -11,11 +11,11 @@ use borrow.Rule.Slice.PartMut.{putMid}
 use Rattle.definitions.specs.Areas.{layAt, cleared}
 use Rattle.definitions.specs.Tables.{Table, written}
 use Rattle.definitions.specs.Storage.{StoredSnap, storeInts, storeArea}
-use Rattle.laws.specs.AreaLaws.{lay-append}
-use Rattle.ints.specs.Copies.{copyAt, copied}
-use Rattle.table_adding.specs.Adding.{shifted}
-use Rattle.store_area.specs.Held.{Stands, laidFirst}
-use Rattle.store_area.specs.Tables.{ints-split, ints-cons, length-cons, placeOf}
+use Rattle.laws.specs.AreaLaws.{lay-append, layAt-between}
+use Rattle.ints.specs.Copies.{copyAt, copied, shifted}
+use Rattle.laws.specs.StoreForm.{storeRoom, room-cons, LaidIn}
+use Rattle.store_area.specs.Held.{Stands, placeOf}
+use Rattle.store_area.proofs.Places.{ints-split, ints-cons}
 
 -- zeros and zeros
 zeros-zeros : (m n : ℕ) → replicate m (pos 0) ++ replicate n (pos 0) ≡ replicate (m + n) (pos 0)
@@ -47,7 +47,8 @@ module _ (X Y : List ℤ) (z p k : ℕ) (e : length X ≡ p) (f : length Y ≡ k
       (ap (λ (l : List ℤ). X ++ l) (zeros-zeros k z))
 
 -- what a cut leaves
-pub cut-leaves : (a : List ℤ) (l : List StoredSnap) (h : Stands a l) (i p n : ℕ) (part : List ℤ) → p ≡ placeOf l i → n ≡ length (storeInts l) → part ≡ cleared (take (n - p) (drop p a)) → putMid p (n - p) a part ≡ storeArea (length a) (take i l)
+pub cut-leaves : (a : List ℤ) (l : List StoredSnap) (h : Stands a l) (i p n : ℕ) (part : List ℤ) → p ≡ placeOf l i → n ≡ storeRoom l
+    → part ≡ cleared (take (n - p) (drop p a)) → LaidIn (length a) (take i l) (putMid p (n - p) a part)
 cut-leaves a l h i p n part e f g =
     let X = storeInts (take i l) in
     let Y = storeInts (drop i l) in
@@ -65,14 +66,6 @@ cut-leaves a l h i p n part e f g =
 
 -- ---- adding a table
 
--- what is written at a place is between what was before it and after it
-layAt-between : (n : ℕ) (xs area : List ℤ) → n + length xs ≤ length area → layAt n xs area ≡ take n area ++ (xs ++ drop (n + length xs) area)
-layAt-between zero xs area h = let e : 0 + length xs ≡ length xs = omega arith in rw e (lay-append xs area (omega arith))
-layAt-between (suc n) xs [] h = let z : ⊥ = omega arith in absurd z
-layAt-between (suc n) xs (a ∷ area) h =
-    let e : suc n + length xs ≡ suc (n + length xs) = omega arith in
-    rw e (ap (λ (l : List ℤ). a ∷ l) (layAt-between n xs area (omega arith)))
-
 -- the first ints moved up
 moved : (a : List ℤ) (n by : ℕ) → n + by ≤ length a → shifted a 0 n by ≡ take by a ++ (take n a ++ drop (n + by) a)
 unfolding shifted
@@ -89,9 +82,14 @@ front tick k [] r h = absurd (omega arith)
 front tick k (x ∷ []) r h = absurd (omega arith)
 front tick k (x ∷ y ∷ g) r h = refl
 
+-- a tick, a table's int count and its ints, and two parts after them
+abbrev laidFirst : ℤ → List ℤ → List ℤ → List ℤ → List ℤ
+laidFirst tick table moved rest = tick ∷ pos (length table) ∷ (table ++ (moved ++ rest))
+
 module _ (a : List ℤ) (n : ℕ) (t : List ℤ) (room : n + (length t + 2) ≤ length a) (tick : ℤ) where
   -- what the steps leave
-  pub lays-first : (l₁ l₂ l₃ : List ℤ) (b : Bool) → l₁ ≡ shifted a 0 n (length t + 2) → l₂ ≡ set (set l₁ 0 tick) 1 (pos (length t)) → copyAt l₂ 2 t ≡ record { fits = b; out = l₃ } → l₃ ≡ laidFirst tick t (take n a) (drop (n + (length t + 2)) a)
+  pub lays-first : (l₁ l₂ l₃ : List ℤ) (b : Bool) → l₁ ≡ shifted a 0 n (length t + 2) → l₂ ≡ set (set l₁ 0 tick) 1 (pos (length t))
+      → copyAt l₂ 2 t ≡ record { fits = b; out = l₃ } → l₃ ≡ laidFirst tick t (take n a) (drop (n + (length t + 2)) a)
   lays-first l₁ l₂ l₃ b e f c =
       let by = length t + 2 in
       let G = take by a in
@@ -105,7 +103,9 @@ module _ (a : List ℤ) (n : ℕ) (t : List ℤ) (room : n + (length t + 2) ≤ 
       ∙ (ap (layAt 2 t) e₂ ∙ ap (λ (x : List ℤ). tick ∷ pos (length t) ∷ x) (lay-append t (D ++ R) (omega (arith, length-append D R)) ∙ ap (λ (x : List ℤ). t ++ x) (drop-at D R (length t) ld)))
 
 -- ints of tables and zeros, and a table before them
-pub pushes : (a : List ℤ) (l : List StoredSnap) (h : Stands a l) (n : ℕ) (t : List ℤ) (tick : ℤ) (u : Table) → n ≡ length (storeInts l) → t ≡ written u → n + (length t + 2) ≤ length a → laidFirst tick t (take n a) (drop (n + (length t + 2)) a) ≡ storeArea (length a) (record { tick = tick; snap = u } ∷ l)
+pub pushes : (a : List ℤ) (l : List StoredSnap) (h : Stands a l) (n : ℕ) (t : List ℤ) (tick : ℤ) (u : Table) → n ≡ storeRoom l → t ≡ written u
+    → n + (length t + 2) ≤ length a
+    → LaidIn (length a) (record { tick = tick; snap = u } ∷ l) (laidFirst tick t (take n a) (drop (n + (length t + 2)) a))
 pushes a l h n t tick u e w room =
     let x : StoredSnap = record { tick = tick; snap = u } in
     let W = written u in
@@ -117,7 +117,7 @@ pushes a l h n t tick u e w room =
     let a₁ : take n a ≡ I = ap (take n) (h .area-is) ∙ take-at I Z n (sym e) in
     let d : drop n a ≡ Z = ap (drop n) (h .area-is) ∙ drop-at I Z n (sym e) in
     let a₂ : drop (n + (length t + 2)) a ≡ drop (length t + 2) Z = sym (drop-drop (length t + 2) n a) ∙ ap (drop (length t + 2)) d in
-    let less : z - (length t + 2) ≡ N - length (storeInts (x ∷ l)) = omega (arith, length-cons x l) in
+    let less : z - (length t + 2) ≡ N - length (storeInts (x ∷ l)) = omega (arith, room-cons x l) in
     let a₃ : drop (length t + 2) Z ≡ replicate (N - length (storeInts (x ∷ l))) (pos 0) =
     drop-zeros (length t + 2) z ∙ ap (λ (j : ℕ). replicate j (pos 0)) less in
     let R = replicate (N - length (storeInts (x ∷ l))) (pos 0) in

@@ -5,20 +5,21 @@ use mathlib.Core.List.{List, [], _∷_, _++_, append-assoc, append-nil}
 use Prim.Native.Nat.{ℕ, suc, _+_, _<_, _≤_}
 use native.Mathlib.Numerals.{add-one}
 use native.Mathlib.Omega.{arith}
-use lib.IntN.{ℤ}
+use lib.IntN.{ℤ, negsuc}
 use lib.ListN.{length, take, drop, drop-of-length-le}
-use lib.Seq.{drop-cons, take-suc, length-take-le}
+use lib.Seq.{drop-cons, take-suc}
 use Rattle.definitions.specs.Ints.{signedLess}
 use Rattle.definitions.specs.Tables.{nat}
-use Rattle.definitions.specs.Storage.{StoredSnap, storeInts, storeArea, dropOlder}
-use Rattle.store_area.specs.Held.{snapsIn, snapAt, noSnap, HeldStore}
-use Rattle.store_area.specs.Tables.{Entry, entry-at, placeOf, next-place, ints-none}
+use Rattle.definitions.specs.Storage.{StoredSnap, newestTick, dropOlder}
+use Rattle.laws.specs.StoreForm.{room-none}
+use Rattle.store_area.specs.Held.{snapsIn, snapAt, noSnap, HeldStore, placeOf}
+use Rattle.store_area.proofs.Places.{Entry, entry-at, next-place}
 
 -- ---- places
 
 -- the first table begins at 0
 pub place-zero : (l : List StoredSnap) → 0 ≡ placeOf l 0
-place-zero l = sym (ap length ints-none)
+place-zero l = sym room-none
 
 module _ (a : List ℤ) (n : ℕ) (h : HeldStore a n) where
   -- the tables
@@ -63,6 +64,14 @@ module _ (tick : ℤ) (l : List StoredSnap) (i : ℕ) (w : Newer tick l i) where
   unfolding dropOlder
   none-older h = w ∙ rw (drop-of-length-le l h) (append-nil (take i l))
 
--- what is left if it is the first tables
-pub drops : (tick : ℤ) (l : List StoredSnap) (r n k : ℕ) (out : List ℤ) → r ≤ length l → dropOlder tick l ≡ take r l → n ≡ length (storeInts (take r l)) → out ≡ storeArea k (take r l) → (r ≡ length (dropOlder tick l)) × (n ≡ length (storeInts (dropOlder tick l))) × (out ≡ storeArea k (dropOlder tick l))
-drops tick l r n k out h w e f = rw w (sym (length-take-le r l h), e, f)
+-- ---- the newest tick
+
+-- there is no table
+pub newest-none : (l : List StoredSnap) (n : ℕ) → length l ≡ n → n ≡ 0 → negsuc 0 ≡ newestTick l
+newest-none [] n e z = refl
+newest-none (x ∷ l) n e z = absurd (omega arith)
+
+-- that of the first
+pub newest-first : (l : List StoredSnap) (n : ℕ) → length l ≡ n → (n ≡ 0 → ⊥) → snapAt l 0 .tick ≡ newestTick l
+newest-first [] n e z = absurd (z (sym e))
+newest-first (x ∷ l) n e z = refl

@@ -1,19 +1,19 @@
 -- What is known of a store's area whose form was checked. Assumes nothing.
 use mathlib.Core.Path.{_≡_}
-use mathlib.Core.List.{List, [], _∷_, _++_}
+use mathlib.Core.List.{List, [], _∷_}
 use mathlib.Core.Option.{Option, some, none}
 use Prim.Native.Nat.{ℕ, _≤_}
-use lib.IntN.{ℤ, pos, negsuc}
+use lib.IntN.{ℤ, negsuc}
 use lib.ListN.{length, getD, take}
 use Rattle.definitions.specs.Tables.{Table, num, written, tableOf}
-use Rattle.definitions.specs.Storage.{StoredSnap, storeInts, storeArea, exactly, snapsOf}
-use Rattle.laws.specs.StoreForm.{Sounds}
+use Rattle.definitions.specs.Storage.{StoredSnap, exactly, snapsOf}
+use Rattle.laws.specs.StoreForm.{Sounds, storeRoom, LaidIn}
 use Rattle.store_area.specs.declared.checked.StoreForm.{StoreForm}
 use Rattle.store_area.specs.declared.checked.StoreForm.the-variants as form
 
 -- the answer of the form check
 abbrev pub formOf : Option (List StoredSnap) → StoreForm
-formOf (some l) = form.Tables (length (storeInts l))
+formOf (some l) = form.Tables (storeRoom l)
 formOf none = form.Bad
 
 -- the table that ints begin with, after its tick and its int count
@@ -47,14 +47,21 @@ snapAt l i = getD l i noSnap
 -- an area is these tables laid out
 pub record Stands (a : List ℤ) (l : List StoredSnap) : Type 0 where
   pub sounds : Sounds l
-  pub room : length (storeInts l) ≤ length a
-  pub area-is : a ≡ storeArea (length a) l
+  pub room : storeRoom l ≤ length a
+  pub area-is : LaidIn (length a) l a
 
 -- an area holds n tables
 pub record HeldStore (a : List ℤ) (n : ℕ) : Type 0 where
   pub many : length (snapsIn n a) ≡ n
   pub stands : Stands a (snapsIn n a)
 
--- a tick, a table's int count and its ints, and two parts after them
-abbrev pub laidFirst : ℤ → List ℤ → List ℤ → List ℤ → List ℤ
-laidFirst tick table moved rest = tick ∷ pos (length table) ∷ (table ++ (moved ++ rest))
+-- an area is as long as it was and now holds n tables, which take k ints
+pub record Leaves (a : List ℤ) (l : List StoredSnap) (n k : ℕ) (out : List ℤ) : Type 0 where
+  pub held : HeldStore out n
+  pub snaps-are : snapsIn n out ≡ l
+  pub ints-are : k ≡ storeRoom (snapsIn n out)
+  pub same-length : length out ≡ length a
+
+-- where the i-th table begins
+abbrev pub placeOf : List StoredSnap → ℕ → ℕ
+placeOf l i = storeRoom (take i l)

@@ -7,7 +7,7 @@ use native.Mathlib.Omega.{arith}
 use lib.IntN.{ℤ, pos}
 use lib.ListN.{length, replicate, length-append}
 use Rattle.definitions.specs.Storage.{StoredSnap, storeInts, snapsOf}
-use Rattle.laws.specs.StoreForm.{snaps-laid, are-zeros}
+use Rattle.laws.specs.StoreForm.{snaps-laid, are-zeros, storeRoom}
 use Rattle.store_area.specs.Held.{formOf, snapsIn, Stands, HeldStore}
 use Rattle.store_area.specs.declared.checked.StoreForm.the-variants as form
 
@@ -15,8 +15,8 @@ use Rattle.store_area.specs.declared.checked.StoreForm.the-variants as f
 pub found-stands : (n : ℕ) (a : List ℤ) (l : List StoredSnap) → snapsOf n a ≡ some l → Stands a l
 found-stands n a l e =
     let k = snaps-laid n a l e in
-    let m : length a ≡ length (storeInts l) + length (k .rest) = ap length (k .whole) ∙ length-append (storeInts l) (k .rest) in
-    let d : length (k .rest) ≡ length a - length (storeInts l) = omega arith in
+    let m : length a ≡ storeRoom l + length (k .rest) = ap length (k .whole) ∙ length-append (storeInts l) (k .rest) in
+    let d : length (k .rest) ≡ length a - storeRoom l = omega arith in
     record {
       sounds = k .sounds;
       room = omega arith;
@@ -27,7 +27,7 @@ found-stands n a l e =
 pub record Found (n : ℕ) (a : List ℤ) (k : ℕ) : Type 0 where
   pub held : HeldStore a n
   pub snaps-are : snapsOf n a ≡ some (snapsIn n a)
-  pub ints-are : k ≡ length (storeInts (snapsIn n a))
+  pub ints-are : k ≡ storeRoom (snapsIn n a)
 
 -- what an answer says, by what is found
 abbrev Tells : ℕ → List ℤ → ℕ → Option (List StoredSnap) → Type 0
@@ -39,21 +39,13 @@ unfolding snapsIn
 tells n a k none q e = let z : _≡_ {A = ℕ} 0 1 = cc in absurd (omega arith)
 tells n a k (some l) q e =
     let i : snapsIn n a ≡ l = rw q in
-    let d : k ≡ length (storeInts l) = cc in
+    let d : k ≡ storeRoom l = cc in
     record {
       held = record { many = ap length i ∙ snaps-laid n a l q .many; stands = rw i (found-stands n a l q) };
       snaps-are = q ∙ ap some (sym i);
-      ints-are = d ∙ ap (λ (m : List StoredSnap). length (storeInts m)) (sym i);
+      ints-are = d ∙ ap (λ (m : List StoredSnap). storeRoom m) (sym i);
     }
 
 -- the area holds tables
 pub tested : (n : ℕ) (a : List ℤ) (k : ℕ) → form.Tables k ≡ formOf (snapsOf n a) → Found n a k
 tested n a k e = tells n a k (snapsOf n a) refl e
-
--- it does not
-pub untested : (n : ℕ) (a : List ℤ) → form.Bad ≡ formOf (snapsOf n a) → snapsOf n a ≡ none
-untested n a e = go (snapsOf n a) refl e
-  where
-    go : (o : Option (List StoredSnap)) → snapsOf n a ≡ o → form.Bad ≡ formOf o → snapsOf n a ≡ none
-    go none q e = q
-    go (some l) q e = let z : _≡_ {A = ℕ} 0 1 = cc in absurd (omega arith)

@@ -2,12 +2,13 @@
 ghost use mathlib.Core.Path.{_≡_};
 ghost use mathlib.Core.Bool.{_&&_};
 ghost use mathlib.Core.List.{_∷_};
-ghost use Prim.Native.Nat.{_+_, _<_, _≤_, _^_};
+ghost use Prim.Native.Nat.{_+_, _<_, _≤_};
 ghost use lib.Dec.{eqb};
 ghost use lib.ListN.{length, take, drop};
 ghost use Rattle.definitions.specs.Tables.{Table, written};
-ghost use Rattle.definitions.specs.Storage.{snapsOf, storeInts, storeArea, dropOlder, allZero};
-ghost use Rattle.store_area.specs.Held.{formOf, sizeOf, firstTable, snapsIn, snapAt, HeldStore, laidFirst};
+ghost use Rattle.definitions.specs.Storage.{snapsOf, newestTick, dropOlder, allZero};
+ghost use Rattle.laws.specs.StoreForm.{storeRoom, LaidIn};
+ghost use Rattle.store_area.specs.Held.{formOf, sizeOf, firstTable, snapsIn, snapAt, HeldStore, Leaves, placeOf};
 use table::checked::TableForm;
 
 // Whether an area holds tables and then zeros, and how many ints the tables take.
@@ -23,7 +24,7 @@ pub struct Left {
 }
 
 // How many ints the table at a place takes, if its tick, its int count and the table itself are there; else 0.
-pub fn table_size(area: &[i32], p: usize) -> usize
+fn table_size(area: &[i32], p: usize) -> usize
     requires { ⌜ p ≤ length (now area) ⌝ }
     ensures { λ r. ⌜ r ≡ sizeOf (firstTable (drop p (now (area .entry)))) ⌝ }
 {
@@ -55,7 +56,7 @@ fn still_zero(all: bool, n: usize) -> bool
 }
 
 // Whether the ints from a place on are all 0. The loop has no early exit, so that the compiler can test several ints at once.
-pub fn zeros(area: &[i32], from: usize) -> bool
+fn zeros(area: &[i32], from: usize) -> bool
     ensures { λ r. ⌜ r ≡ allZero (drop from (now (area .entry))) ⌝ }
 {
     let mut all = true;
@@ -88,9 +89,9 @@ pub fn form(area: &[i32], count: usize) -> StoreForm
 }
 
 // The place of the i-th of so many tables, the newest first, or the place after the last.
-pub fn place(area: &[i32], count: usize, i: usize) -> usize
+fn place(area: &[i32], count: usize, i: usize) -> usize
     requires { ⌜ HeldStore (now area) count × (i ≤ count) ⌝ }
-    ensures { λ r. ⌜ r ≡ length (storeInts (take i (snapsIn count (now (area .entry))))) ⌝ }
+    ensures { λ r. ⌜ r ≡ placeOf (snapsIn count (now (area .entry))) i ⌝ }
 {
     let mut k = 0;
     let mut p = 0;
@@ -101,7 +102,15 @@ pub fn place(area: &[i32], count: usize, i: usize) -> usize
     p
 }
 
-// The tick of the i-th table.
+// How many ints the newest tables take; left says how many of them.
+pub fn used(area: &[i32], count: usize, left: usize) -> usize
+    requires { ⌜ HeldStore (now area) count × (left ≤ count) ⌝ }
+    ensures { λ r. ⌜ r ≡ storeRoom (take left (snapsIn count (now (area .entry)))) ⌝ }
+{
+    place(area, count, left)
+}
+
+// The tick of the i-th table, the newest first.
 pub fn tick_at(area: &[i32], count: usize, i: usize) -> i32
     requires { ⌜ HeldStore (now area) count × (i < count) ⌝ }
     ensures { λ r. ⌜ r ≡ snapAt (snapsIn count (now (area .entry))) i .tick ⌝ }
@@ -110,7 +119,18 @@ pub fn tick_at(area: &[i32], count: usize, i: usize) -> i32
     area[p]
 }
 
-// The i-th table, as a part of the area.
+// The tick of the newest table, or -1 if there is none.
+pub fn newest_tick(area: &[i32], count: usize) -> i32
+    requires { ⌜ HeldStore (now area) count ⌝ }
+    ensures { λ r. ⌜ r ≡ newestTick (snapsIn count (now (area .entry))) ⌝ }
+{
+    if count == 0 {
+        return -1;
+    }
+    tick_at(area, count, 0)
+}
+
+// The i-th table, the newest first, as a part of the area.
 pub fn table_at(area: &[i32], count: usize, i: usize) -> &[i32]
     requires { ⌜ HeldStore (now area) count × (i < count) ⌝ }
     ensures { λ r. ⌜ now r ≡ written (snapAt (snapsIn count (now (area .entry))) i .snap) ⌝ }
@@ -122,7 +142,7 @@ pub fn table_at(area: &[i32], count: usize, i: usize) -> &[i32]
 }
 
 // How many tables are before the first one that is older than a tick.
-pub fn count_newer(area: &[i32], count: usize, tick: i32) -> usize
+fn count_newer(area: &[i32], count: usize, tick: i32) -> usize
     requires { ⌜ HeldStore (now area) count ⌝ }
     ensures { λ r. ⌜ (r ≤ count) × (dropOlder tick (snapsIn count (now (area .entry))) ≡ take r (snapsIn count (now (area .entry)))) ⌝ }
 {
@@ -138,10 +158,10 @@ pub fn count_newer(area: &[i32], count: usize, tick: i32) -> usize
     i
 }
 
-// Keeps the first tables and zeros the rest; returns how many ints they take. ints is how many all tables take.
+// Keeps the newest tables and clears the others; returns how many ints they take. ints is how many all tables take.
 pub fn cut(area: &mut [i32], count: usize, ints: usize, left: usize) -> usize
-    requires { ⌜ HeldStore (now area) count × (ints ≡ length (storeInts (snapsIn count (now area)))) × (left ≤ count) ⌝ }
-    ensures { λ r. ⌜ (r ≡ length (storeInts (take left (snapsIn count (now (area .entry)))))) × (now (area .exit) ≡ storeArea (length (now (area .entry))) (take left (snapsIn count (now (area .entry))))) ⌝ }
+    requires { ⌜ HeldStore (now area) count × (ints ≡ storeRoom (snapsIn count (now area))) × (left ≤ count) ⌝ }
+    ensures { λ r. ⌜ Leaves (now (area .entry)) (take left (snapsIn count (now (area .entry)))) left r (now (area .exit)) ⌝ }
 {
     let from = place(area, count, left);
     ints::clear(&mut area[from..ints]);
@@ -150,8 +170,8 @@ pub fn cut(area: &mut [i32], count: usize, ints: usize, left: usize) -> usize
 
 // Drops the first table that is older than a tick, and all after it.
 pub fn drop_older(area: &mut [i32], count: usize, ints: usize, tick: i32) -> Left
-    requires { ⌜ HeldStore (now area) count × (ints ≡ length (storeInts (snapsIn count (now area)))) ⌝ }
-    ensures { λ r. ⌜ (r .count ≡ length (dropOlder tick (snapsIn count (now (area .entry))))) × (r .ints ≡ length (storeInts (dropOlder tick (snapsIn count (now (area .entry)))))) × (now (area .exit) ≡ storeArea (length (now (area .entry))) (dropOlder tick (snapsIn count (now (area .entry))))) ⌝ }
+    requires { ⌜ HeldStore (now area) count × (ints ≡ storeRoom (snapsIn count (now area))) ⌝ }
+    ensures { λ r. ⌜ Leaves (now (area .entry)) (dropOlder tick (snapsIn count (now (area .entry)))) (r .count) (r .ints) (now (area .exit)) ⌝ }
 {
     let left = count_newer(area, count, tick);
     let kept = cut(area, count, ints, left);
@@ -161,22 +181,15 @@ pub fn drop_older(area: &mut [i32], count: usize, ints: usize, tick: i32) -> Lef
     }
 }
 
-// Moves the first ints of an area up as one block, and writes a tick, a table's int count and its ints before them.
-pub fn lay_first(area: &mut [i32], ints: usize, tick: i32, table: &[i32])
-    requires { ⌜ (ints + (length (now table) + 2) ≤ length (now area)) × (length (now table) < 2 ^ 31) ⌝ }
-    ensures { λ _. ⌜ now (area .exit) ≡ laidFirst tick (now (table .entry)) (take ints (now (area .entry))) (drop (ints + (length (now (table .entry)) + 2)) (now (area .entry))) ⌝ }
+// Adds a table, which takes up its whole slice, as the newest: moves the tables held up as one block, and writes the tick, the
+// int count and the ints of the new table before them. ints is how many the tables held take.
+pub fn push(area: &mut [i32], count: usize, ints: usize, tick: i32, table: &[i32])
+    requires { ⌜ HeldStore (now area) count × (ints ≡ storeRoom (snapsIn count (now area)))
+        × (ints + (length (now table) + 2) ≤ length (now area)) × (length (now table) ≤ 16384) ⌝ }
+    ensures { λ _. ⌜ ((t : Table) → now (table .entry) ≡ written t → LaidIn (length (now (area .entry))) (record { tick = tick; snap = t } ∷ snapsIn count (now (area .entry))) (now (area .exit))) ⌝ }
 {
-    table_adding::checked::shift(area, 0, ints, table.len() + 2);
+    ints::checked::shift(area, 0, ints, table.len() + 2);
     area[0] = tick;
     table::checked::put(area, 1, table.len());
     ints::copy_into(area, 2, table);
-}
-
-// Adds a table, which takes up its whole slice, as the newest. The tables held take so many ints.
-pub fn push(area: &mut [i32], count: usize, ints: usize, tick: i32, table: &[i32])
-    requires { ⌜ HeldStore (now area) count × (ints ≡ length (storeInts (snapsIn count (now area))))
-        × (ints + (length (now table) + 2) ≤ length (now area)) × (length (now table) ≤ 16384) ⌝ }
-    ensures { λ _. ⌜ ((t : Table) → now (table .entry) ≡ written t → now (area .exit) ≡ storeArea (length (now (area .entry))) (record { tick = tick; snap = t } ∷ snapsIn count (now (area .entry)))) ⌝ }
-{
-    lay_first(area, ints, tick, table);
 }

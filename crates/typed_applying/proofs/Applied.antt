@@ -22,22 +22,22 @@ use Rattle.laws.specs.AreaLaws.{lay-append}
 use Rattle.laws.specs.WarningLaws.{plus-none}
 use Rattle.laws.specs.TableShape.{both, some-is}
 use Rattle.laws.specs.TableRoundTrip.{back, items-sound}
+use Rattle.laws.specs.AppliedSound.{applied-sound}
+use Rattle.laws.specs.DeltaMade.{facts}
 use Rattle.laws.specs.DeltaRestores.{delta-in-order}
 use Rattle.format.specs.Numbers.{number}
 use Rattle.format.specs.Answers.{storedWith}
 use Rattle.format.specs.declared.Error.{Error}
 use Rattle.format.specs.declared.Stored.{Stored}
 use Rattle.format.specs.declared.Stored.the-variants as storedAs
+use Rattle.format.specs.Sources.{unknownCounts, uuidExcess, typedCounts}
 use Rattle.table.specs.Held.{Held, formOf}
 use Rattle.table.specs.Forms.{formed}
 use Rattle.table.specs.declared.checked.TableForm.the-variants as tableForm
 use Rattle.delta_form.specs.Held.{HeldDelta}
-use Rattle.applying.specs.Answers.{unknownCounts}
-use Rattle.types.specs.Answers.{uuidExcess, judgedTable}
+use Rattle.types.specs.Answers.{judgedTable}
 use Rattle.types.specs.declared.checked.Judged.{Judged}
 use Rattle.types.specs.declared.checked.Types.the-variants as types
-use Rattle.typed_applying.specs.Answers.{typedCounts}
-use Rattle.typed_applying.specs.Sound.{applied-sound, sound-is}
 
 -- ---- the types
 
@@ -66,7 +66,7 @@ module _ (out out' : List ℤ) (room : 16384 ≤ length out) (u : Bool) where
   -- a table that is stored is at most 16,384 ints long, and has room
   stores : (t : Table) (v : Counts) → sound t ≡ true → storedTable out (ok t v) ≡ record { answer = ok (length (written t)) (plus v none); out = lay (written t) out }
   unfolding stored
-  stores t v s = rw (le-leb (length (written t)) (length out) (omega (arith, sound-is t s .short)))
+  stores t v s = rw (le-leb (length (written t)) (length out) (omega (arith, facts t s .short)))
 
   -- the refusal is not for lack of room
   refused-is : (o : Outcome Table) (k : ℕ) → ((t : Table) (v : Counts) → o ≡ ok t v → sound t ≡ true) → storedTable out o ≡ record { answer = err k (unknownCounts u); out = out' } → o ≡ err k (unknownCounts u)
@@ -84,7 +84,7 @@ module _ (out out' : List ℤ) (room : 16384 ≤ length out) (u : Bool) where
   stands : (t : Table) → sound t ≡ true → out' ≡ lay (written t) out → (items out' ≡ t) × (tableForm.Table (count out') (length (written t)) ≡ formOf (tableOf out'))
   stands t s e =
       let w = written t in
-      let f : out' ≡ w ++ drop (length w) out = e ∙ lay-append w out (omega (arith, sound-is t s .short)) in
+      let f : out' ≡ w ++ drop (length w) out = e ∙ lay-append w out (omega (arith, facts t s .short)) in
       let g : tableOf out' ≡ some t = ap tableOf f ∙ back t (drop (length w) out) s in
       let h = formed out' (length t) (length w) (sym (ap formOf g)) .0 in
       let i : items out' ≡ t = let q : some (items out') ≡ some t = sym (some-is out' (h .shape)) ∙ g in cc in

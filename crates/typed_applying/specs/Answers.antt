@@ -1,8 +1,6 @@
 -- What the answers of `typed_applying` mean: the refusal's number and the values of each case. Assumes nothing.
 use mathlib.Core.Path.{_≡_}
-use mathlib.Core.Bool.{Bool, cond}
 use mathlib.Core.List.{List}
-use Prim.Native.Nat.{ℕ}
 use lib.IntN.{ℤ}
 use Rattle.definitions.specs.Warnings.{Counts}
 use Rattle.definitions.specs.Outcome.{Outcome, ok, err, _>>=_}
@@ -11,6 +9,7 @@ use Rattle.definitions.specs.Deltas.{Delta}
 use Rattle.definitions.specs.Applying.{applyDelta}
 use Rattle.definitions.specs.Types.{typed}
 use Rattle.format.specs.Numbers.{number}
+use Rattle.format.specs.Sources.{typedCounts}
 use Rattle.table.specs.Held.{formOf}
 use Rattle.table.specs.declared.checked.TableForm.the-variants as tableForm
 use Rattle.typed_applying.specs.declared.checked.Table.{Table}
@@ -20,25 +19,6 @@ use Rattle.typed_applying.specs.declared.checked.Typed.{Typed}
 -- a delta applied to a base, with the types of the table judged
 abbrev pub appliedTyped : Tables.Table → Delta → Outcome Tables.Table
 appliedTyped b d = applyDelta b d >>= typed
-
--- the warnings: whether the base lacks a deleted key, and so many kinds with more than four ints
-abbrev pub typedCounts : Bool → ℕ → Counts
-typedCounts unknown n =
-    record {
-      overlongIntEncoding = 0;
-      nonZeroIntPadding = 0;
-      nonZeroPadding = 0;
-      duplicateDelete = 0;
-      duplicateUpdate = 0;
-      unknownDelete = cond unknown 1 0;
-      deleteUpdate = 0;
-      numUpdatedItems = 0;
-      excessSnapData = 0;
-      excessUuidItemData = n;
-      duplicateSnap = 0;
-      differingAttributes = 0;
-      weirdNegativeDeltaTick = 0;
-    }
 
 -- an answer on a table, together with its warning counts
 abbrev pub tableWith : Tables.Table → Table → Counts → Outcome Tables.Table

@@ -1,3 +1,2 @@
 -- What the answers of `typed_applying` mean. Assumes nothing.
 pub mod Answers
-pub mod Sound

@@ -10,7 +10,7 @@ ghost use Rattle.definitions.specs.Types.{typed};
 ghost use Rattle.table.specs.Held.{Held, formOf};
 ghost use Rattle.table.specs.declared.checked.TableForm.the-variants as tableForm;
 ghost use Rattle.delta_form.specs.Held.{HeldDelta};
-ghost use Rattle.applying.specs.Answers.{unknownCounts};
+ghost use Rattle.format.specs.Sources.{unknownCounts};
 ghost use Rattle.typed_applying.specs.Answers.{appliedTyped, typedTable, Stands};
 use applying::checked::apply;
 use format::Error;

@@ -20,7 +20,11 @@ same-length-2 : tie.Need-same-length-2
 same-length-2 c = search needs
 
 returns : tie.Need-returns
-returns c = (rw (toZ-ofZ (c .before .before .before .before .before .before .before .before .fits .crc), toZ-ofZ (c .before .before .before .before .before .before .before .before .fits .delta-tick), toZ-ofZ (c .before .before .before .before .before .before .before .before .fits .tick)) at (c .before .before .before .before .before .take .ensures), c .before .clear .ensures ∙ cleared-same (c .before .before .before .before .before .take .last .1 .1 .1 .1 .0) (now (c .before .before .before .before .before .before .before .before .args .scratch)) (c .before .before .before .before .before .take .kept .1 .1 .1 .1 .0))
+returns c =
+    let s = c .before .before .before .before .before .before .before .before in
+    let t = c .before .before .before .before .before .take in
+    let e = rw (toZ-ofZ (s .fits .crc), toZ-ofZ (s .fits .delta-tick), toZ-ofZ (s .fits .tick)) at (t .ensures) in
+    (e, c .before .clear .ensures ∙ cleared-same (t .last .1 .1 .1 .1 .0) (now (s .args .scratch)) (t .kept .1 .1 .1 .1 .0))
 
 pub add-delta-spec : {M : Type 1} → statement M
 add-delta-spec =

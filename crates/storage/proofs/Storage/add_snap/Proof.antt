@@ -3,7 +3,7 @@ use Rattle.definitions.specs.Tables.{items, tableOf}
 use Rattle.format.specs.declared.Error.the-variants as error
 use Rattle.laws.specs.TableShape.{some-is}
 use Rattle.storage.proofs.Calls.{store-47, new-47, both-held, full-44, not-added-by}
-use Rattle.storage.specs.Told.{not-held, told, Told}
+use Rattle.store_area.specs.Stores.{not-held, told, Told}
 use Rattle.storage.specs.States.{storeOf}
 use Rattle.table.specs.Forms.{formed, unformed}
 use Rattle.table.specs.Held.{formOf}
@@ -22,11 +22,12 @@ in-form : (c : tie.After-ints) → let s = c .before .before .before .before .ar
 in-form c = told _ _ _ (sym (c .ints .given .1) ∙ c .before .before .form .ensures)
 
 -- and so is the table
-new-told : (c : tie.After-items) → tableForm.Table (c .items .given .0 .0) (c .items .given .0 .1 .0) ≡ formOf (tableOf (now (c .before .before .before .before .before .before .before .before .args .table)))
+new-told : (c : tie.After-items) → let t = now (c .before .before .before .before .before .before .before .before .args .table) in let k = c .items .given .0 in
+    tableForm.Table (k .0) (k .1 .0) ≡ formOf (tableOf t)
 new-told c = sym (c .items .given .1) ∙ c .before .before .form2 .ensures
 
 -- the table
-table-is : (c : tie.After-items) → tableOf (now (c .before .before .before .before .before .before .before .before .args .table)) ≡ some (items (now (c .before .before .before .before .before .before .before .before .args .table)))
+table-is : (c : tie.After-items) → let t = now (c .before .before .before .before .before .before .before .before .args .table) in tableOf t ≡ some (items t)
 table-is c = some-is _ (formed _ _ _ (new-told c) .0 .shape)
 
 form-requires : tie.Need-form-requires
@@ -47,8 +48,10 @@ same-length c = search needs
 returns : tie.Need-returns
 returns c =
     let s = c .before .before .before .before .before .args in
-    not-added-by (storeOf (s .self)) (now (s .area)) (s .tick) (now (s .table)) (now (s .delta)) (c .not-added .result) error.NotInForm (c .not-added .ensures .0) (c .not-added .ensures .1) (λ e. omega (arith, e))
-    (store-47 (storeOf (s .self)) (now (s .area)) (s .tick) (now (s .table)) (now (s .delta)) (not-held _ _ (sym (c .before .enum-told .given .1) ∙ c .before .before .before .form .ensures)))
+    let r = c .not-added in
+    let h = not-held _ _ (sym (c .before .enum-told .given .1) ∙ c .before .before .before .form .ensures) in
+    not-added-by (storeOf (s .self)) (now (s .area)) (s .tick) (now (s .table)) (now (s .delta)) (r .result) error.NotInForm (r .ensures .0) (r .ensures .1)
+    (λ e. omega (arith, e)) (store-47 (storeOf (s .self)) (now (s .area)) (s .tick) (now (s .table)) (now (s .delta)) h)
 
 form-requires-2 : tie.Need-form-requires-2
 form-requires-2 c κs = search needs
@@ -68,8 +71,10 @@ same-length-2 c = search needs
 returns-2 : tie.Need-returns-2
 returns-2 c =
     let s = c .before .before .before .before .before .before .before .before .before .args in
-    not-added-by (storeOf (s .self)) (now (s .area)) (s .tick) (now (s .table)) (now (s .delta)) (c .not-added2 .result) error.NotInForm (c .not-added2 .ensures .0) (c .not-added2 .ensures .1) (λ e. omega (arith, e))
-    (new-47 (storeOf (s .self)) (now (s .area)) (s .tick) (now (s .table)) (now (s .delta)) _ (in-form (c .before .before .before .before .before) .is) (unformed (now (s .table)) (sym (c .before .enum-told2 .given .1) ∙ c .before .before .before .form2 .ensures)))
+    let r = c .not-added2 in
+    let t = unformed (now (s .table)) (sym (c .before .enum-told2 .given .1) ∙ c .before .before .before .form2 .ensures) in
+    not-added-by (storeOf (s .self)) (now (s .area)) (s .tick) (now (s .table)) (now (s .delta)) (r .result) error.NotInForm (r .ensures .0) (r .ensures .1)
+    (λ e. omega (arith, e)) (new-47 (storeOf (s .self)) (now (s .area)) (s .tick) (now (s .table)) (now (s .delta)) _ (in-form (c .before .before .before .before .before) .is) t)
 
 not-added-requires-3 : tie.Need-not-added-requires-3
 not-added-requires-3 c κs = search needs
@@ -79,10 +84,14 @@ same-length-3 c = search needs
 
 returns-3 : tie.Need-returns-3
 returns-3 c =
-    let s = c .before .before .before .before .before .before .before .before .before .before .before .before .args in
-    not-added-by (storeOf (s .self)) (now (s .area)) (s .tick) (now (s .table)) (now (s .delta)) (c .not-added3 .result) error.StoreFull (c .not-added3 .ensures .0) (c .not-added3 .ensures .1) (λ e. omega (arith, e))
-    (both-held (storeOf (s .self)) (now (s .area)) (s .tick) (now (s .table)) (now (s .delta)) _ (in-form (c .before .before .before .before .before .before .before .before) .is) _ (table-is (c .before .before .before .before))
-    ∙ full-44 (storeOf (s .self)) (now (s .area)) _ (in-form (c .before .before .before .before .before .before .before .before) .holds) (c .before .if1 .taken) _ (now (s .delta)))
+    let d = c .before .before .before .before in
+    let s = d .before .before .before .before .before .before .before .before .args in
+    let r = c .not-added3 in
+    let h = in-form (d .before .before .before .before) in
+    not-added-by (storeOf (s .self)) (now (s .area)) (s .tick) (now (s .table)) (now (s .delta)) (r .result) error.StoreFull (r .ensures .0) (r .ensures .1)
+    (λ e. omega (arith, e))
+    (both-held (storeOf (s .self)) (now (s .area)) (s .tick) (now (s .table)) (now (s .delta)) _ (h .is) _ (table-is d)
+    ∙ full-44 (storeOf (s .self)) (now (s .area)) _ (h .holds) (c .before .if1 .taken) _ (now (s .delta)))
 
 add-requires : tie.Need-add-requires
 add-requires c κs =
@@ -97,10 +106,12 @@ same-length-5 c = search needs
 
 returns-4 : tie.Need-returns-4
 returns-4 c =
-    let s = c .before .before .before .before .before .before .before .before .before .before .before .before .before .before .before .before in
-    let a = c .before .before .add in
-    let e = rw (toZ-ofZ (s .fits .tick)) at (a .ensures) in
-    (both-held (storeOf (s .args .self)) (now (s .args .area)) (s .args .tick) (now (s .args .table)) (now (s .args .delta)) _ (in-form (c .before .before .before .before .before .before .before .before .before .before .before .before) .is) _ (table-is (c .before .before .before .before .before .before .before .before)) ∙ e .0, e .1)
+    let d = c .before .before .before .before .before .before .before .before in
+    let s = d .before .before .before .before .before .before .before .before in
+    let x = s .args in
+    let e = rw (toZ-ofZ (s .fits .tick)) at (c .before .before .add .ensures) in
+    let h = in-form (d .before .before .before .before) in
+    (both-held (storeOf (x .self)) (now (x .area)) (x .tick) (now (x .table)) (now (x .delta)) _ (h .is) _ (table-is d) ∙ e .0, e .1)
 
 pub add-snap-spec : {M : Type 1} → statement M
 add-snap-spec =

@@ -1,7 +1,7 @@
 -- `Storage::set_delta_tick` meets its contract: by the form of the store and the sign of the tick. Assumes nothing.
 use Rattle.storage.proofs.Bases.{refused-47, no-base, set-held}
-use Rattle.storage.specs.Told.{not-held, told, Told}
-use Rattle.storage.specs.States.{storeOf, holdsIn}
+use Rattle.store_area.specs.Stores.{not-held, told, Told, holdsIn}
+use Rattle.storage.specs.States.{storeOf}
 use denote.Ref.{now}
 use mathlib.Core.Path.{sym, _∙_}
 use mir.Facts.{toZ-ofZ}
@@ -31,7 +31,8 @@ same-length c = search needs
 returns : tie.Need-returns
 returns c =
     let s = c .before .before .before .before .before .args in
-    refused-47 (s .self) (now (s .area)) (s .tick) (c .none .result) (c .none .ensures) (not-held _ _ (sym (c .before .enum-told .given .1) ∙ c .before .before .before .form .ensures))
+    let h = not-held _ _ (sym (c .before .enum-told .given .1) ∙ c .before .before .before .form .ensures) in
+    refused-47 (s .self) (now (s .area)) (s .tick) (c .none .result) (c .none .ensures) h
 
 weird-requires : tie.Need-weird-requires
 weird-requires c κs = search needs
@@ -46,10 +47,15 @@ returns-2 : tie.Need-returns-2
 returns-2 c =
     let s = c .before .before .before .before .before .before .before .before in
     let t = in-form (c .before .before .before .before) in
-    no-base (s .args .self) (now (s .args .area)) (s .args .tick) (c .before .weird .result) _ (t .holds) (c .without-delta .result) (rw (toZ-ofZ (s .fits .tick)) at (c .before .before .if1 .taken)) (rw (toZ-ofZ (s .fits .tick)) at (c .before .weird .ensures)) (c .without-delta .ensures)
+    let w = c .before .weird in
+    let z = toZ-ofZ (s .fits .tick) in
+    no-base (s .args .self) (now (s .args .area)) (s .args .tick) (w .result) _ (t .holds) (c .without-delta .result)
+    (rw z at (c .before .before .if1 .taken)) (rw z at (w .ensures)) (c .without-delta .ensures)
 
 set-base-requires : tie.Need-set-base-requires
-set-base-requires c κs = (in-form (c .before .before .before) .holds, rw (toZ-ofZ (c .before .before .before .before .before .before .before .fits .tick)) (rw (toZ-ofZ (c .before .before .before .before .before .before .before .fits .tick)) at (c .before .if1 .left)))
+set-base-requires c κs =
+    let z = toZ-ofZ (c .before .before .before .before .before .before .before .fits .tick) in
+    (in-form (c .before .before .before) .holds, rw z (rw z at (c .before .if1 .left)))
 
 same-length-3 : tie.Need-same-length-3
 same-length-3 c = search needs

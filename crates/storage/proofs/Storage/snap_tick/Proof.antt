@@ -1,6 +1,6 @@
 -- `Storage::snap_tick` meets its contract: by the form of the store and the count of tables. Assumes nothing.
 use Rattle.storage.proofs.Forms.{tick-47, tick-there, tick-past}
-use Rattle.storage.specs.Told.{not-held, told, Told}
+use Rattle.store_area.specs.Stores.{not-held, told, Told}
 use Rattle.storage.specs.States.{storeOf}
 use denote.Ref.{now}
 use mathlib.Core.Path.{sym, _∙_}

@@ -5,9 +5,9 @@ use Rattle.definitions.specs.Tables.{items}
 use Rattle.laws.specs.TableShape.{some-is}
 use Rattle.storage.proofs.Additions.{made-room}
 use Rattle.storage.proofs.Calls.{room-is, adding-ends, clashes}
-use Rattle.storage.specs.Told.{holds-is}
+use Rattle.store_area.specs.Stores.{holds-is, holdsIn}
 use Rattle.storage.specs.Answers.{Clashing}
-use Rattle.storage.specs.States.{storeOf, holdsIn, deltaOf}
+use Rattle.storage.specs.States.{storeOf, deltaOf}
 use Rattle.storage.specs.Steps.{addedOf}
 use Rattle.store_area.specs.Held.{snapsIn}
 use Rattle.table.specs.Forms.{formed}
@@ -15,6 +15,7 @@ use Rattle.table.specs.Writing.{form-front, form-length}
 use borrow.Author.Tests.{leb-true}
 use denote.Ref.{now}
 use lib.Dec.{leb}
+use lib.IntN.{ℤ}
 use lib.ListN.{length}
 use mathlib.Core.Bool.{true}
 use mathlib.Core.Path.{_≡_, sym, ap, _∙_}
@@ -37,13 +38,15 @@ bounds s =
     (omega (arith, f .1, f .0 .shape .short), omega (arith, s .pre .0 .ints-are, s .pre .0 .held .stands .room))
 
 -- the tick of the base
-based : (c : tie.After-base-tick) → let s = c .before .before .before .before .before .before in c .base-tick .result ≡ Store.chosenBase (deltaOf (s .args .s)) (new s) (snapsIn (s .args .s .count) (now (s .args .area))) .tick
+based : (c : tie.After-base-tick) → let s = c .before .before .before .before .before .before in let l = snapsIn (s .args .s .count) (now (s .args .area)) in
+    c .base-tick .result ≡ Store.chosenBase (deltaOf (s .args .s)) (new s) l .tick
 based c =
     let s = c .before .before .before .before .before .before in
     rw (toZ-ofZ (s .fits .tick)) at (c .base-tick .ensures (items (now (s .args .table))))
 
 -- the answer
-answered : (c : tie.After-area) → c .before .finish .result .answer ≡ addedOf (c .before .before .before .before .base-tick .result) (c .before .before .before .before .before .before .before .make-delta .result)
+answered : (c : tie.After-area) → let b = c .before .before .before .before in
+    c .before .finish .result .answer ≡ addedOf (b .base-tick .result) (b .before .before .before .make-delta .result)
 answered c = rw (toZ-ofZ {w = w32} (record { sfits = c .before .before .before .before .base-tick .ok })) at (c .before .finish .ensures .0)
 
 add-room : tie.Need-add-room
@@ -64,10 +67,16 @@ slice-aggregate-finish c = let s = c .before .before .before .before .before .be
 finish-requires : tie.Need-finish-requires
 finish-requires c κs =
     let s = c .before .before .before .before .before .before .before .before in
-    let d = c .before .before .before .before .before in
+    let m = c .before .before .before .before .before .make-delta in
     let n = form-length (now (s .args .table)) (s .pre .2) in
     let w = bounds s in
-    (s .pre .0, s .pre .1, omega (arith, n, w), λ k e. let q : leb (s .args .ints + (s .args .size + 2)) (length (now (s .args .area))) ≡ true = made-room _ _ _ _ _ _ k (d .make-delta .ensures .0 (s .args .tick)) e in omega (arith, n, leb-true (s .args .ints + (s .args .size + 2)) (length (now (s .args .area))) q))
+    let k = s .args .ints + (s .args .size + 2) in
+    let a = length (now (s .args .area)) in (
+      s .pre .0,
+      s .pre .1,
+      omega (arith, n, w),
+      λ i e. let q : leb k a ≡ true = made-room _ _ _ _ _ _ i (m .ensures .0 (s .args .tick)) e in omega (arith, n, leb-true k a q),
+    )
 
 same-length : tie.Need-same-length
 same-length c = search needs
@@ -83,9 +92,18 @@ returns c =
     let t = now (s .args .table) in
     let a = now (s .args .area) in
     let f = r .ensures in
-    let n = form-length t (s .pre .2) in (
-      adding-ends (storeOf (s .args .s)) a (now (s .args .delta)) (s .args .ints) (s .pre .0) (new s) _ (d .make-delta .result) _ (s .pre .1) (room-is (new s) (snapsIn (s .args .s .count) a) (length a) (s .args .ints) (s .args .size) (s .pre .0 .ints-are) (n ∙ ap length (sym (form-front t (s .pre .2))))) (d .make-delta .ensures .0 (s .args .tick)) (c .before .before .before .before .base-tick .result) (based (c .before .before .before .before)) (r .result) _ (answered c) (f .1) (rw (toZ-ofZ (s .fits .tick)) at (f .2 (items t) (sym (form-front t (s .pre .2))))),
-      subst (Clashing (storeOf (s .args .s)) a (s .args .tick) t) (sym (answered c)) (clashes (storeOf (s .args .s)) a (s .args .tick) t (items t) (holdsIn (storeOf (s .args .s)) a) (c .before .before .before .before .base-tick .result) (d .make-delta .result) (holds-is (storeOf (s .args .s)) a (s .args .ints) (s .pre .0)) (some-is t (formed t _ _ (s .pre .2) .0 .shape)) (d .make-delta .ensures .1 (s .args .tick))),
+    let h = s .pre .0 in
+    let b = c .before .before .before .before in
+    let m = d .make-delta in
+    let z = toZ-ofZ (s .fits .tick) in
+    let front = sym (form-front t (s .pre .2)) in
+    let room = room-is (new s) (snapsIn (s .args .s .count) a) (length a) (s .args .ints) (s .args .size) (h .ints-are)
+    (form-length t (s .pre .2) ∙ ap length front) in
+    let clash = clashes (storeOf (s .args .s)) a (s .args .tick) t (items t) (holdsIn (storeOf (s .args .s)) a) (b .base-tick .result) (m .result)
+    (holds-is (storeOf (s .args .s)) a (s .args .ints) h) (some-is t (formed t _ _ (s .pre .2) .0 .shape)) (m .ensures .1 (s .args .tick)) in (
+      adding-ends (storeOf (s .args .s)) a (now (s .args .delta)) (s .args .ints) h (new s) _ (m .result) _ (s .pre .1) room
+          (m .ensures .0 (s .args .tick)) (r .result) _ (answered c ∙ ap (λ (i : ℤ). addedOf i (m .result)) (based b)) (f .1) (rw z at (f .2 (items t) front)),
+      subst (Clashing (storeOf (s .args .s)) a (s .args .tick) t) (sym (answered c)) clash,
     )
 
 pub add-spec : {M : Type 1} → statement M

@@ -1,11 +1,11 @@
 -- `checked::apply_on` meets its contract: by the sign of the tick. Assumes nothing.
 use Prim.Native.Nat.{_-_, _<_}
 use Rattle.definitions.specs.Storage as Store
-use Rattle.definitions.specs.Tables.{items, count}
+use Rattle.definitions.specs.Tables.{Table, items, count}
 use Rattle.storage.proofs.Additions.{empty-table, empty-held, whole-table}
 use Rattle.storage.proofs.Deltas.{empty-base, old-base, oldest-held, applies-by}
 use Rattle.store_area.specs.Held.{snapsIn, snapAt}
-use Rattle.store_area.specs.Tables.{sound-at}
+use Rattle.store_area.specs.Laid.{sound-at}
 use Rattle.table.specs.Held.{Held}
 use denote.Ref.{now}
 use mathlib.Core.List.{List}
@@ -25,17 +25,25 @@ L s = snapsIn (s .args .count) (now (s .args .area))
 negative : (c : tie.After-signed-less) → c .signed-less .result ≡ Store.isNegative (c .before .args .tick)
 negative c = rw (toZ-ofZ (c .before .fits .tick)) at (c .signed-less .ensures)
 
--- the base is the oldest table
-oldest : (c : tie.Else1) → (0 < c .before .before .args .count) × (Store.oldestAt (c .before .before .args .tick) (L (c .before .before)) ≡ some (snapAt (L (c .before .before)) (c .before .before .args .count - 1) .snap))
+-- the oldest table
+abbrev Old : tie.Start → Table
+Old s = snapAt (L s) (s .args .count - 1) .snap
+
+-- it is the base
+oldest : (c : tie.Else1) → let s = c .before .before in (0 < s .args .count) × (Store.oldestAt (s .args .tick) (L s) ≡ some (Old s))
 oldest c =
-    oldest-held (c .before .before .args .tick) (L (c .before .before)) (c .before .before .args .count) (c .before .before .pre .0 .many) (ap Store.isHeld (old-base (c .before .before .args .tick) (L (c .before .before)) (sym (negative (c .before)) ∙ c .if1 .left)) ∙ c .before .before .pre .1)
+    let s = c .before .before in
+    let b = old-base (s .args .tick) (L s) (sym (negative (c .before)) ∙ c .if1 .left) in
+    oldest-held (s .args .tick) (L s) (s .args .count) (s .pre .0 .many) (ap Store.isHeld b ∙ s .pre .1)
 
 -- it holds its items
-based : (c : tie.After-table-at) → let a = now (c .table-at .result) in Held a (count a) × (items a ≡ snapAt (L (c .before .before .before)) (c .before .before .before .args .count - 1) .snap)
+based : (c : tie.After-table-at) → let a = now (c .table-at .result) in Held a (count a) × (items a ≡ Old (c .before .before .before))
 based c =
-    let h = c .before .before .before .pre .0 in
+    let s = c .before .before .before in
+    let h = s .pre .0 in
     let o = oldest (c .before) in
-    whole-table (now (c .table-at .result)) (snapAt (L (c .before .before .before)) (c .before .before .before .args .count - 1) .snap) (sound-at (L (c .before .before .before)) (c .before .before .before .args .count - 1) (h .stands .sounds) (omega (arith, h .many, o .0))) (c .table-at .ensures)
+    let k = sound-at (L s) (s .args .count - 1) (h .stands .sounds) (omega (arith, h .many, o .0)) in
+    whole-table (now (c .table-at .result)) (Old s) k (c .table-at .ensures)
 
 signed-less-requires : tie.Need-signed-less-requires
 signed-less-requires c κs = search needs
@@ -50,7 +58,10 @@ same-length : tie.Need-same-length
 same-length c = search needs
 
 returns : tie.Need-returns
-returns c = applies-by _ _ _ _ _ _ (empty-base (c .before .before .before .before .before .before .args .tick) (L (c .before .before .before .before .before .before)) (sym (negative (c .before .before .before .before .before)) ∙ c .before .before .before .before .if1 .taken)) (empty-table .1) (c .before .apply-typed .ensures)
+returns c =
+    let s = c .before .before .before .before .before .before in
+    let n = sym (negative (c .before .before .before .before .before)) ∙ c .before .before .before .before .if1 .taken in
+    applies-by _ _ _ _ _ _ (empty-base (s .args .tick) (L s) n) (empty-table .1) (c .before .apply-typed .ensures)
 
 sub-table-at : tie.Need-sub-table-at
 sub-table-at c = let o = oldest (c) in omega (arith, o .0)
@@ -62,13 +73,20 @@ nat-at-requires : tie.Need-nat-at-requires
 nat-at-requires c κs = let h = based (c) .0 in omega (arith, h .shape .room)
 
 apply-typed-requires-2 : tie.Need-apply-typed-requires-2
-apply-typed-requires-2 c κs = (subst (Held (now (c .before .before .table-at .result))) (sym (c .before .nat-at .ensures .0)) (based (c .before .before) .0), c .before .before .before .before .before .pre .2, c .before .before .before .before .before .pre .3)
+apply-typed-requires-2 c κs =
+    let s = c .before .before .before .before .before in
+    let t = c .before .before in
+    (subst (Held (now (t .table-at .result))) (sym (c .before .nat-at .ensures .0)) (based t .0), s .pre .2, s .pre .3)
 
 same-length-2 : tie.Need-same-length-2
 same-length-2 c = search needs
 
 returns-2 : tie.Need-returns-2
-returns-2 c = applies-by _ _ _ _ _ _ (sym (old-base (c .before .before .before .before .before .before .before .args .tick) (L (c .before .before .before .before .before .before .before)) (sym (negative (c .before .before .before .before .before .before)) ∙ c .before .before .before .before .before .if1 .left)) ∙ oldest (c .before .before .before .before .before) .1) (based (c .before .before .before .before) .1) (c .before .apply-typed2 .ensures)
+returns-2 c =
+    let s = c .before .before .before .before .before .before .before in
+    let n = sym (negative (c .before .before .before .before .before .before)) ∙ c .before .before .before .before .before .if1 .left in
+    let b = sym (old-base (s .args .tick) (L s) n) ∙ oldest (c .before .before .before .before .before) .1 in
+    applies-by _ _ _ _ _ _ b (based (c .before .before .before .before) .1) (c .before .apply-typed2 .ensures)
 
 pub apply-on-spec : {M : Type 1} → statement M
 apply-on-spec =

@@ -16,10 +16,18 @@ enum-told-2 : tie.Need-enum-told-2
 enum-told-2 c = search needs
 
 returns : tie.Need-returns
-returns c t = ap (λ (y : Store.StoredSnap). y .tick) (sym (chosen-empty (c .before .before .args .s) (record { tick = c .before .before .args .tick; snap = t }) _ (c .enum-told2 .given .1)))
+returns c t =
+    let s = c .before .before .args in
+    let e = chosen-empty (s .s) (record { tick = s .tick; snap = t }) _ (c .enum-told2 .given .1) in
+    ap (λ (y : Store.StoredSnap). y .tick) (sym e)
 
 returns-2 : tie.Need-returns-2
-returns-2 c t = let s = c .before .before .before .before in toZ-ofZ (s .fits .tick) ∙ ap (λ (y : Store.StoredSnap). y .tick) (sym (chosen-itself (s .args .s) (record { tick = s .args .tick; snap = t }) _ (s .args .s .count) (c .before .before .enum-told .given .1) (s .pre .many) (c .if1 .taken)))
+returns-2 c t =
+    let s = c .before .before .before .before in
+    let x = s .args in
+    let n = c .before .before .enum-told .given .1 in
+    let e = chosen-itself (x .s) (record { tick = x .tick; snap = t }) _ (x .s .count) n (s .pre .many) (c .if1 .taken) in
+    toZ-ofZ (s .fits .tick) ∙ ap (λ (y : Store.StoredSnap). y .tick) (sym e)
 
 sub-tick-at : tie.Need-sub-tick-at
 sub-tick-at c = search needs
@@ -28,7 +36,12 @@ tick-at-requires : tie.Need-tick-at-requires
 tick-at-requires c κs = (c .before .before .before .before .before .pre, omega arith)
 
 returns-3 : tie.Need-returns-3
-returns-3 c t = let s = c .before .before .before .before .before .before in toZ-ofZ {w = w32} (record { sfits = c .tick-at .ok }) ∙ (c .tick-at .ensures ∙ ap (λ (y : Store.StoredSnap). y .tick) (sym (chosen-oldest (s .args .s) (record { tick = s .args .tick; snap = t }) _ (s .args .s .count) (c .before .before .before .before .enum-told .given .1) (s .pre .many) (c .before .before .if1 .left))))
+returns-3 c t =
+    let s = c .before .before .before .before .before .before in
+    let x = s .args in
+    let n = c .before .before .before .before .enum-told .given .1 in
+    let e = chosen-oldest (x .s) (record { tick = x .tick; snap = t }) _ (x .s .count) n (s .pre .many) (c .before .before .if1 .left) in
+    toZ-ofZ {w = w32} (record { sfits = c .tick-at .ok }) ∙ (c .tick-at .ensures ∙ ap (λ (y : Store.StoredSnap). y .tick) (sym e))
 
 pub base-tick-spec : {M : Type 1} → statement M
 base-tick-spec = tie.close (tie.spec enum-told enum-told-2 returns returns-2 sub-tick-at tick-at-requires returns-3)

@@ -2,6 +2,7 @@
 use Rattle.definitions.specs.Storage as Store
 use Rattle.storage.proofs.Deltas.{none-dropped, some-dropped}
 use Rattle.store_area.specs.Held.{snapsIn}
+use Rattle.store_area.specs.Laid.{held-leaves}
 use denote.Ref.{now}
 use mathlib.Core.Path.{_≡_, sym, _∙_}
 use mir.Facts.{toZ-ofZ}
@@ -17,7 +18,11 @@ signed-less-requires : tie.Need-signed-less-requires
 signed-less-requires c κs = search needs
 
 returns : tie.Need-returns
-returns c = none-dropped (now (c .before .before .args .area)) (snapsIn (c .before .before .args .count) (now (c .before .before .args .area))) (c .before .before .args .tick) _ _ (sym (negative (c .before)) ∙ c .if1 .taken) (c .before .before .pre .0 .stands) (c .before .before .pre .0 .many) (c .before .before .pre .1)
+returns c =
+    let s = c .before .before in
+    let a = now (s .args .area) in
+    none-dropped a (snapsIn (s .args .count) a) (s .args .tick) _ _ _ (sym (negative (c .before)) ∙ c .if1 .taken)
+    (held-leaves a (s .args .count) (s .args .ints) (s .pre .0) (s .pre .1))
 
 drop-older-requires : tie.Need-drop-older-requires
 drop-older-requires c κs = c .before .before .before .pre
@@ -26,7 +31,11 @@ same-length : tie.Need-same-length
 same-length c = search needs
 
 returns-2 : tie.Need-returns-2
-returns-2 c = some-dropped (now (c .before .before .before .before .before .args .area)) (snapsIn (c .before .before .before .before .before .args .count) (now (c .before .before .before .before .before .args .area))) (c .before .before .before .before .before .args .tick) (c .before .drop-older .result) _ (sym (negative (c .before .before .before .before)) ∙ c .before .before .before .if1 .left) (rw (toZ-ofZ (c .before .before .before .before .before .fits .tick)) at (c .before .drop-older .ensures))
+returns-2 c =
+    let s = c .before .before .before .before .before in
+    let a = now (s .args .area) in
+    some-dropped a (snapsIn (s .args .count) a) (s .args .tick) _ _ _ (sym (negative (c .before .before .before .before)) ∙ c .before .before .before .if1 .left)
+    (rw (toZ-ofZ (s .fits .tick)) at (c .before .drop-older .ensures))
 
 pub drop-for-spec : {M : Type 1} → statement M
 drop-for-spec =

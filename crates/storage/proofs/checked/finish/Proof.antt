@@ -37,18 +37,27 @@ same-length c = search needs
 returns : tie.Need-returns
 returns c =
     let s = c .before .before .before .before .before .before in
+    let x = s .args in
+    let a = now (x .area) in
     let r = c .before .store in
-    made-leaves (storeOf (s .args .s)) (now (s .args .area)) (snapsIn (s .args .s .count) (now (s .args .area))) (s .args .tick) (s .args .base) _ (now (s .args .table)) _ (r .result) (s .args .result) (c .before .before .before .enum-told .given .1) (r .ensures .0 ∙ answered (c .before .before .before .before .before)) (r .ensures .1) (rw (toZ-ofZ (s .fits .tick)) at (r .ensures .2))
+    made-leaves (storeOf (x .s)) a (snapsIn (x .s .count) a) (x .tick) (x .base) _ (now (x .table)) _ (r .result) (x .result)
+    (c .before .before .before .enum-told .given .1) (r .ensures .0 ∙ answered (c .before .before .before .before .before)) (r .ensures .1) (rw (toZ-ofZ (s .fits .tick)) at (r .ensures .2))
 
 returns-2 : tie.Need-returns-2
 returns-2 c =
     let s = c .before .before .before in
-    clash-leaves (storeOf (s .args .s)) (now (s .args .area)) (snapsIn (s .args .s .count) (now (s .args .area))) (s .args .tick) (s .args .base) _ _ (now (s .args .table)) (s .args .result) (c .enum-told2 .given .1) (answered (c .before .before))
+    let x = s .args in
+    let a = now (x .area) in
+    clash-leaves (storeOf (x .s)) a (snapsIn (x .s .count) a) (x .tick) (x .base) (s .pre .0 .held .stands .area-is) _
+    (now (x .table)) (x .result) _ (c .enum-told2 .given .1) (answered (c .before .before))
 
 returns-3 : tie.Need-returns-3
 returns-3 c =
     let s = c .before .before .before in
-    refused-leaves (storeOf (s .args .s)) (now (s .args .area)) (snapsIn (s .args .s .count) (now (s .args .area))) (s .args .tick) (s .args .base) _ _ (now (s .args .table)) (s .args .result) (c .enum-told3 .given .1) (answered (c .before .before))
+    let x = s .args in
+    let a = now (x .area) in
+    refused-leaves (storeOf (x .s)) a (snapsIn (x .s .count) a) (x .tick) (x .base) (s .pre .0 .held .stands .area-is) _
+    (now (x .table)) (x .result) _ (c .enum-told3 .given .1) (answered (c .before .before))
 
 pub finish-spec : {M : Type 1} → statement M
 finish-spec =

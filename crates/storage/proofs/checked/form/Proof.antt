@@ -1,5 +1,5 @@
 -- `checked::form` meets its contract: by the count of tables, and then by the area. Assumes nothing.
-use Rattle.storage.specs.Told.{too-many, by-area}
+use Rattle.store_area.specs.Stores.{too-many, by-area}
 use Rattle.storage.specs.States.{storeOf}
 use denote.Ref.{now}
 use borrow.Author.Needs.{needs}

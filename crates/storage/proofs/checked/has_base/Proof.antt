@@ -17,13 +17,19 @@ signed-less-requires : tie.Need-signed-less-requires
 signed-less-requires c κs = search needs
 
 returns : tie.Need-returns
-returns c = has-empty (c .before .before .args .tick) (snapsIn (c .before .before .args .count) (now (c .before .before .args .area))) (sym (negative (c .before)) ∙ c .if1 .taken)
+returns c =
+    let x = c .before .before .args in
+    has-empty (x .tick) (snapsIn (x .count) (now (x .area))) (sym (negative (c .before)) ∙ c .if1 .taken)
 
 is-oldest-requires : tie.Need-is-oldest-requires
 is-oldest-requires c κs = c .before .before .pre
 
 returns-2 : tie.Need-returns-2
-returns-2 c = (rw (toZ-ofZ (c .before .before .before .fits .tick)) at (c .is-oldest .ensures)) ∙ ap Store.isHeld (old-base (c .before .before .before .args .tick) (snapsIn (c .before .before .before .args .count) (now (c .before .before .before .args .area))) (sym (negative (c .before .before)) ∙ c .before .if1 .left))
+returns-2 c =
+    let s = c .before .before .before in
+    let n = sym (negative (c .before .before)) ∙ c .before .if1 .left in
+    (rw (toZ-ofZ (s .fits .tick)) at (c .is-oldest .ensures))
+    ∙ ap Store.isHeld (old-base (s .args .tick) (snapsIn (s .args .count) (now (s .args .area))) n)
 
 pub has-base-spec : {M : Type 1} → statement M
 has-base-spec = tie.close (tie.spec signed-less-requires returns is-oldest-requires returns-2)

@@ -12,7 +12,8 @@ use Rattle.storage.proofs.checked.is_oldest.Statement.{statement}
 use Rattle.storage.proofs.checked.is_oldest.Tie as tie
 
 -- the tick of the last table is compared
-compared : (c : tie.After-same) → let s = c .before .before .before .args in c .same .result ≡ same (snapAt (snapsIn (s .count) (now (s .area))) (s .count - 1) .tick) (s .tick)
+compared : (c : tie.After-same)
+    → let s = c .before .before .before .args in c .same .result ≡ same (snapAt (snapsIn (s .count) (now (s .area))) (s .count - 1) .tick) (s .tick)
 compared c =
     rw (toZ-ofZ {w = w32} (record { sfits = c .before .tick-at .ok }), toZ-ofZ (c .before .before .before .fits .tick), c .before .tick-at .ensures) at (c .same .ensures)
 

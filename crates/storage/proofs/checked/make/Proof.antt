@@ -47,7 +47,11 @@ same-length-2 c = search needs
 returns-2 : tie.Need-returns-2
 returns-2 c =
     let s = c .before .before .before .before .before .before .before .args in
-    (judged-none (s .room) (c .before .before .before .before .before .if1 .left) (now (s .delta)) _ (items (now (s .base))) (items (now (s .target))) (c .before .before .before .create2 .result) (c .before .before .before .create2 .ensures .0) _ (c .enum-told .given .1), λ e. omega (arith, e))
+    let m = c .before .before .before .create2 in
+    let b = items (now (s .base)) in
+    let t = items (now (s .target)) in
+    let q = judged-none (s .room) (c .before .before .before .before .before .if1 .left) (now (s .delta)) _ b t (m .result) (m .ensures .0) _ (c .enum-told .given .1) in
+    (q, λ e. omega (arith, e))
 
 same-length-3 : tie.Need-same-length-3
 same-length-3 c = search needs
@@ -55,7 +59,12 @@ same-length-3 c = search needs
 returns-3 : tie.Need-returns-3
 returns-3 c =
     let s = c .before .before .before .before .before .before .before .before .args in
-    (judged-10 (s .room) (c .before .before .before .before .before .before .if1 .left) (now (s .delta)) _ (items (now (s .base))) (items (now (s .target))) (c .before .before .before .before .create2 .result) (c .before .before .before .before .create2 .ensures .0) _ (c .before .key .given .1), rw (toZ-ofZ {w = w32} {z = c .before .key .given .0 .0} (record { sfits = c .known-told .given .0 .1 })) (rw (c .before .key .given .1) at (c .before .before .before .before .create2 .ensures .1)))
+    let m = c .before .before .before .before .create2 in
+    let k = c .before .key .given in
+    let b = items (now (s .base)) in
+    let t = items (now (s .target)) in
+    let q = judged-10 (s .room) (c .before .before .before .before .before .before .if1 .left) (now (s .delta)) _ b t (m .result) (m .ensures .0) _ (k .1) in
+    (q, rw (toZ-ofZ {w = w32} {z = k .0 .0} (record { sfits = c .known-told .given .0 .1 })) (rw (k .1) at (m .ensures .1)))
 
 same-length-4 : tie.Need-same-length-4
 same-length-4 c = search needs
@@ -63,7 +72,11 @@ same-length-4 c = search needs
 returns-4 : tie.Need-returns-4
 returns-4 c =
     let s = c .before .before .before .before .before .before .before .args in
-    (judged-40 (s .room) (c .before .before .before .before .before .if1 .left) (now (s .delta)) _ (items (now (s .base))) (items (now (s .target))) (c .before .before .before .create2 .result) (c .before .before .before .create2 .ensures .0) _ (c .enum-told2 .given .1) (c .before .before .before .create2 .ensures .1), λ e. omega (arith, e))
+    let m = c .before .before .before .create2 in
+    let b = items (now (s .base)) in
+    let t = items (now (s .target)) in
+    let q = judged-40 (s .room) (c .before .before .before .before .before .if1 .left) (now (s .delta)) _ b t (m .result) (m .ensures .0) _ (c .enum-told2 .given .1) (m .ensures .1) in
+    (q, λ e. omega (arith, e))
 
 pub make-spec : {M : Type 1} → statement M
 make-spec =

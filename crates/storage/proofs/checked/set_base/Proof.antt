@@ -1,10 +1,8 @@
 -- `checked::set_base` meets its contract: by the oldest table that is left. Assumes nothing.
 use Rattle.definitions.specs.Storage as Store
-use Rattle.storage.proofs.Bases.{left-held, base-set, base-unknown}
-use Rattle.storage.specs.States.{storeOf}
-use Rattle.store_area.specs.Held.{snapsIn, HeldStore}
+use Rattle.storage.proofs.Bases.{base-set, base-unknown}
+use Rattle.store_area.specs.Held.{snapsIn, Leaves}
 use denote.Ref.{now}
-use lib.ListN.{length}
 use mathlib.Core.List.{List}
 use mathlib.Core.Path.{_≡_, sym, _∙_}
 use mir.Facts.{toZ-ofZ}
@@ -16,29 +14,26 @@ use Rattle.storage.proofs.checked.set_base.Tie as tie
 abbrev L : tie.Start → List Store.StoredSnap
 L s = snapsIn (s .args .s .count) (now (s .args .area))
 
--- what was dropped
-dropped : (c : tie.After-drop-older) → let s = c .before .before in (c .drop-older .result .count ≡ length (Store.dropOlder (s .args .tick) (L s))) × (c .drop-older .last .0 ≡ Store.storeArea (length (now (s .args .area))) (Store.dropOlder (s .args .tick) (L s)))
-dropped c =
-    let e = rw (toZ-ofZ (c .before .before .fits .tick)) at (c .drop-older .ensures) in
-    (e .0, e .2)
+-- those that are left
+abbrev Left : tie.Start → List Store.StoredSnap
+Left s = Store.dropOlder (s .args .tick) (L s)
 
--- what is left is held
-left : (c : tie.After-drop-older) → let s = c .before .before in HeldStore (c .drop-older .last .0) (c .drop-older .result .count) × (snapsIn (c .drop-older .result .count) (c .drop-older .last .0) ≡ Store.dropOlder (s .args .tick) (L s))
-left c =
-    let s = c .before .before in
-    left-held (storeOf (s .args .s)) (now (s .args .area)) (s .args .ints) (s .pre .0) (s .args .tick) _ _ (dropped c .0) (dropped c .1)
+-- what is left
+left : (c : tie.After-drop-older) → let s = c .before .before in let d = c .drop-older in
+    Leaves (now (s .args .area)) (Left s) (d .result .count) (d .result .ints) (d .last .0)
+left c = rw (toZ-ofZ (c .before .before .fits .tick)) at (c .drop-older .ensures)
 
 -- whether the oldest is of the tick
-oldest : (c : tie.After-is-oldest) → let d = c .before .before .before in let s = d .before .before in c .is-oldest .result ≡ Store.isHeld (Store.oldestAt (s .args .tick) (Store.dropOlder (s .args .tick) (L s)))
+oldest : (c : tie.After-is-oldest) → let s = c .before .before .before .before .before in c .is-oldest .result ≡ Store.isHeld (Store.oldestAt (s .args .tick) (Left s))
 oldest c =
     let d = c .before .before .before in
-    rw (toZ-ofZ (d .before .before .fits .tick), left d .1) at (c .is-oldest .ensures)
+    rw (toZ-ofZ (d .before .before .fits .tick), left d .snaps-are) at (c .is-oldest .ensures)
 
 drop-older-requires : tie.Need-drop-older-requires
 drop-older-requires c κs = (c .before .pre .0 .held, c .before .pre .0 .ints-are)
 
 is-oldest-requires : tie.Need-is-oldest-requires
-is-oldest-requires c κs = left (c .before .before) .0
+is-oldest-requires c κs = left (c .before .before) .held
 
 none-requires : tie.Need-none-requires
 none-requires c κs = search needs
@@ -51,9 +46,11 @@ same-length c = search needs
 
 returns : tie.Need-returns
 returns c =
-    let s = c .before .before .before .before .before .before .before .before in
     let d = c .before .before .before .before .before .before in
-    base-set (s .args .s) (now (s .args .area)) (s .args .tick) (c .before .none .result) (s .args .ints) (s .pre .0) (s .pre .1) (c .with-delta .result) _ _ (dropped d .0) (dropped d .1) (c .before .none .ensures) (sym (oldest (c .before .before .before)) ∙ c .before .before .if1 .taken) (rw (toZ-ofZ (s .fits .tick)) at (c .with-delta .ensures))
+    let s = d .before .before in
+    let x = s .args in
+    base-set (x .s) (now (x .area)) (x .tick) (c .before .none .result) (x .ints) (s .pre .0) (s .pre .1) (c .with-delta .result) _ _ _ (left d)
+    (c .before .none .ensures) (sym (oldest (c .before .before .before)) ∙ c .before .before .if1 .taken) (rw (toZ-ofZ (s .fits .tick)) at (c .with-delta .ensures))
 
 none-requires-2 : tie.Need-none-requires-2
 none-requires-2 c κs = search needs
@@ -66,9 +63,11 @@ same-length-2 c = search needs
 
 returns-2 : tie.Need-returns-2
 returns-2 c =
-    let s = c .before .before .before .before .before .before .before .before in
     let d = c .before .before .before .before .before .before in
-    base-unknown (s .args .s) (now (s .args .area)) (s .args .tick) (c .before .none2 .result) (s .args .ints) (s .pre .0) (s .pre .1) (c .without-delta .result) _ _ (dropped d .0) (dropped d .1) (c .before .none2 .ensures) (sym (oldest (c .before .before .before)) ∙ c .before .before .if1 .left) (c .without-delta .ensures)
+    let s = d .before .before in
+    let x = s .args in
+    base-unknown (x .s) (now (x .area)) (x .tick) (c .before .none2 .result) (x .ints) (s .pre .0) (s .pre .1) (c .without-delta .result) _ _ _
+    (left d) (c .before .none2 .ensures) (sym (oldest (c .before .before .before)) ∙ c .before .before .if1 .left) (c .without-delta .ensures)
 
 pub set-base-spec : {M : Type 1} → statement M
 set-base-spec =

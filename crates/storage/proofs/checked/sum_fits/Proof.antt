@@ -15,7 +15,12 @@ same-requires : tie.Need-same-requires
 same-requires c κs = search needs
 
 returns : tie.Need-returns
-returns c = sum-sent (c .before .before .before .before .args .m) (items (now (c .before .before .before .before .args .table))) _ (c .before .before .before .if1 .taken) (rw (toZ-ofZ {w = w32} {z = c .before .before .before .before .args .m .crc} (record { sfits = c .before .struct-told .given .1 .0 .1 }), toZ-ofZ {w = w32} (record { sfits = c .before .before .crc .ok }), c .before .before .crc .ensures) at (c .same .ensures))
+returns c =
+    let x = c .before .before .before .before .args in
+    let k = c .before .before .crc in
+    let z = toZ-ofZ {w = w32} {z = x .m .crc} (record { sfits = c .before .struct-told .given .1 .0 .1 }) in
+    sum-sent (x .m) (items (now (x .table))) _ (c .before .before .before .if1 .taken)
+    (rw (z, toZ-ofZ {w = w32} (record { sfits = k .ok }), k .ensures) at (c .same .ensures))
 
 returns-2 : tie.Need-returns-2
 returns-2 c = no-sum (c .before .args .m) (items (now (c .before .args .table))) (c .if1 .left)

@@ -17,8 +17,11 @@ use Rattle.storage.proofs.checked.take_judged.Statement.{statement}
 use Rattle.storage.proofs.checked.take_judged.Tie as tie
 
 -- whether the tick is new
-newer : (c : tie.After-is-newer) → c .is-newer .result ≡ signedLess (Store.newestTick (snapsIn (c .before .before .before .args .s .count) (now (c .before .before .before .args .area)))) (c .before .before .before .args .m .tick)
-newer c = rw (toZ-ofZ {w = w32} {z = c .before .before .before .args .m .tick} (record { sfits = c .before .struct-told .given .1 .1 .1 .0 .1 })) at (c .is-newer .ensures)
+newer : (c : tie.After-is-newer)
+    → let s = c .before .before .before in c .is-newer .result ≡ signedLess (Store.newestTick (snapsIn (s .args .s .count) (now (s .args .area)))) (s .args .m .tick)
+newer c =
+    let z = c .before .before .before .args .m .tick in
+    rw (toZ-ofZ {w = w32} {z = z} (record { sfits = c .before .struct-told .given .1 .1 .1 .0 .1 })) at (c .is-newer .ensures)
 
 is-newer-requires : tie.Need-is-newer-requires
 is-newer-requires c κs = c .before .before .pre .0 .held
@@ -30,7 +33,13 @@ same-length : tie.Need-same-length
 same-length c = search needs
 
 returns : tie.Need-returns
-returns c = take-30 (storeOf (c .before .before .before .before .before .args .s)) (now (c .before .before .before .before .before .args .area)) (sumOf (c .before .before .before .before .before .args .m)) (c .before .before .before .before .before .args .m .«delta_tick») (c .before .before .before .before .before .args .m .tick) (deltaIn [] (now (c .before .before .before .before .before .args .delta))) (c .before .before .before .before .before .args .ints) (c .before .before .before .before .before .pre .0) (sym (newer (c .before .before)) ∙ not-true _ (c .before .if1 .taken)) ∙ c .not-taken .ensures (now (c .before .before .before .before .before .args .area))
+returns c =
+    let s = c .before .before .before .before .before in
+    let x = s .args in
+    let a = now (x .area) in
+    take-30 (storeOf (x .s)) a (sumOf (x .m)) (x .m .«delta_tick») (x .m .tick) (deltaIn [] (now (x .delta))) (x .ints) (s .pre .0)
+    (sym (newer (c .before .before)) ∙ not-true _ (c .before .if1 .taken))
+    ∙ c .not-taken .ensures a
 
 take-on-requires : tie.Need-take-on-requires
 take-on-requires c κs = c .before .before .before .before .before .before .pre
@@ -42,7 +51,11 @@ same-length-3 : tie.Need-same-length-3
 same-length-3 c = search needs
 
 returns-2 : tie.Need-returns-2
-returns-2 c = take-new (storeOf (c .before .before .before .before .before .before .before .before .before .args .s)) (now (c .before .before .before .before .before .before .before .before .before .args .area)) (sumOf (c .before .before .before .before .before .before .before .before .before .args .m)) (c .before .before .before .before .before .before .before .before .before .args .m .«delta_tick») (c .before .before .before .before .before .before .before .before .before .args .m .tick) (deltaIn [] (now (c .before .before .before .before .before .before .before .before .before .args .delta))) (sym (newer (c .before .before .before .before .before .before)) ∙ not-false _ (c .before .before .before .before .before .if1 .left)) ∙ c .before .before .take-on .ensures
+returns-2 c =
+    let x = c .before .before .before .before .before .before .before .before .before .args in
+    take-new (storeOf (x .s)) (now (x .area)) (sumOf (x .m)) (x .m .«delta_tick») (x .m .tick) (deltaIn [] (now (x .delta)))
+    (sym (newer (c .before .before .before .before .before .before)) ∙ not-false _ (c .before .before .before .before .before .if1 .left))
+    ∙ c .before .before .take-on .ensures
 
 pub take-judged-spec : {M : Type 1} → statement M
 take-judged-spec =

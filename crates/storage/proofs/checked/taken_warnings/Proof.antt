@@ -6,18 +6,18 @@ use borrow.Author.Needs.{needs}
 use Rattle.storage.proofs.checked.taken_warnings.Statement.{statement}
 use Rattle.storage.proofs.checked.taken_warnings.Tie as tie
 
-one-if-requires : tie.Need-one-if-requires
-one-if-requires c κs = search needs
-
 is-weird-requires : tie.Need-is-weird-requires
 is-weird-requires c κs = search needs
 
-one-if-requires-2 : tie.Need-one-if-requires-2
-one-if-requires-2 c κs = search needs
+taken-requires : tie.Need-taken-requires
+taken-requires c κs = search needs
 
 returns : tie.Need-returns
-returns c t = taken-counted (c .before .before .before .args .tick) (c .before .before .before .args .made) _ (c .before .is-weird .result) (weird-by (c .before .before .before .args .tick) (c .before .is-weird .result) (rw (toZ-ofZ (c .before .before .before .fits .tick)) at (c .before .is-weird .ensures))) (rw (c .before .before .one-if .ensures, c .one-if2 .ensures)) t
+returns c t =
+    let s = c .before .before in
+    let w = c .before .is-weird in
+    taken-counted (s .args .tick) (s .args .made) _ (w .result) (weird-by (s .args .tick) (w .result) (rw (toZ-ofZ (s .fits .tick)) at (w .ensures)))
+    (c .taken .ensures) t
 
 pub taken-warnings-spec : {M : Type 1} → statement M
-taken-warnings-spec =
-    tie.close (tie.spec one-if-requires is-weird-requires one-if-requires-2 returns)
+taken-warnings-spec = tie.close (tie.spec is-weird-requires taken-requires returns)

@@ -1,4 +1,7 @@
 -- `checked::weird` meets its contract: by whether the tick is weird. Assumes nothing.
+use mathlib.Core.Path.{sym, ap, _∙_}
+use Rattle.definitions.specs.Warnings.{Counts}
+use Rattle.definitions.specs.Outcome.{ok}
 use Rattle.definitions.specs.Receiver.{same}
 use Rattle.definitions.specs.Storage as Store
 use Rattle.storage.proofs.Bases.{weird-cases}
@@ -12,11 +15,14 @@ use Rattle.storage.proofs.checked.weird.Tie as tie
 is-weird-requires : tie.Need-is-weird-requires
 is-weird-requires c κs = search needs
 
-one-if-requires : tie.Need-one-if-requires
-one-if-requires c κs = search needs
+taken-requires : tie.Need-taken-requires
+taken-requires c κs = search needs
 
 returns : tie.Need-returns
-returns c = rw (c .one-if .ensures, c .before .is-weird .ensures, toZ-ofZ (c .before .before .fits .tick)) (weird-cases (Store.isNegative (c .before .before .args .tick) && not (same (c .before .before .args .tick) (negsuc 0))))
+returns c =
+    let tick = c .before .before .args .tick in
+    weird-cases (Store.isNegative tick && not (same tick (negsuc 0)))
+    ∙ ap (λ (w : Counts). ok tt w) (sym (rw (c .before .is-weird .ensures, toZ-ofZ (c .before .before .fits .tick)) at (c .taken .ensures)))
 
 pub weird-spec : {M : Type 1} → statement M
-weird-spec = tie.close (tie.spec is-weird-requires one-if-requires returns)
+weird-spec = tie.close (tie.spec is-weird-requires taken-requires returns)

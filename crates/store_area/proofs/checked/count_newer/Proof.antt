@@ -3,8 +3,8 @@ use Prim.Native.Nat.{_-_, _≤_}
 use Rattle.definitions.specs.Ints.{signedLess}
 use Rattle.definitions.specs.Storage.{StoredSnap}
 use Rattle.store_area.proofs.Steps.{place-zero, place-turn, here, Newer, newer-start, older-here, newer-turn, none-older}
-use Rattle.store_area.specs.Held.{snapsIn, snapAt}
-use Rattle.store_area.specs.Tables.{placeOf, Entry}
+use Rattle.store_area.specs.Held.{snapsIn, snapAt, placeOf}
+use Rattle.store_area.proofs.Places.{Entry}
 use denote.Ref.{now}
 use mathlib.Core.List.{List}
 use mathlib.Core.Path.{_≡_, sym, _∙_}
@@ -39,9 +39,12 @@ stands c =
     here (now (s .args .area)) (s .args .count) (s .pre) (l .loop .i) (l .loop .p) (omega arith) (l .loop .inv .1)
 
 -- its tick is compared
-compared : (c : tie.After-signed-less Inv-loop μ-loop) → let l = c .before .before .before in let s = l .before in c .signed-less .result ≡ signedLess (snapAt (L s) (l .loop .i) .tick) (s .args .tick)
+compared : (c : tie.After-signed-less Inv-loop μ-loop) → let l = c .before .before .before in let s = l .before in
+    c .signed-less .result ≡ signedLess (snapAt (L s) (l .loop .i) .tick) (s .args .tick)
 compared c =
-    rw (toZ-ofZ {w = w32} (record { sfits = c .before .signed-less-arg .given }), toZ-ofZ (c .before .before .before .before .fits .tick), stands (c .before .before) .tick-is) at (c .signed-less .ensures)
+    let s = c .before .before .before .before in
+    let e = stands (c .before .before) .tick-is in
+    rw (toZ-ofZ {w = w32} (record { sfits = c .before .signed-less-arg .given }), toZ-ofZ (s .fits .tick), e) at (c .signed-less .ensures)
 
 loop-holds : tie.Need-loop-holds Inv-loop μ-loop
 loop-holds c = (search needs, place-zero (L c), newer-start _ _)

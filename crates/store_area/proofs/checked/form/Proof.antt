@@ -14,7 +14,8 @@ abbrev μ-loop : tie.MeasureT-loop
 μ-loop area count i₀ p₀ i p = count - i
 
 -- one more table
-turn : (c : tie.Else1 Inv-loop μ-loop) → let l = c .before .before .before in Walked (now (l .before .args .area)) (l .before .args .count) (l .loop .i + 1) (l .loop .p + (2 + c .before .table-size .result))
+turn : (c : tie.Else1 Inv-loop μ-loop)
+    → let l = c .before .before .before in Walked (now (l .before .args .area)) (l .before .args .count) (l .loop .i + 1) (l .loop .p + (2 + c .before .table-size .result))
 turn c =
     let l = c .before .before .before in
     walk-turn _ _ _ _ (l .loop .inv) _ (c .before .table-size .ensures) (c .before .before .loop-test .taken) (c .if1 .left)

@@ -1,8 +1,8 @@
 -- `checked::place` meets its contract. The loop's invariant: p is the place of the k-th table. Assumes nothing.
 use Prim.Native.Nat.{_-_, _≤_}
 use Rattle.store_area.proofs.Steps.{place-zero, place-turn, here}
-use Rattle.store_area.specs.Held.{snapsIn, snapAt}
-use Rattle.store_area.specs.Tables.{placeOf, Entry}
+use Rattle.store_area.specs.Held.{snapsIn, snapAt, placeOf}
+use Rattle.store_area.proofs.Places.{Entry}
 use denote.Ref.{now}
 use mathlib.Core.Path.{_≡_, ap, _∙_}
 use native.Mathlib.Omega.{arith}
@@ -17,7 +17,8 @@ abbrev μ-loop : tie.MeasureT-loop
 μ-loop area count i k₀ p₀ k p = i - k
 
 -- the k-th table is here
-stands : (c : tie.In-loop Inv-loop μ-loop) → let l = c .before in let a = now (l .before .args .area) in Entry a (l .loop .p) (snapAt (snapsIn (l .before .args .count) a) (l .loop .k))
+stands : (c : tie.In-loop Inv-loop μ-loop)
+    → let l = c .before in let a = now (l .before .args .area) in Entry a (l .loop .p) (snapAt (snapsIn (l .before .args .count) a) (l .loop .k))
 stands c =
     let l = c .before in
     let s = l .before in

@@ -3,7 +3,7 @@ use Prim.Native.Nat.{ℕ, _+_, _-_}
 use Rattle.definitions.specs.Tables.{written}
 use Rattle.store_area.proofs.Steps.{here}
 use Rattle.store_area.specs.Held.{snapsIn, snapAt}
-use Rattle.store_area.specs.Tables.{Entry}
+use Rattle.store_area.proofs.Places.{Entry}
 use denote.Ref.{now}
 use lib.ListN.{length, take, drop}
 use mathlib.Core.Path.{_≡_, ap, _∙_}
@@ -46,11 +46,14 @@ part-result-end c = let e = stands (c .before) in omega (arith, e .room, e .size
 
 returns : tie.Need-returns
 returns c =
-    let p = c .before .before in
-    let e = stands p in
-    let a = now (p .before .args .area) in
-    let k : p .place .result + 2 + c .before .nat-at .result - (p .place .result + 2) ≡ length (written (snapAt (snapsIn (p .before .args .count) a) (p .before .args .i) .snap)) = omega (arith, e .size-is, c .before .nat-at .ensures .0) in
-    ap (λ (n : ℕ). take n (drop (p .place .result + 2) a)) k ∙ e .table-is
+    let q = c .before .before in
+    let p = q .place .result in
+    let x = q .before .args in
+    let e = stands q in
+    let n = c .before .nat-at in
+    let t = snapAt (snapsIn (x .count) (now (x .area))) (x .i) .snap in
+    let k : p + 2 + n .result - (p + 2) ≡ length (written t) = omega (arith, e .size-is, n .ensures .0) in
+    ap (λ (n : ℕ). take n (drop (p + 2) (now (x .area)))) k ∙ e .table-is
 
 pub table-at-spec : {M : Type 1} → statement M
 table-at-spec =

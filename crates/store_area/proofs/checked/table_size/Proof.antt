@@ -1,7 +1,8 @@
 -- `checked::table_size` meets its contract: test by test. Assumes nothing.
 use Rattle.store_area.proofs.Forms.{too-few, too-long, no-table, other-length, table-is}
+use Rattle.table.specs.declared.checked.TableForm.the-variants as tableForm
 use denote.Ref.{now}
-use mathlib.Core.Path.{sym, _∙_}
+use mathlib.Core.Path.{_≡_, sym, _∙_}
 use native.Mathlib.Omega.{arith}
 use borrow.Author.Needs.{needs}
 use Rattle.store_area.proofs.checked.table_size.Statement.{statement}
@@ -56,21 +57,31 @@ enum-told c = search needs
 
 returns-3 : tie.Need-returns-3
 returns-3 c =
-    let s = c .before .before .before .before .before .before .before in
     let n = c .before .before .before .before .before in
-    no-table (now (s .args .area)) (s .args .p) (omega arith) (n .nat-at .result) (n .nat-at .ensures .0) (sym (c .enum-told .given .1) ∙ c .before .before .form .ensures)
+    let x = n .before .before .args in
+    let k = n .nat-at in
+    no-table (now (x .area)) (x .p) (omega arith) (k .result) (k .ensures .0) (sym (c .enum-told .given .1) ∙ c .before .before .form .ensures)
+
+-- the answer of the form check
+formed : (c : tie.After-ints) → let k = c .ints .given .0 in
+    tableForm.Table (k .0) (k .1 .0) ≡ c .before .before .form .result
+formed c = sym (c .ints .given .1)
 
 returns-4 : tie.Need-returns-4
 returns-4 c =
-    let s = c .before .before .before .before .before .before .before .before .before in
     let n = c .before .before .before .before .before .before .before in
-    table-is (now (s .args .area)) (s .args .p) (omega arith) (n .nat-at .result) (n .nat-at .ensures .0) _ _ (sym (c .before .before .ints .given .1) ∙ c .before .before .before .before .form .ensures) (c .if3 .taken)
+    let x = n .before .before .args in
+    let k = n .nat-at in
+    let f = formed (c .before .before) ∙ c .before .before .before .before .form .ensures in
+    table-is (now (x .area)) (x .p) (omega arith) (k .result) (k .ensures .0) _ _ f (c .if3 .taken)
 
 returns-5 : tie.Need-returns-5
 returns-5 c =
-    let s = c .before .before .before .before .before .before .before .before .before in
     let n = c .before .before .before .before .before .before .before in
-    other-length (now (s .args .area)) (s .args .p) (omega arith) (n .nat-at .result) (n .nat-at .ensures .0) _ _ (sym (c .before .before .ints .given .1) ∙ c .before .before .before .before .form .ensures) (c .if3 .left)
+    let x = n .before .before .args in
+    let k = n .nat-at in
+    let f = formed (c .before .before) ∙ c .before .before .before .before .form .ensures in
+    other-length (now (x .area)) (x .p) (omega arith) (k .result) (k .ensures .0) _ _ f (c .if3 .left)
 
 pub table-size-spec : {M : Type 1} → statement M
 table-size-spec =

@@ -1,7 +1,7 @@
 -- `checked::tick_at` meets its contract: the first int at the table's place. Assumes nothing.
 use Rattle.store_area.proofs.Steps.{here}
 use Rattle.store_area.specs.Held.{snapsIn, snapAt}
-use Rattle.store_area.specs.Tables.{Entry}
+use Rattle.store_area.proofs.Places.{Entry}
 use denote.Ref.{now}
 use mathlib.Core.Path.{_∙_}
 use mir.Facts.{toZ-ofZ}

@@ -1,4 +1,4 @@
--- The form check of a store and its area, and what it says. Assumes nothing.
+-- A store beside its area: the check of its form, what the check says, and what the store then holds. Assumes nothing.
 use mathlib.Core.Path.{_≡_, refl, sym, ap, _∙_}
 use mathlib.Core.Bool.{Bool, true, false}
 use mathlib.Core.List.{List}
@@ -9,12 +9,27 @@ use borrow.Author.Tests.{le-leb, lt-leb, leb-true}
 use lib.Dec.{leb}
 use lib.IntN.{ℤ}
 use Rattle.definitions.specs.Storage as Store
-use Rattle.store_area.specs.Held.{formOf, snapsIn}
-use Rattle.store_area.specs.Tables.{stands-found}
+use Rattle.laws.specs.StoreForm.{storeRoom}
+use Rattle.store_area.specs.Held.{formOf, snapsIn, HeldStore}
+use Rattle.store_area.specs.Laid.{stands-found}
 use Rattle.store_area.specs.Tested.{tested}
 use Rattle.store_area.specs.declared.checked.StoreForm.{StoreForm}
 use Rattle.store_area.specs.declared.checked.StoreForm.the-variants as form
-use Rattle.storage.specs.States.{storageForm, holdsIn, Holds}
+
+-- the answer of a store's form check
+abbrev pub storageForm : Option Store.Storage → StoreForm
+storageForm (some h) = form.Tables (storeRoom (h .snaps))
+storageForm none = form.Bad
+
+-- what a store holds whose form was checked
+abbrev pub holdsIn : Store.Store → List ℤ → Store.Storage
+holdsIn s a = record { snaps = snapsIn (s .count) a; ackTick = s .ackTick; deltaTick = s .deltaTick }
+
+-- a store and its area are in form, and the tables take k ints
+pub record Holds (s : Store.Store) (a : List ℤ) (k : ℕ) : Type 0 where
+  pub held : HeldStore a (s .count)
+  pub few : s .count ≤ 100
+  pub ints-are : k ≡ storeRoom (snapsIn (s .count) a)
 
 -- ---- the check
 
