@@ -18,7 +18,7 @@ use Rattle.laws.specs.TableShape.{keys-le}
 use Rattle.laws.specs.TableFind.{Place, absent, present}
 use Rattle.laws.specs.DeltaKeys.{ranks-rise}
 use Rattle.table.specs.Held.{Held}
-use Rattle.delta_reading.specs.Reached.{Under}
+use Rattle.delta_form.specs.Reached.{Under}
 use Rattle.apply_judging.specs.Judging.{DeletedKeys}
 
 -- the keys before a hint are less if the last one of them is

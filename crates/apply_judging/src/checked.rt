@@ -16,19 +16,19 @@ ghost use Rattle.laws.specs.DeltaShape.{Update};
 ghost use Rattle.laws.specs.ApplyJudging.{keptOf, judgeLength, judgeNew, judgeUpdate, judgeUpdates, judgeDelta, hasUnknown};
 ghost use Rattle.table.specs.Held.{Held};
 ghost use Rattle.delta_form.specs.Held.{HeldDelta};
-ghost use Rattle.delta_reading.specs.Reached.{Reached};
+ghost use Rattle.delta_form.specs.Reached.{Reached};
 ghost use Rattle.apply_judging.specs.Judging.{DeletedKeys, deletedOf, judgedOf, Within};
+use delta_form::checked::deleted_from;
+use delta_form::checked::has_deleted;
 use delta_form::checked::next_update;
 use delta_form::checked::update_key;
 use delta_form::checked::update_size;
-use delta_making::checked::has_key;
-use delta_making::checked::next_place;
-use delta_reading::checked::deleted_from;
-use delta_reading::checked::has_deleted;
 use format::Error;
 use table::checked::data_at;
+use table::checked::has_key;
 use table::checked::key_at;
 use table::checked::nat_at;
+use table::checked::next_place;
 
 // The refusal, or how many items and ints the result has.
 pub enum Judged {

@@ -24,12 +24,12 @@ use Rattle.laws.specs.ApplyJudging as laws
 use Rattle.laws.specs.ApplyHalves.{items-rise}
 use Rattle.format.specs.Numbers.{number}
 use Rattle.format.specs.declared.Error.{Error}
+use Rattle.format.specs.Sources.{unknownCounts}
 use Rattle.table.specs.Held.{Held}
 use Rattle.delta_form.specs.Held.{HeldDelta}
 use Rattle.apply_judging.specs.Judging.{judgedOf, Within}
 use Rattle.apply_judging.specs.declared.checked.Judged as code
 use Rattle.apply_judging.specs.declared.checked.Judged.the-variants as judged
-use Rattle.applying.specs.Answers.{unknownCounts}
 
 counts-same : (b : Bool) → laws.unknownCounts b ≡ unknownCounts b
 counts-same true = refl

@@ -4,12 +4,14 @@ ghost use lib.ListN.{length};
 ghost use Rattle.definitions.specs.Areas.{cleared};
 ghost use Rattle.definitions.specs.Tables.{items};
 ghost use Rattle.definitions.specs.DeltaCalls.{clearCall, createCall, writeToIntsCall, writeCall, readFromIntsCall, readCall, createItemDeltaCall, applyItemDeltaCall};
-ghost use Rattle.boundary.specs.Boundary as Boundary;
-ghost use Rattle.boundary.specs.Boundary.{status, warningsOf, output, given, Named};
-use boundary::checked::row;
+ghost use Rattle.format.specs.Totals as Totals;
+ghost use Rattle.boundary.specs.Boundary.{status, warningsOf, output, given};
+ghost use Rattle.capi_deltas.specs.Clashes.{Named};
 use boundary::checked::told;
 use delta_making::Made;
 use format::Error;
+use format::WARNING_KINDS;
+use format::row;
 use packer::IntWrite;
 
 // Writes the empty delta into the front of out.
@@ -95,13 +97,13 @@ pub extern "C" fn cef_delta_read_from_ints(
     out: &mut [i32],
     scratch: &mut [i32],
     count: &mut usize,
-    warnings: &mut [usize; 13],
+    warnings: &mut [usize; WARNING_KINDS],
 ) -> u32
     ensures { λ r. ⌜ r ≡ status (readFromIntsCall (now (src .entry)) (now (sizes .entry)) (now (out .entry)) (length (now (scratch .entry))) .answer) ⌝ }
     ensures { λ _. ⌜ now (out .exit) ≡ readFromIntsCall (now (src .entry)) (now (sizes .entry)) (now (out .entry)) (length (now (scratch .entry))) .out ⌝ }
     ensures { λ _. ⌜ now (scratch .exit) ≡ cleared (now (scratch .entry)) ⌝ }
     ensures { λ _. ⌜ now (count .exit) ≡ output (λ n. n) (now (count .entry)) (readFromIntsCall (now (src .entry)) (now (sizes .entry)) (now (out .entry)) (length (now (scratch .entry))) .answer) ⌝ }
-    ensures { λ _. ⌜ now (warnings .exit) ≡ Boundary.row (warningsOf (readFromIntsCall (now (src .entry)) (now (sizes .entry)) (now (out .entry)) (length (now (scratch .entry))) .answer)) ⌝ }
+    ensures { λ _. ⌜ now (warnings .exit) ≡ Totals.row (warningsOf (readFromIntsCall (now (src .entry)) (now (sizes .entry)) (now (out .entry)) (length (now (scratch .entry))) .answer)) ⌝ }
 {
     let read = delta::read_from_ints(src, sizes, out, scratch);
     *warnings = row(read.warnings);
@@ -117,13 +119,13 @@ pub extern "C" fn cef_delta_read(
     out: &mut [i32],
     scratch: &mut [i32],
     count: &mut usize,
-    warnings: &mut [usize; 13],
+    warnings: &mut [usize; WARNING_KINDS],
 ) -> u32
     ensures { λ r. ⌜ r ≡ status (readCall (now (src .entry)) (now (sizes .entry)) (now (out .entry)) (length (now (scratch .entry))) .answer) ⌝ }
     ensures { λ _. ⌜ now (out .exit) ≡ readCall (now (src .entry)) (now (sizes .entry)) (now (out .entry)) (length (now (scratch .entry))) .out ⌝ }
     ensures { λ _. ⌜ now (scratch .exit) ≡ cleared (now (scratch .entry)) ⌝ }
     ensures { λ _. ⌜ now (count .exit) ≡ output (λ n. n) (now (count .entry)) (readCall (now (src .entry)) (now (sizes .entry)) (now (out .entry)) (length (now (scratch .entry))) .answer) ⌝ }
-    ensures { λ _. ⌜ now (warnings .exit) ≡ Boundary.row (warningsOf (readCall (now (src .entry)) (now (sizes .entry)) (now (out .entry)) (length (now (scratch .entry))) .answer)) ⌝ }
+    ensures { λ _. ⌜ now (warnings .exit) ≡ Totals.row (warningsOf (readCall (now (src .entry)) (now (sizes .entry)) (now (out .entry)) (length (now (scratch .entry))) .answer)) ⌝ }
 {
     let read = delta::read(src, sizes, out, scratch);
     *warnings = row(read.warnings);

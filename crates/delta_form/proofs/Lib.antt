@@ -1,3 +1,5 @@
 -- Facts that the proofs of `delta_form` share. Assumes nothing.
 pub mod Sizes
 pub mod Turns
+pub mod Ranks
+pub mod Laying

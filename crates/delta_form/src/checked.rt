@@ -1,17 +1,23 @@
 // Ints that begin with a delta under known sizes: the test of their form, and functions on ints that passed it.
 ghost use mathlib.Core.Path.{_≡_};
-ghost use mathlib.Core.List.{[]};
-ghost use Prim.Native.Nat.{_+_, _<_, _≤_, _^_};
+ghost use mathlib.Core.Bool.{_&&_};
+ghost use mathlib.Core.List.{[], _∷_};
+ghost use Prim.Native.Nat.{_+_, _/_, _%_, _<_, _≤_, _^_};
+ghost use lib.Dec.{ltb, eqb};
+ghost use lib.IntN.{pos};
 ghost use lib.ListN.{length, take, drop};
 ghost use Rattle.definitions.specs.Ints.{bits};
+ghost use Rattle.definitions.specs.Areas.{layAt};
 ghost use Rattle.definitions.specs.Tables.{nat, all};
-ghost use Rattle.definitions.specs.Deltas.{knownSize, updateKey, dataAt, sizeAt, updateEnd, deletedFits};
+ghost use Rattle.definitions.specs.Deltas.{rank, deletedAt, knownSize, updateKey, dataAt, sizeAt, updateEnd, deletedFits};
 ghost use Rattle.definitions.specs.Deltas as Deltas;
 ghost use Rattle.laws.specs.DeltaShape.{Update};
+ghost use Rattle.delta_form.specs.Reached.{Under, Reached};
 ghost use Rattle.delta_form.specs.Held.{sizeFrom, formOf, endOf, updatesFormOf};
 use table::checked::bits_at;
 use table::checked::count_at;
 use table::checked::nat_at;
+use table::checked::put;
 
 // Whether some ints begin with a delta under known sizes; if so, its numbers of deleted keys, of updates and of ints.
 pub enum DeltaForm {
@@ -246,4 +252,50 @@ pub fn form(area: &[i32], sizes: &[i32]) -> DeltaForm
         updated,
         ints,
     }
+}
+
+// The place of the first deleted key not below key in signed order, from start on; all keys before start are below it.
+pub fn deleted_from(src: &[i32], deleted: usize, start: usize, key: i32) -> usize
+    requires { ⌜ (3 + deleted ≤ length (now src)) × (start ≤ deleted) × Under (now src) start (rank (bits key)) ⌝ }
+    ensures { λ r. ⌜ Reached (now (src .entry)) deleted r (rank (bits key)) ⌝ }
+{
+    let mut i = start;
+    while i < deleted {
+        if !ints::signed_less(src[3 + i], key) {
+            return i;
+        }
+        i += 1;
+    }
+    i
+}
+
+// Whether there is an i-th deleted key and it equals key.
+pub fn has_deleted(src: &[i32], deleted: usize, i: usize, key: i32) -> bool
+    requires { ⌜ 3 + deleted ≤ length (now src) ⌝ }
+    ensures { λ r. ⌜ r ≡ (ltb i deleted && eqb (deletedAt (now (src .entry)) i) (bits key)) ⌝ }
+{
+    if i < deleted {
+        return src[3 + i] == key;
+    }
+    false
+}
+
+// Writes three counts into out from place at on.
+pub fn put_counts(out: &mut [i32], at: usize, a: usize, b: usize, c: usize)
+    requires { ⌜ (at + 3 ≤ length (now out)) × (a < 2 ^ 31) × (b < 2 ^ 31) × (c < 2 ^ 31) ⌝ }
+    ensures { λ _. ⌜ now (out .exit) ≡ layAt at (pos a ∷ pos b ∷ pos c ∷ []) (now (out .entry)) ⌝ }
+{
+    put(out, at, a);
+    put(out, at + 1, b);
+    put(out, at + 2, c);
+}
+
+// Writes the type, the id and the size of an update into out from place at on.
+pub fn write_head(out: &mut [i32], at: usize, key: i32, size: usize)
+    requires { ⌜ (at + 3 ≤ length (now out)) × (size < 2 ^ 31) ⌝ }
+    ensures { λ _. ⌜ now (out .exit) ≡ layAt at (pos (bits key / 65536) ∷ pos (bits key % 65536) ∷ pos size ∷ []) (now (out .entry)) ⌝ }
+{
+    let raw_type_id = format::key_to_raw_type_id(key) as usize;
+    let id = format::key_to_id(key) as usize;
+    put_counts(out, at, raw_type_id, id, size);
 }

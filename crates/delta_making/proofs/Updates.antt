@@ -13,7 +13,7 @@ use Rattle.definitions.specs.Ints.{wrappingSub}
 use Rattle.definitions.specs.Areas.{layAt}
 use Rattle.definitions.specs.Tables.{Item, Table, find, isSome, valuesAt}
 use Rattle.definitions.specs.DeltaMaking.{zipWith, agree, differences}
-use Rattle.laws.specs.AreaLaws.{layAt-set, layAt-nothing, layAt-append}
+use Rattle.laws.specs.AreaLaws.{layAt-append}
 use Rattle.laws.specs.ZipLaws.{length-differences}
 use Rattle.laws.specs.TableShape.{bounds}
 use Rattle.laws.specs.TableForm.{length-vals}
@@ -49,19 +49,6 @@ module _ (o : Option (List ℤ)) (v : List ℤ) where
     as-long a = sym (eqb-true (length w) (length v) (rw e at a))
 
 -- ---- a written update
-
--- three ints stored one after the other
-pub three-laid : (o o₁ o₂ o₃ : List ℤ) (at : ℕ) (x y z : ℤ) → at + 3 ≤ length o → o₁ ≡ set o at x → o₂ ≡ set o₁ (at + 1) y → o₃ ≡ set o₂ (at + 2) z → o₃ ≡ layAt at (x ∷ y ∷ z ∷ []) o
-three-laid o o₁ o₂ o₃ at x y z h e f g =
-    let n₁ : length o₁ ≡ length o = ap length e ∙ length-set o at x in
-    let n₂ : length o₂ ≡ length o₁ = ap length f ∙ length-set o₁ (at + 1) y in
-    let k : at + 1 + 1 ≡ at + 2 = omega arith in
-    sym
-    (layAt-set at x (y ∷ z ∷ []) o (omega arith)
-    ∙ (ap (layAt (at + 1) (y ∷ z ∷ [])) (sym e)
-    ∙ (layAt-set (at + 1) y (z ∷ []) o₁ (omega arith)
-    ∙ (ap₂ (λ (i : ℕ) (l : List ℤ). layAt i (z ∷ []) l) k (sym f)
-    ∙ (layAt-set (at + 2) z [] o₂ (omega arith) ∙ (layAt-nothing (at + 2 + 1) (set o₂ (at + 2) z) ∙ sym g))))))
 
 module _ (b : Table) (x : Item) (a : agree (find (x .key) b) (x .values) ≡ true) where
   pub length-change : length (changeInts b x) ≡ 3 + length (x .values)

@@ -18,39 +18,12 @@ ghost use Rattle.table.specs.Held.{Held};
 ghost use Rattle.delta_making.specs.Answers.{createdInts, madeInts, Clash};
 ghost use Rattle.delta_making.specs.Parts.{part, deletedInts, changeInts, changesInts, DifferingAt};
 
-// The place of a key, searched from an item on before which all keys are less.
-pub fn next_place(area: &[i32], n: usize, from: usize, key: i32) -> usize
-    requires { ⌜ Held (now area) n × (from ≤ n) × ((i : ℕ) → i < from → keyAt (now area) i < bits key) ⌝ }
-    ensures { λ r. ⌜ Place (now (area .entry)) (bits key) r ⌝ }
-{
-    let mut i = from;
-    while i < n {
-        if ints::unsigned_less(table::checked::key_at(area, n, i), key) {
-            i += 1;
-        } else {
-            return i;
-        }
-    }
-    i
-}
-
-// Whether the item at a key's place has that key.
-pub fn has_key(area: &[i32], n: usize, place: usize, key: i32) -> bool
-    requires { ⌜ Held (now area) n × Place (now area) (bits key) place ⌝ }
-    ensures { λ r. ⌜ r ≡ isSome (find (bits key) (items (now (area .entry)))) ⌝ }
-{
-    if place < n {
-        return table::checked::key_at(area, n, place) == key;
-    }
-    false
-}
-
 // Whether item i of the target is as long as the base's item with its key, if there is one; p is the key's place in the base.
 pub fn is_as_long(base: &[i32], nb: usize, p: usize, target: &[i32], nt: usize, i: usize) -> bool
     requires { ⌜ Held (now base) nb × Held (now target) nt × (i < nt) × Place (now base) (keyAt (now target) i) p ⌝ }
     ensures { λ r. ⌜ r ≡ agree (find (keyAt (now (target .entry)) i) (items (now (base .entry)))) (valuesAt (now (target .entry)) i) ⌝ }
 {
-    if has_key(base, nb, p, table::checked::key_at(target, nt, i)) {
+    if table::checked::has_key(base, nb, p, table::checked::key_at(target, nt, i)) {
         let from = table::checked::data_at(base, nb, p);
         let to = table::checked::data_at(target, nt, i);
         return from.len() == to.len();
@@ -66,7 +39,7 @@ pub fn find_differing(base: &[i32], nb: usize, target: &[i32], nt: usize) -> usi
     let mut i = 0;
     let mut p = 0;
     while i < nt {
-        p = next_place(base, nb, p, table::checked::key_at(target, nt, i));
+        p = table::checked::next_place(base, nb, p, table::checked::key_at(target, nt, i));
         if is_as_long(base, nb, p, target, nt, i) {
             i += 1;
         } else {
@@ -86,8 +59,8 @@ pub fn count_deleted(base: &[i32], nb: usize, target: &[i32], nt: usize) -> usiz
     let mut deleted: usize = 0;
     while i < nb {
         let key = table::checked::key_at(base, nb, i);
-        p = next_place(target, nt, p, key);
-        deleted += ints::one_if(!has_key(target, nt, p, key));
+        p = table::checked::next_place(target, nt, p, key);
+        deleted += ints::one_if(!table::checked::has_key(target, nt, p, key));
         i += 1;
     }
     deleted
@@ -114,35 +87,15 @@ pub fn write_deleted(
     let mut w = at;
     while i < to {
         let key = table::checked::key_at(base, nb, i);
-        p = next_place(target, nt, p, key);
+        p = table::checked::next_place(target, nt, p, key);
         i += 1;
-        if has_key(target, nt, p, key) {
+        if table::checked::has_key(target, nt, p, key) {
             continue;
         }
         out[w] = key;
         w += 1;
     }
     w
-}
-
-// Writes three counts into out from place at on.
-pub fn put_counts(out: &mut [i32], at: usize, a: usize, b: usize, c: usize)
-    requires { ⌜ (at + 3 ≤ length (now out)) × (a < 2 ^ 31) × (b < 2 ^ 31) × (c < 2 ^ 31) ⌝ }
-    ensures { λ _. ⌜ now (out .exit) ≡ layAt at (pos a ∷ pos b ∷ pos c ∷ []) (now (out .entry)) ⌝ }
-{
-    table::checked::put(out, at, a);
-    table::checked::put(out, at + 1, b);
-    table::checked::put(out, at + 2, c);
-}
-
-// Writes the type, the id and the size of an update into out from place at on.
-pub fn write_head(out: &mut [i32], at: usize, key: i32, size: usize)
-    requires { ⌜ (at + 3 ≤ length (now out)) × (size < 2 ^ 31) ⌝ }
-    ensures { λ _. ⌜ now (out .exit) ≡ layAt at (pos (bits key / 65536) ∷ pos (bits key % 65536) ∷ pos size ∷ []) (now (out .entry)) ⌝ }
-{
-    let raw_type_id = format::key_to_raw_type_id(key) as usize;
-    let id = format::key_to_id(key) as usize;
-    put_counts(out, at, raw_type_id, id, size);
 }
 
 // Writes the update of item i of the target, whose key has place p in the base, into out. Returns the place after it.
@@ -165,8 +118,8 @@ pub fn write_update(
     let key = table::checked::key_at(target, nt, i);
     let to = table::checked::data_at(target, nt, i);
     let end = at + 3 + to.len();
-    write_head(out, at, key, to.len());
-    if has_key(base, nb, p, key) {
+    delta_form::checked::write_head(out, at, key, to.len());
+    if table::checked::has_key(base, nb, p, key) {
         let from = table::checked::data_at(base, nb, p);
         ints::checked::sub_into(out, at + 3, to, from);
         return end;
@@ -195,7 +148,7 @@ pub fn write_updates(
     let mut p = 0;
     let mut w = at;
     while i < to {
-        p = next_place(base, nb, p, table::checked::key_at(target, nt, i));
+        p = table::checked::next_place(base, nb, p, table::checked::key_at(target, nt, i));
         w = write_update(base, nb, p, target, nt, i, out, w);
         i += 1;
     }
@@ -218,7 +171,7 @@ pub fn write_delta(
 {
     let b = table::checked::walk_start(base, nb);
     let t = table::checked::walk_start(target, nt);
-    put_counts(out, 0, deleted, nt, 0);
+    delta_form::checked::put_counts(out, 0, deleted, nt, 0);
     let w1 = write_deleted(base, nb, b, nb, target, nt, out, 3);
     let w2 = write_deleted(base, nb, 0, b, target, nt, out, w1);
     let w3 = write_updates(base, nb, target, nt, t, nt, out, w2);

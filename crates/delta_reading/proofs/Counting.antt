@@ -18,8 +18,8 @@ use Rattle.laws.specs.DeltaShape.{DeletedKey, Update, update}
 use Rattle.laws.specs.DeltaRestores.{key-below}
 use Rattle.laws.specs.DeltaReadBack.{deleteUpdates}
 use Rattle.delta_form.specs.Held.{HeldDelta}
-use Rattle.delta_reading.specs.Answers.{deletedCounts}
-use Rattle.delta_reading.specs.Reached.{Under, Reached, elem-reached}
+use Rattle.format.specs.Sources.{deletedCounts}
+use Rattle.delta_form.specs.Reached.{Under, Reached, elem-reached}
 
 -- one more, or not
 one-more : (t : ℕ) (b : Bool) → plus (deletedCounts t) (cond b (one DeleteUpdate) Warnings.none) ≡ deletedCounts (t + cond b 1 0)

@@ -1,6 +1,5 @@
 -- Facts that the proofs of `delta_reading` share. Assumes nothing.
 pub mod Turns
 pub mod Whole
-pub mod Ranks
 pub mod Counting
 pub mod Reading

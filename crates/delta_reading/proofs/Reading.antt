@@ -18,8 +18,8 @@ use Rattle.laws.specs.DeltaReadBack.{deleteUpdates, readBack}
 use Rattle.laws.specs.DeltaOrdered.{form-reads, delta-stored}
 use Rattle.format.specs.Answers.{storedInts, storedWith, with-counts}
 use Rattle.format.specs.declared.Stored.{Stored}
+use Rattle.format.specs.Sources.{deletedCounts}
 use Rattle.delta_form.specs.Held.{HeldDelta}
-use Rattle.delta_reading.specs.Answers.{deletedCounts}
 
 pub ordered-read : (sizes a : List ℤ) (k u n : ℕ) → HeldDelta sizes a k u → length a ≡ updatesEnd sizes a (3 + numDeleted a) (numUpdated a) → (before last : List ℤ) (r : Stored) → stored before (return (writtenDelta (deltaIn sizes a))) ≡ record { answer = storedInts r; out = last } → deleteUpdates (deltaIn sizes a .deleted) (deltaIn sizes a .updated) ≡ deletedCounts n → (s : Stream) → ints s ≡ a → isCut s ≡ false → storedDelta before (readDelta sizes s) ≡ record { answer = storedWith r (plus (warnings s) (deletedCounts n)); out = last }
 ordered-read sizes a k u n h end before last r e d s i c =

@@ -15,11 +15,14 @@ ghost use Rattle.definitions.specs.Deltas as Deltas;
 ghost use Rattle.laws.specs.DeltaShape.{updatesEnd, Update, Updates};
 ghost use Rattle.laws.specs.DeltaReadBack.{deleteUpdates};
 ghost use Rattle.format.specs.Answers.{storedInts};
+ghost use Rattle.format.specs.Sources.{deletedCounts};
 ghost use Rattle.delta_form.specs.Held.{HeldDelta};
-ghost use Rattle.delta_reading.specs.Answers.{deletedCounts, OrderedRead};
-ghost use Rattle.delta_reading.specs.Reached.{Under, Reached};
+ghost use Rattle.delta_reading.specs.Answers.{OrderedRead};
+ghost use Rattle.delta_form.specs.Reached.{Under, Reached};
 use delta_form::checked::DeltaForm;
+use delta_form::checked::deleted_from;
 use delta_form::checked::form;
+use delta_form::checked::has_deleted;
 use delta_form::checked::known_size;
 use delta_form::checked::size_at;
 use delta_form::checked::update_data;
@@ -148,32 +151,6 @@ fn write_whole(
         return copy_whole(src, out);
     }
     write_area(src, sizes, deleted, updated, out)
-}
-
-// The place of the first deleted key not below key in signed order, from start on; all keys before start are below it.
-pub fn deleted_from(src: &[i32], deleted: usize, start: usize, key: i32) -> usize
-    requires { ⌜ (3 + deleted ≤ length (now src)) × (start ≤ deleted) × Under (now src) start (rank (bits key)) ⌝ }
-    ensures { λ r. ⌜ Reached (now (src .entry)) deleted r (rank (bits key)) ⌝ }
-{
-    let mut i = start;
-    while i < deleted {
-        if !ints::signed_less(src[3 + i], key) {
-            return i;
-        }
-        i += 1;
-    }
-    i
-}
-
-// Whether there is an i-th deleted key and it equals key.
-pub fn has_deleted(src: &[i32], deleted: usize, i: usize, key: i32) -> bool
-    requires { ⌜ 3 + deleted ≤ length (now src) ⌝ }
-    ensures { λ r. ⌜ r ≡ (ltb i deleted && eqb (deletedAt (now (src .entry)) i) (bits key)) ⌝ }
-{
-    if i < deleted {
-        return src[3 + i] == key;
-    }
-    false
 }
 
 // How many updates are of deleted keys, by one walk along both lists, which rise in signed order.

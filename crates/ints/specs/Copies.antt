@@ -2,12 +2,12 @@
 use mathlib.Core.Path.{_≡_, refl, sym, ap}
 use mathlib.Core.List.{List}
 use mathlib.Core.Bool.{Bool, true, false, cond}
-use Prim.Native.Nat.{ℕ, _+_, _≤_}
+use Prim.Native.Nat.{ℕ, _+_, _-_, _≤_}
 use native.Mathlib.Nat.{zero-add}
 use borrow.Author.Tests.{le-leb}
 use lib.Dec.{leb}
 use lib.IntN.{ℤ}
-use lib.ListN.{length}
+use lib.ListN.{length, take, drop}
 use Rattle.definitions.specs.Areas.{lay, layAt, fitsAt}
 use Rattle.definitions.specs.Refusals.{capacityError}
 use Rattle.definitions.specs.Outcome.{return, refuse, Wrote}
@@ -43,3 +43,7 @@ copy-stored out xs = rw (zero-add (length xs)) (by-room (leb (length xs) (length
     by-room : (b : Bool) → cond b (record { answer = return (length xs); out = lay xs out }) (record { answer = refuse capacityError; out = out }) ≡ storedBy (length xs) (cond b (record { fits = true; out = lay xs out }) (record { fits = false; out = out }))
     by-room true = refl
     by-room false = refl
+
+-- the ints between two places moved up; what they overwrite is lost
+unfoldable pub shifted : List ℤ → ℕ → ℕ → ℕ → List ℤ
+shifted a from to by = layAt (from + by) (take (to - from) (drop from a)) a

@@ -1,4 +1,4 @@
-// Sums and differences of two slices of equal length, and copies of bytes, into a slice that has room for them.
+// Sums and differences of two slices of equal length, copies of bytes, and ints moved up, in a slice that has room for them.
 ghost use mathlib.Core.Path.{_≡_};
 ghost use Prim.Native.Nat.{_+_, _<_, _≤_};
 ghost use lib.IntN.{pos};
@@ -6,6 +6,7 @@ ghost use lib.ListN.{length, getD, drop};
 ghost use Rattle.definitions.specs.Ints.{wrappingAdd, wrappingSub};
 ghost use Rattle.definitions.specs.Areas.{layAt};
 ghost use Rattle.definitions.specs.DeltaMaking.{zipWith};
+ghost use Rattle.ints.specs.Copies.{shifted};
 
 // The sum of entry i of both slices.
 fn sum_at(a: &[i32], b: &[i32], i: usize) -> i32
@@ -76,5 +77,17 @@ pub fn copy_bytes(out: &mut [u8], at: usize, xs: &[u8])
     while i < xs.len() {
         out[at + i] = xs[i];
         i += 1;
+    }
+}
+
+// Moves the ints between two places up, the last one first.
+pub fn shift(area: &mut [i32], from: usize, to: usize, by: usize)
+    requires { ⌜ (from ≤ to) × (to + by ≤ length (now area)) ⌝ }
+    ensures { λ _. ⌜ now (area .exit) ≡ shifted (now (area .entry)) from to by ⌝ }
+{
+    let mut i = to;
+    while from < i {
+        i -= 1;
+        area[i + by] = area[i];
     }
 }

@@ -5,6 +5,7 @@ ghost use Prim.Native.Nat.{_≤_, _^_};
 ghost use Rattle.definitions.specs.Ints.{bits, fromBits, wrappingAdd, wrappingSub, signedLess, unsignedLess};
 ghost use Rattle.definitions.specs.Ints as Ints;
 ghost use Rattle.definitions.specs.Areas.{cleared};
+ghost use Rattle.definitions.specs.Receiver.{same};
 ghost use Rattle.definitions.specs.Tables as Tables;
 ghost use Rattle.ints.specs.Copies.{copyAt};
 
@@ -68,6 +69,13 @@ pub fn unsigned_less(a: i32, b: i32) -> bool
     ensures { λ r. ⌜ r ≡ unsignedLess a b ⌝ }
 {
     to_bits(a) < to_bits(b)
+}
+
+// Whether two ints are equal.
+pub fn same(a: i32, b: i32) -> bool
+    ensures { λ r. ⌜ r ≡ same a b ⌝ }
+{
+    to_bits(a) == to_bits(b)
 }
 
 // The sum of all entries, modulo 2^32.

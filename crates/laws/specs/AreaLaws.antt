@@ -4,7 +4,7 @@ use mathlib.Core.List.{List, [], _∷_, _++_}
 use Prim.Native.Nat.{ℕ, zero, suc, _+_, _≤_, _<_}
 use native.Mathlib.Numerals.{add-one}
 use native.Mathlib.Omega.{arith}
-use native.Mathlib.Nat.{add-assoc, add-zero}
+use native.Mathlib.Nat.{add-assoc, add-zero, zero-add}
 use lib.ListN.{length, take, drop, getD, set, drop-of-length-le}
 use lib.Seq.{drop-cons, take-append-seam}
 use lib.IntN.{ℤ, pos}
@@ -55,6 +55,14 @@ module _ {E : Type 0} where
   lay-append [] area h = refl
   lay-append (x ∷ xs) [] h = let z : ⊥ = omega arith in absurd z
   lay-append (x ∷ xs) (a ∷ area) h = ap (λ (l : List E). x ∷ l) (lay-append xs area (omega arith))
+
+  -- what fits comes between what was before it and after it
+  pub layAt-between : (n : ℕ) (xs area : List E) → n + length xs ≤ length area → layAt n xs area ≡ take n area ++ (xs ++ drop (n + length xs) area)
+  layAt-between zero xs area h = rw zero-add (lay-append xs area (omega arith))
+  layAt-between (suc n) xs [] h = let z : ⊥ = omega arith in absurd z
+  layAt-between (suc n) xs (a ∷ area) h =
+      let e : suc n + length xs ≡ suc (n + length xs) = omega arith in
+      rw e (ap (λ (l : List E). a ∷ l) (layAt-between n xs area (omega arith)))
 
   -- one more entry of a list is copied
   pub layAt-copy : (at i : ℕ) (d : E) (xs area : List E) → i < length xs → at + i < length area → layAt (at + i) (drop i xs) area ≡ layAt (at + (i + 1)) (drop (i + 1) xs) (set area (at + i) (getD xs i d))

@@ -16,7 +16,7 @@ use super::Logbook;
 use super::Note;
 use format::Error;
 use gamenet_snap::SnapMsg;
-use receiver::checked::same;
+use ints::same;
 
 // Whether one of two holds.
 fn either(a: bool, b: bool) -> bool

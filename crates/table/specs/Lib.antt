@@ -4,3 +4,4 @@ pub mod Offsets
 pub mod Keys
 pub mod Forms
 pub mod Writing
+pub mod Finding

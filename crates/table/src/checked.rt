@@ -7,7 +7,7 @@ ghost use lib.IntN.{pos};
 ghost use lib.ListN.{length, getD, take, drop, set};
 ghost use lib.Signed.{mag};
 ghost use Rattle.definitions.specs.Ints.{bits};
-ghost use Rattle.definitions.specs.Tables.{tableOf, items, all, ends, fits, count, start, keyAt, valuesAt, itemAt, walk, nat};
+ghost use Rattle.definitions.specs.Tables.{tableOf, items, find, isSome, all, ends, fits, count, start, keyAt, valuesAt, itemAt, walk, nat};
 ghost use Rattle.definitions.specs.Tables as Tables;
 ghost use Rattle.definitions.specs.TableCalls.{nth};
 ghost use Rattle.laws.specs.TableFind.{Place};
@@ -382,4 +382,31 @@ pub fn put(area: &mut [i32], i: usize, v: usize)
     ensures { λ _. ⌜ now (area .exit) ≡ set (now (area .entry)) i (pos v) ⌝ }
 {
     area[i] = v as i32;
+}
+
+// The place of a key, searched from an item on before which all keys are less.
+pub fn next_place(area: &[i32], n: usize, from: usize, key: i32) -> usize
+    requires { ⌜ Held (now area) n × (from ≤ n) × ((i : ℕ) → i < from → keyAt (now area) i < bits key) ⌝ }
+    ensures { λ r. ⌜ Place (now (area .entry)) (bits key) r ⌝ }
+{
+    let mut i = from;
+    while i < n {
+        if ints::unsigned_less(key_at(area, n, i), key) {
+            i += 1;
+        } else {
+            return i;
+        }
+    }
+    i
+}
+
+// Whether the item at a key's place has that key.
+pub fn has_key(area: &[i32], n: usize, place: usize, key: i32) -> bool
+    requires { ⌜ Held (now area) n × Place (now area) (bits key) place ⌝ }
+    ensures { λ r. ⌜ r ≡ isSome (find (bits key) (items (now (area .entry)))) ⌝ }
+{
+    if place < n {
+        return key_at(area, n, place) == key;
+    }
+    false
 }

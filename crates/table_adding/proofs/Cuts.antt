@@ -9,7 +9,8 @@ use lib.ListN.{length, take, drop, set, length-append, length-map}
 use lib.Seq.{set-at}
 use borrow.Rule.Slice.PartMut.{putMid}
 use Rattle.ints.specs.Copies.{copyAt}
-use Rattle.table_adding.specs.Adding.{raised, shifted}
+use Rattle.ints.specs.Copies.{shifted}
+use Rattle.table_adding.specs.Adding.{raised}
 use Rattle.table_adding.proofs.Parts.{move, part-of, put-part, filled}
 
 -- an area with a table of n items, cut where item p begins, and d + 2 ints after the table

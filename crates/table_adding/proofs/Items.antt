@@ -13,7 +13,8 @@ use Rattle.definitions.specs.Tables.{Item, Table, body, offsets, written, inser
 use Rattle.laws.specs.AreaLaws.{lay-append}
 use Rattle.laws.specs.TableShape.{start-first, start-least, start-within}
 use Rattle.laws.specs.TableForm.{length-list, length-offsets, length-body, length-form, length-written, body-append, restores}
-use Rattle.table_adding.specs.Adding.{shifted, Room}
+use Rattle.ints.specs.Copies.{shifted}
+use Rattle.table_adding.specs.Adding.{Room}
 use Rattle.table_adding.proofs.Inserting.{before, behind, parted, inserted, offset-within, length-with, length-body-with, length-written-with, written-parts, written-with}
 use Rattle.table_adding.proofs.Cuts.{Cut, Steps, raised-part, leaves}
 

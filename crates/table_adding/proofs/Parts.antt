@@ -12,8 +12,8 @@ use borrow.Author.Tests.{le-leb}
 use borrow.Rule.Slice.PartMut.{putMid}
 use Rattle.laws.specs.AreaLaws.{lay-append}
 use Rattle.ints.specs.Copies.{Copied, copyAt}
-use Rattle.table_adding.specs.Adding.{shifted}
-use Rattle.table_adding.proofs.Turns.{layAt-between}
+use Rattle.laws.specs.AreaLaws.{layAt-between}
+use Rattle.ints.specs.Copies.{shifted}
 
 -- M was moved up; the contents of the gap before it do not matter
 pub record Moved (L M R : List ℤ) (by : ℕ) (l : List ℤ) : Type 0 where

@@ -13,10 +13,6 @@ use Rattle.table.specs.Held.{Held}
 abbrev pub raised : ℕ → ℤ → ℤ
 raised by z = pos (num z + by)
 
--- the ints between two places moved up; what they overwrite is lost
-unfoldable pub shifted : List ℤ → ℕ → ℕ → ℕ → List ℤ
-shifted a from to by = layAt (from + by) (take (to - from) (drop from a)) a
-
 -- an area holds a table of n items, none of which has the key k; p is the place of k
 pub record New (a : List ℤ) (n k p : ℕ) : Type 0 where
   pub held : Held a n

@@ -10,21 +10,9 @@ ghost use Rattle.definitions.specs.Areas.{lay};
 ghost use Rattle.definitions.specs.Tables.{nat, items, count, size, insert, written};
 ghost use Rattle.definitions.specs.TableReading.{addItem};
 ghost use Rattle.definitions.specs.TableCalls.{storedTable};
-ghost use Rattle.table_adding.specs.Adding.{raised, shifted, Room};
+ghost use Rattle.table_adding.specs.Adding.{raised, Room};
 ghost use Rattle.format.specs.Answers.{storedInts};
 ghost use Rattle.table.specs.Held.{Held};
-
-// Moves the ints between two places up, the last one first.
-pub fn shift(area: &mut [i32], from: usize, to: usize, by: usize)
-    requires { ⌜ (from ≤ to) × (to + by ≤ length (now area)) ⌝ }
-    ensures { λ _. ⌜ now (area .exit) ≡ shifted (now (area .entry)) from to by ⌝ }
-{
-    let mut i = to;
-    while from < i {
-        i -= 1;
-        area[i + by] = area[i];
-    }
-}
 
 // Adds by to each count of a part of the area.
 pub fn raise(part: &mut [i32], by: usize)
@@ -46,8 +34,8 @@ pub fn write_item(area: &mut [i32], n: usize, ints: usize, p: usize, key: i32, d
     let more = data.len() + 1;
     let from = table::checked::start_at(area, n, p);
     // Room for the item's offset, key and data.
-    shift(area, from, ints, more + 1);
-    shift(area, 2 + p, from, 1);
+    ints::checked::shift(area, from, ints, more + 1);
+    ints::checked::shift(area, 2 + p, from, 1);
     // The items after it begin further up.
     raise(&mut area[3 + p..3 + n], 4 * more);
     table::checked::put(area, 2 + p, 4 * (from - (2 + n)));

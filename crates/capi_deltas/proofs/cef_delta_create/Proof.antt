@@ -1,6 +1,6 @@
 -- `capi_deltas::cef_delta_create` meets its contract: by what `create` answered. Assumes nothing.
 use mir.Facts.{toZ-ofZ}
-use Rattle.boundary.specs.Outcomes.{created, clashed, not-created}
+use Rattle.capi_deltas.proofs.Creations.{created, clashed, not-created}
 use borrow.Author.Needs.{needs}
 use Rattle.capi_deltas.proofs.cef_delta_create.Statement.{statement}
 use Rattle.capi_deltas.proofs.cef_delta_create.Tie as tie

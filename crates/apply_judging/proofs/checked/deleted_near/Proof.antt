@@ -9,7 +9,7 @@ use lib.ListN.{getD}
 use Rattle.definitions.specs.Ints.{bits, signedLess}
 use Rattle.definitions.specs.Deltas.{rank, deletedAt}
 use Rattle.laws.specs.IntLaws.{less-ranks}
-use Rattle.delta_reading.specs.Reached.{Reached}
+use Rattle.delta_form.specs.Reached.{Reached}
 use Rattle.apply_judging.proofs.Places.{ranks-under, none-under}
 use borrow.Author.Needs.{needs}
 use Rattle.apply_judging.proofs.checked.deleted_near.Statement.{statement}

@@ -4,7 +4,7 @@ use denote.Ref.{now}
 use mir.Facts.{toZ-ofZ}
 use Rattle.definitions.specs.Ints.{bits}
 use Rattle.laws.specs.IntLaws.{bits-lt}
-use Rattle.delta_reading.specs.Reached.{elem-reached}
+use Rattle.delta_form.specs.Reached.{elem-reached}
 use borrow.Author.Needs.{needs}
 use Rattle.apply_judging.proofs.checked.is_deleted.Statement.{statement}
 use Rattle.apply_judging.proofs.checked.is_deleted.Tie as tie

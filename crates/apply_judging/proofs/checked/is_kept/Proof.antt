@@ -10,7 +10,7 @@ use Rattle.definitions.specs.Tables.{items, find, isSome}
 use Rattle.definitions.specs.Deltas.{rank, updateKey}
 use Rattle.definitions.specs.DeltaReading.{elem}
 use Rattle.laws.specs.TableFind.{Place}
-use Rattle.delta_reading.specs.Reached.{Reached}
+use Rattle.delta_form.specs.Reached.{Reached}
 use Rattle.apply_judging.specs.Judging.{deletedOf}
 use Rattle.apply_judging.proofs.Places.{gone-kept, still-kept}
 use Rattle.apply_judging.proofs.checked.is_kept.Statement.{statement}

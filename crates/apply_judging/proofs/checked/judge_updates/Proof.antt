@@ -13,7 +13,7 @@ use Rattle.definitions.specs.Tables as Tables
 use Rattle.definitions.specs.Deltas.{rank, updateKey, updates}
 use Rattle.laws.specs.TableFind.{Place}
 use Rattle.laws.specs.ApplyJudging.{judgeUpdates}
-use Rattle.delta_reading.specs.Reached.{Reached}
+use Rattle.delta_form.specs.Reached.{Reached}
 use Rattle.apply_judging.specs.Judging.{deletedOf}
 use Rattle.apply_judging.proofs.Turns.{Judging, next-update, update-refused, update-fine, all-judged}
 use borrow.Author.Needs.{needs}

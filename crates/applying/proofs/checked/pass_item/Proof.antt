@@ -15,7 +15,7 @@ use Rattle.definitions.specs.Deltas.{rank}
 use Rattle.definitions.specs.DeltaReading.{elem}
 use Rattle.laws.specs.ApplyFound.{item}
 use Rattle.laws.specs.ApplyWriting.{Room, wrote}
-use Rattle.delta_reading.specs.Reached.{Reached}
+use Rattle.delta_form.specs.Reached.{Reached}
 use Rattle.apply_judging.specs.Judging.{deletedOf}
 use Rattle.applying.proofs.Putting.{RoomOne, room-one}
 use Rattle.applying.proofs.Turns.{item-skipped, item-copied, item-room}

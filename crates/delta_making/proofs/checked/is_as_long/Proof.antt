@@ -11,7 +11,7 @@ use mir.Facts.{toZ-ofZ}
 use Rattle.definitions.specs.Ints.{bits}
 use Rattle.definitions.specs.Tables.{items, keyAt, valuesAt, find, isSome}
 use Rattle.laws.specs.TableFind.{Place}
-use Rattle.delta_making.proofs.Places.{found-at}
+use Rattle.table.specs.Finding.{found-at}
 use Rattle.delta_making.proofs.Updates.{none-agrees, some-agrees}
 use borrow.Author.Needs.{needs}
 use Rattle.delta_making.proofs.checked.is_as_long.Statement.{statement}

@@ -17,7 +17,7 @@ use Rattle.definitions.specs.Areas.{layAt}
 use Rattle.definitions.specs.Tables.{items, itemAt, keyAt, valuesAt, find, isSome}
 use Rattle.definitions.specs.DeltaMaking.{zipWith, differences}
 use Rattle.ints.specs.Copies.{copied}
-use Rattle.delta_making.proofs.Places.{found-at}
+use Rattle.table.specs.Finding.{found-at}
 use Rattle.delta_making.proofs.Updates.{none-differs, some-differs, as-long, length-change, change-laid, values-short}
 use borrow.Author.Needs.{needs}
 use Rattle.delta_making.proofs.checked.write_update.Statement.{statement}

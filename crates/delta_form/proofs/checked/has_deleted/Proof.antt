@@ -3,10 +3,10 @@ use mathlib.Core.Path.{refl}
 use denote.Ref.{now}
 use Rattle.definitions.specs.Ints.{bits}
 use Rattle.definitions.specs.Deltas.{deletedAt}
-use Rattle.delta_reading.proofs.Ranks.{deleted-tested, deleted-untested}
+use Rattle.delta_form.proofs.Ranks.{deleted-tested, deleted-untested}
 use borrow.Author.Needs.{needs}
-use Rattle.delta_reading.proofs.checked.has_deleted.Statement.{statement}
-use Rattle.delta_reading.proofs.checked.has_deleted.Tie as tie
+use Rattle.delta_form.proofs.checked.has_deleted.Statement.{statement}
+use Rattle.delta_form.proofs.checked.has_deleted.Tie as tie
 
 add-result : tie.Need-add-result
 add-result c = search needs

@@ -9,9 +9,9 @@ use denote.Ref.{now}
 use mir.Facts.{toZ-ofZ}
 use Rattle.definitions.specs.Ints.{bits}
 use Rattle.definitions.specs.Tables.{keyAt}
-use Rattle.delta_making.proofs.Places.{one-more, stops, at-end}
-use Rattle.delta_making.proofs.checked.next_place.Statement.{statement}
-use Rattle.delta_making.proofs.checked.next_place.Tie as tie
+use Rattle.table.specs.Finding.{one-more, stops, at-end}
+use Rattle.table.proofs.checked.next_place.Statement.{statement}
+use Rattle.table.proofs.checked.next_place.Tie as tie
 
 abbrev Inv-loop : tie.InvT-loop
 Inv-loop area n from key i₀ i = (i ≤ n) × ((j : ℕ) → j < i → keyAt area j < key)

@@ -10,7 +10,7 @@ use lib.Dec.{ltb, eqb}
 use borrow.Author.Tests.{lt-ltb, le-ltb}
 use Rattle.definitions.specs.Deltas.{rank, deletedAt}
 use Rattle.laws.specs.Tests.{below}
-use Rattle.delta_reading.specs.Reached.{Under}
+use Rattle.delta_form.specs.Reached.{Under}
 
 module _ (a : List ℤ) where
   -- one more is passed

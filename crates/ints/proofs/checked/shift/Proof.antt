@@ -6,11 +6,11 @@ use lib.ListN.{length}
 use denote.Ref.{now}
 use mir.Syntax.{w32}
 use mir.Facts.{toZ-ofZ}
-use Rattle.table_adding.specs.Adding.{shifted}
-use Rattle.table_adding.proofs.Turns.{shift-none, shift-turn}
+use Rattle.ints.specs.Copies.{shifted}
+use Rattle.ints.proofs.Shifts.{shift-none, shift-turn}
 use borrow.Author.Needs.{needs}
-use Rattle.table_adding.proofs.checked.shift.Statement.{statement}
-use Rattle.table_adding.proofs.checked.shift.Tie as tie
+use Rattle.ints.proofs.checked.shift.Statement.{statement}
+use Rattle.ints.proofs.checked.shift.Tie as tie
 
 abbrev Inv-loop : tie.InvT-loop
 Inv-loop area₀ from to by i₀ area i =

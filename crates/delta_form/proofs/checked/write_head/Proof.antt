@@ -8,8 +8,8 @@ use mir.Facts.{toZ-ofZ}
 use Rattle.definitions.specs.Ints.{bits}
 use Rattle.definitions.specs.Areas.{layAt}
 use borrow.Author.Needs.{needs}
-use Rattle.delta_making.proofs.checked.write_head.Statement.{statement}
-use Rattle.delta_making.proofs.checked.write_head.Tie as tie
+use Rattle.delta_form.proofs.checked.write_head.Statement.{statement}
+use Rattle.delta_form.proofs.checked.write_head.Tie as tie
 
 key-to-raw-type-id-requires : tie.Need-key-to-raw-type-id-requires
 key-to-raw-type-id-requires c κs = search needs

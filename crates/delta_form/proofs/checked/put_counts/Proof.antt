@@ -1,9 +1,9 @@
 -- `checked::put_counts` meets its contract: it stores three ints, one after the other. Assumes nothing.
 use denote.Ref.{now}
-use Rattle.delta_making.proofs.Updates.{three-laid}
+use Rattle.delta_form.proofs.Laying.{three-laid}
 use borrow.Author.Needs.{needs}
-use Rattle.delta_making.proofs.checked.put_counts.Statement.{statement}
-use Rattle.delta_making.proofs.checked.put_counts.Tie as tie
+use Rattle.delta_form.proofs.checked.put_counts.Statement.{statement}
+use Rattle.delta_form.proofs.checked.put_counts.Tie as tie
 
 put-requires : tie.Need-put-requires
 put-requires c κs = search needs

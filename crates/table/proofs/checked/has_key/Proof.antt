@@ -1,10 +1,10 @@
 -- `checked::has_key` meets its contract: the item at the place has the key, or none has. Assumes nothing.
 use denote.Ref.{now}
 use Rattle.definitions.specs.Ints.{bits}
-use Rattle.delta_making.proofs.Places.{at-place, past-all}
+use Rattle.table.specs.Finding.{at-place, past-all}
 use borrow.Author.Needs.{needs}
-use Rattle.delta_making.proofs.checked.has_key.Statement.{statement}
-use Rattle.delta_making.proofs.checked.has_key.Tie as tie
+use Rattle.table.proofs.checked.has_key.Statement.{statement}
+use Rattle.table.proofs.checked.has_key.Tie as tie
 
 key-at-requires : tie.Need-key-at-requires
 key-at-requires c κs = search needs

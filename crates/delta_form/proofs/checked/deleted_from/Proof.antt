@@ -10,11 +10,11 @@ use lib.ListN.{getD}
 use Rattle.definitions.specs.Ints.{bits, signedLess}
 use Rattle.definitions.specs.Deltas.{rank, deletedAt}
 use Rattle.laws.specs.IntLaws.{less-ranks, not-less-ranks}
-use Rattle.delta_reading.specs.Reached.{Under}
-use Rattle.delta_reading.proofs.Ranks.{under-more}
+use Rattle.delta_form.specs.Reached.{Under}
+use Rattle.delta_form.proofs.Ranks.{under-more}
 use borrow.Author.Needs.{needs}
-use Rattle.delta_reading.proofs.checked.deleted_from.Statement.{statement}
-use Rattle.delta_reading.proofs.checked.deleted_from.Tie as tie
+use Rattle.delta_form.proofs.checked.deleted_from.Statement.{statement}
+use Rattle.delta_form.proofs.checked.deleted_from.Tie as tie
 
 abbrev Inv-loop : tie.InvT-loop
 Inv-loop src deleted start key i₀ i = (i ≤ deleted) × Under src i (rank key)

@@ -1,0 +1,2 @@
+-- Facts that the proofs of `capi_deltas` share. Assumes nothing.
+pub mod Creations
