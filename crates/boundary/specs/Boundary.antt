@@ -1,37 +1,14 @@
--- An outcome as C sees it: a number, outputs through pointers, and the warning counts in a row. Assumes nothing.
-use mathlib.Core.List.{List, [], _∷_}
+-- An outcome as C sees it: a number, and outputs through pointers. Assumes nothing.
+use mathlib.Core.List.{List}
 use mathlib.Core.Bool.{Bool, not, cond}
 use mathlib.Core.Option.{Option, some, none}
-use mathlib.Core.Path.{_≡_}
 use Prim.Native.Nat.{ℕ}
 use lib.Dec.{eqb}
 use lib.IntN.{ℤ}
-use Rattle.definitions.specs.Ints.{bits}
-use Rattle.definitions.specs.Refusals.{deltaDifferingSizes}
 use Rattle.definitions.specs.Warnings.{Counts}
 use Rattle.definitions.specs.Stored.{stored}
 use Rattle.definitions.specs.Outcome.{Outcome, ok, err, return, Wrote, _>>=_}
-use Rattle.definitions.specs.Tables.{Table}
 use Rattle.definitions.specs.TableCalls.{orEmpty}
-use Rattle.delta_making.specs.Answers.{Differing}
-
--- the 13 counts in their order
-abbrev pub row : Counts → List ℕ
-row c =
-    c .overlongIntEncoding
-    ∷ c .nonZeroIntPadding
-    ∷ c .nonZeroPadding
-    ∷ c .duplicateDelete
-    ∷ c .duplicateUpdate
-    ∷ c .unknownDelete
-    ∷ c .deleteUpdate
-    ∷ c .numUpdatedItems
-    ∷ c .excessSnapData
-    ∷ c .excessUuidItemData
-    ∷ c .duplicateSnap
-    ∷ c .differingAttributes
-    ∷ c .weirdNegativeDeltaTick
-    ∷ []
 
 -- 1 for true, 0 for false
 abbrev pub flag : Bool → ℕ
@@ -75,8 +52,3 @@ ended none = 1
 module _ {A : Type 0} where
   abbrev pub given : ℕ → A → Option A
   given n x = cond (not (eqb n 0)) (some x) none
-
--- the output for a clashing key, before and after a call, by its answer: 10 comes with such a key, else the output is unchanged
-pub record Named (b t : Table) (before after : ℤ) (r : ℕ) : Type 0 where
-  pub differs : r ≡ deltaDifferingSizes → Differing b t (bits after)
-  pub left : (r ≡ deltaDifferingSizes → ⊥) → after ≡ before

@@ -5,27 +5,21 @@ use mathlib.Core.List.{List}
 use mathlib.Core.Option.{Option, some, none}
 use Prim.Native.Nat.{ℕ}
 use native.Mathlib.Nat.{zero-add}
-use native.Mathlib.Omega.{arith}
 use borrow.Author.Tests.{ne-eqb}
 use lib.Dec.{leb}
 use lib.IntN.{ℤ}
 use lib.ListN.{length}
 use Rattle.definitions.specs.Areas.{lay}
-use Rattle.definitions.specs.Refusals.{capacityError, deltaDifferingSizes}
+use Rattle.definitions.specs.Refusals.{capacityError}
 use Rattle.definitions.specs.Warnings.{Counts}
 use Rattle.definitions.specs.Outcome.{Outcome, ok, err, return, refuse, Wrote}
 use Rattle.definitions.specs.Stored.{stored}
-use Rattle.definitions.specs.Tables.{Table}
 use Rattle.ints.specs.Copies.{Copied, copyAt}
-use Rattle.format.specs.Numbers.{number}
-use Rattle.format.specs.declared.Error.{Error}
 use Rattle.format.specs.declared.Stored.{Stored}
 use Rattle.format.specs.declared.Stored.the-variants as write
 use Rattle.format.specs.Answers.{storedInts, storedWith}
-use Rattle.delta_making.specs.Answers.{madeInts, Clash}
-use Rattle.delta_making.specs.declared.Made.{Made}
-use Rattle.delta_making.specs.declared.Made.the-variants as made
-use Rattle.boundary.specs.Boundary.{row, status, warningsOf, output, partInto, keyOr, ended, given, Named}
+use Rattle.format.specs.Totals.{row}
+use Rattle.boundary.specs.Boundary.{status, warningsOf, output, partInto, keyOr, ended, given}
 
 module _ {A B : Type 0} (o : Outcome A) (f : A → B) where
   pub answered : {a : A} {w : Counts} → o ≡ ok a w → (before value : B) → value ≡ f a → (0 ≡ status o) × (value ≡ output f before o)
@@ -82,20 +76,3 @@ module _ {A : Type 0} where
 
   pub is-given : (has : ℕ) (x : A) → (has ≡ 0 → ⊥) → given has x ≡ some x
   is-given has x f = rw (ne-eqb has 0 f) refl
-
--- ---- a count beside an area and a clashing key
-
-module _ (b t : Table) (o : Wrote ℕ ℤ) (m : Made) {out : List ℤ} (e : o ≡ record { answer = madeInts m; out = out }) (c : Clash b t m) where
-  pub created : {n : ℕ} → m ≡ made.Ints n → (count₀ : ℕ) (key₀ : ℤ) → (0 ≡ status (o .answer)) × ((out ≡ o .out) × ((n ≡ output (λ (n : ℕ). n) count₀ (o .answer)) × Named b t key₀ key₀ 0))
-  created q count₀ key₀ =
-      rw (e, q) (refl, (refl, (refl, record { differs = λ x. absurd (omega (arith, x)); left = λ _. refl })))
-
-  pub clashed : {k : ℤ} → m ≡ made.DifferingSizes k → (r count₀ : ℕ) (key₀ key : ℤ) → r ≡ deltaDifferingSizes → key ≡ k → (r ≡ status (o .answer)) × ((out ≡ o .out) × ((count₀ ≡ output (λ (n : ℕ). n) count₀ (o .answer)) × Named b t key₀ key r))
-  clashed q r count₀ key₀ key p k =
-      let d = rw q at c in
-      rw (e, q, p, k) (refl, (refl, (refl, record { differs = λ _. d; left = λ f. absurd (f refl) })))
-
-  pub not-created : {x : Error} → m ≡ made.Refused x → (r count₀ : ℕ) (key₀ : ℤ) → r ≡ number x → (r ≡ status (o .answer)) × ((out ≡ o .out) × ((count₀ ≡ output (λ (n : ℕ). n) count₀ (o .answer)) × Named b t key₀ key₀ r))
-  not-created q r count₀ key₀ p =
-      let d = rw q at c in
-      rw (e, q, p) (refl, (refl, (refl, record { differs = λ x. absurd (d x); left = λ _. refl })))

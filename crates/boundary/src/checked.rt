@@ -1,55 +1,10 @@
-// The warning counts in a row, a flag, a count behind a pointer, and copying a part.
+// A flag, a count behind a pointer, and copying a part.
 ghost use mathlib.Core.Path.{_≡_};
-ghost use Rattle.definitions.specs.Packed.{warned};
-ghost use Rattle.format.specs.Totals.{counts};
 ghost use Rattle.format.specs.Answers.{storedInts};
 ghost use Rattle.boundary.specs.Boundary as Boundary;
 ghost use Rattle.boundary.specs.Boundary.{status, output, partInto};
 use format::Error;
 use format::Stored;
-use format::Warnings;
-
-// The 13 counts in their order.
-pub fn row(w: Warnings) -> [usize; 13]
-    ensures { λ r. ⌜ r ≡ Boundary.row (counts w) ⌝ }
-{
-    [
-        w.overlong_int_encoding,
-        w.non_zero_int_padding,
-        w.non_zero_padding,
-        w.duplicate_delete,
-        w.duplicate_update,
-        w.unknown_delete,
-        w.delete_update,
-        w.num_updated_items,
-        w.excess_snap_data,
-        w.excess_uuid_item_data,
-        w.duplicate_snap,
-        w.differing_attributes,
-        w.weird_negative_delta_tick,
-    ]
-}
-
-// The row of counts for an integer's warnings.
-pub fn warned_row(overlong: bool, padding: bool) -> [usize; 13]
-    ensures { λ r. ⌜ r ≡ Boundary.row (warned overlong padding) ⌝ }
-{
-    [
-        ints::one_if(overlong),
-        ints::one_if(padding),
-        0,
-        0,
-        0,
-        0,
-        0,
-        0,
-        0,
-        0,
-        0,
-        0,
-        0,
-    ]
-}
 
 // 1 for true, 0 for false.
 pub fn flag(b: bool) -> u32

@@ -9,14 +9,14 @@ use Rattle.definitions.specs.Receiver.{Receiver}
 use Rattle.definitions.specs.Storage.{Store}
 use Rattle.definitions.specs.Manager.{ManagerStep, messageCall}
 use Rattle.format.specs.Numbers.{number}
-use Rattle.format.specs.Totals.{counts}
+use Rattle.format.specs.Totals.{counts, row}
 use Rattle.format.specs.declared.Error.{Error}
 use Rattle.storage.specs.States.{storeOf}
 use Rattle.manager.specs.Answers.{handledWith, handlings}
 use Rattle.manager.specs.declared.Handled.{Handled}
 use Rattle.manager.specs.declared.Handled.the-variants as handled
 use Rattle.manager.specs.declared.Handling.{Handling}
-use Rattle.boundary.specs.Boundary.{row, warningsOf}
+use Rattle.boundary.specs.Boundary.{warningsOf}
 use Rattle.boundary_states.specs.Few.{Fits}
 use Rattle.capi_manager.specs.Told.{Rows, Told, Tells, Settles}
 

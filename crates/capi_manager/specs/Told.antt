@@ -8,13 +8,13 @@ use Rattle.definitions.specs.Warnings.{Counts}
 use Rattle.definitions.specs.Receiver.{Receiver}
 use Rattle.definitions.specs.Storage.{Store}
 use Rattle.definitions.specs.Manager.{ManagerStep}
-use Rattle.format.specs.Totals.{counts}
+use Rattle.format.specs.Totals.{counts, row}
 use Rattle.receiver.specs.States.{receiverOf}
 use Rattle.storage.specs.States.{storeOf}
 use Rattle.manager.specs.Answers.{handledWith}
 use Rattle.manager.specs.declared.Handled.{Handled}
 use Rattle.manager.specs.declared.Handling.{Handling}
-use Rattle.boundary.specs.Boundary.{row, status, warningsOf, output, keyOr}
+use Rattle.boundary.specs.Boundary.{status, warningsOf, output, keyOr}
 use Rattle.boundary_states.specs.Rows.{SavedReceiver, SavedStore}
 
 -- 1 if a table was taken, 0 if parts are missing

@@ -11,13 +11,14 @@ ghost use Rattle.definitions.specs.StorageCalls.{resetCall};
 ghost use Rattle.definitions.specs.Manager.{messageCall};
 ghost use Rattle.boundary_states.specs.Rows.{receiverTicks, receiverCounts, storeTicks, storeCounts, heldReceiver, heldStore};
 ghost use Rattle.capi_manager.specs.Told.{Told, Tells, Settles};
-use boundary::checked::row;
 use boundary_states::checked::load_receiver;
 use boundary_states::checked::load_storage;
 use boundary_states::checked::save_receiver;
 use boundary_states::checked::save_storage;
 use boundary_states::checked::write_receiver;
 use boundary_states::checked::write_storage;
+use format::WARNING_KINDS;
+use format::row;
 use manager::Handled;
 use manager::Handling;
 use manager::Manager;
@@ -95,7 +96,7 @@ fn settle(
     counts: &mut [u32; 3],
     taken: &mut u32,
     ack: &mut i32,
-    warnings: &mut [usize; 13],
+    warnings: &mut [usize; WARNING_KINDS],
 ) -> u32
     requires { ⌜ h .manager .storage .count < 2 ^ 32 ⌝ }
     ensures { λ r. ⌜ Settles h (record { receiverTicks = now («receiver_ticks» .entry); receiverCounts = now («receiver_counts» .entry); lengths = now (lengths .entry); ticks = now (ticks .entry); counts = now (counts .entry); taken = now (taken .entry); ack = now (ack .entry) }) (record { receiverTicks = now («receiver_ticks» .exit); receiverCounts = now («receiver_counts» .exit); lengths = now (lengths .exit); ticks = now (ticks .exit); counts = now (counts .exit); taken = now (taken .exit); ack = now (ack .exit) }) (now (warnings .exit)) r ⌝ }
@@ -130,7 +131,7 @@ pub extern "C" fn cef_manager_snap(
     scratch: &mut [i32],
     taken: &mut u32,
     ack: &mut i32,
-    warnings: &mut [usize; 13],
+    warnings: &mut [usize; WARNING_KINDS],
 ) -> u32
     ensures { λ r. ⌜ Told (messageCall (now (sizes .entry)) (heldReceiver (now («receiver_ticks» .entry)) (now («receiver_counts» .entry)) (now (lengths .entry))) (heldStore (now (ticks .entry)) (now (counts .entry))) (record { numbers = Snap tick «delta_tick» «num_parts» part crc; bytes = now («data» .entry) }) (now (parts .entry)) (now (joined .entry)) (now (delta .entry)) (now (area .entry)) (length (now (scratch .entry)))) (record { receiverTicks = now («receiver_ticks» .entry); receiverCounts = now («receiver_counts» .entry); lengths = now (lengths .entry); ticks = now (ticks .entry); counts = now (counts .entry); taken = now (taken .entry); ack = now (ack .entry) }) (record { receiverTicks = now («receiver_ticks» .exit); receiverCounts = now («receiver_counts» .exit); lengths = now (lengths .exit); ticks = now (ticks .exit); counts = now (counts .exit); taken = now (taken .exit); ack = now (ack .exit) }) (now (parts .exit)) (now (joined .exit)) (now (delta .exit)) (now (area .exit)) (now (warnings .exit)) r ⌝ }
     ensures { λ _. ⌜ now (scratch .exit) ≡ cleared (now (scratch .entry)) ⌝ }
@@ -185,7 +186,7 @@ pub extern "C" fn cef_manager_snap_single(
     scratch: &mut [i32],
     taken: &mut u32,
     ack: &mut i32,
-    warnings: &mut [usize; 13],
+    warnings: &mut [usize; WARNING_KINDS],
 ) -> u32
     ensures { λ r. ⌜ Told (messageCall (now (sizes .entry)) (heldReceiver (now («receiver_ticks» .entry)) (now («receiver_counts» .entry)) (now (lengths .entry))) (heldStore (now (ticks .entry)) (now (counts .entry))) (record { numbers = SnapSingle tick «delta_tick» crc; bytes = now («data» .entry) }) (now (parts .entry)) (now (joined .entry)) (now (delta .entry)) (now (area .entry)) (length (now (scratch .entry)))) (record { receiverTicks = now («receiver_ticks» .entry); receiverCounts = now («receiver_counts» .entry); lengths = now (lengths .entry); ticks = now (ticks .entry); counts = now (counts .entry); taken = now (taken .entry); ack = now (ack .entry) }) (record { receiverTicks = now («receiver_ticks» .exit); receiverCounts = now («receiver_counts» .exit); lengths = now (lengths .exit); ticks = now (ticks .exit); counts = now (counts .exit); taken = now (taken .exit); ack = now (ack .exit) }) (now (parts .exit)) (now (joined .exit)) (now (delta .exit)) (now (area .exit)) (now (warnings .exit)) r ⌝ }
     ensures { λ _. ⌜ now (scratch .exit) ≡ cleared (now (scratch .entry)) ⌝ }
@@ -235,7 +236,7 @@ pub extern "C" fn cef_manager_snap_empty(
     scratch: &mut [i32],
     taken: &mut u32,
     ack: &mut i32,
-    warnings: &mut [usize; 13],
+    warnings: &mut [usize; WARNING_KINDS],
 ) -> u32
     ensures { λ r. ⌜ Told (messageCall [] (heldReceiver (now («receiver_ticks» .entry)) (now («receiver_counts» .entry)) (now (lengths .entry))) (heldStore (now (ticks .entry)) (now (counts .entry))) (record { numbers = SnapEmpty tick «delta_tick»; bytes = [] }) (now (parts .entry)) (now (joined .entry)) (now (delta .entry)) (now (area .entry)) (length (now (scratch .entry)))) (record { receiverTicks = now («receiver_ticks» .entry); receiverCounts = now («receiver_counts» .entry); lengths = now (lengths .entry); ticks = now (ticks .entry); counts = now (counts .entry); taken = now (taken .entry); ack = now (ack .entry) }) (record { receiverTicks = now («receiver_ticks» .exit); receiverCounts = now («receiver_counts» .exit); lengths = now (lengths .exit); ticks = now (ticks .exit); counts = now (counts .exit); taken = now (taken .exit); ack = now (ack .exit) }) (now (parts .exit)) (now (joined .exit)) (now (delta .exit)) (now (area .exit)) (now (warnings .exit)) r ⌝ }
     ensures { λ _. ⌜ now (scratch .exit) ≡ cleared (now (scratch .entry)) ⌝ }

@@ -1,11 +1,12 @@
 // The calls on packed integers as C sees them. include/cefdugar.h documents them for C callers.
 ghost use mathlib.Core.Path.{_≡_};
 ghost use Rattle.definitions.specs.Packer.{readIntCall, writeIntAt, unpackCall};
-ghost use Rattle.boundary.specs.Boundary as Boundary;
+ghost use Rattle.format.specs.Totals as Totals;
 ghost use Rattle.boundary.specs.Boundary.{status, warningsOf, output, flag};
-use boundary::checked::row;
-use boundary::checked::warned_row;
+use format::WARNING_KINDS;
 use format::Warnings;
+use format::row;
+use format::warned_row;
 use packer::IntRead;
 use packer::IntWrite;
 use packer::IntsRead;
@@ -17,12 +18,12 @@ pub extern "C" fn cef_read_int(
     at: usize,
     value: &mut i32,
     next: &mut usize,
-    warnings: &mut [usize; 13],
+    warnings: &mut [usize; WARNING_KINDS],
 ) -> u32
     ensures { λ r. ⌜ r ≡ status (readIntCall (now (src .entry)) at) ⌝ }
     ensures { λ _. ⌜ now (value .exit) ≡ output (λ x. x .value) (now (value .entry)) (readIntCall (now (src .entry)) at) ⌝ }
     ensures { λ _. ⌜ now (next .exit) ≡ output (λ x. x .next) (now (next .entry)) (readIntCall (now (src .entry)) at) ⌝ }
-    ensures { λ _. ⌜ now (warnings .exit) ≡ Boundary.row (warningsOf (readIntCall (now (src .entry)) at)) ⌝ }
+    ensures { λ _. ⌜ now (warnings .exit) ≡ Totals.row (warningsOf (readIntCall (now (src .entry)) at)) ⌝ }
 {
     *warnings = row(Warnings::none());
     let read = packer::read_int(src, at);
@@ -73,13 +74,13 @@ pub extern "C" fn cef_unpack(
     out: &mut [i32],
     count: &mut usize,
     cut: &mut u32,
-    warnings: &mut [usize; 13],
+    warnings: &mut [usize; WARNING_KINDS],
 ) -> u32
     ensures { λ r. ⌜ r ≡ status (unpackCall (now (src .entry)) (now (out .entry)) .answer) ⌝ }
     ensures { λ _. ⌜ now (out .exit) ≡ unpackCall (now (src .entry)) (now (out .entry)) .out ⌝ }
     ensures { λ _. ⌜ now (count .exit) ≡ output (λ u. u .count) (now (count .entry)) (unpackCall (now (src .entry)) (now (out .entry)) .answer) ⌝ }
     ensures { λ _. ⌜ now (cut .exit) ≡ output (λ u. flag (u .cut)) (now (cut .entry)) (unpackCall (now (src .entry)) (now (out .entry)) .answer) ⌝ }
-    ensures { λ _. ⌜ now (warnings .exit) ≡ Boundary.row (warningsOf (unpackCall (now (src .entry)) (now (out .entry)) .answer)) ⌝ }
+    ensures { λ _. ⌜ now (warnings .exit) ≡ Totals.row (warningsOf (unpackCall (now (src .entry)) (now (out .entry)) .answer)) ⌝ }
 {
     let u = packer::unpack(src, out);
     *warnings = row(u.warnings);

@@ -4,11 +4,12 @@ ghost use Rattle.definitions.specs.Packer.{readIntCall};
 ghost use Rattle.definitions.specs.Readers.{plainIntCall};
 ghost use Rattle.packer.specs.Answers.{refusal};
 ghost use Rattle.capi_readers.specs.Standing.{kept, Stands};
-ghost use Rattle.boundary.specs.Boundary as Boundary;
+ghost use Rattle.format.specs.Totals as Totals;
 ghost use Rattle.boundary.specs.Boundary.{status, warningsOf, output, flag};
-use boundary::checked::row;
-use boundary::checked::warned_row;
+use format::WARNING_KINDS;
 use format::Warnings;
+use format::row;
+use format::warned_row;
 use packer::IntRead;
 use packer::ReaderAnswer;
 
@@ -34,12 +35,12 @@ pub extern "C" fn cef_unpacker_read_int(
     next: &mut usize,
     left: &mut usize,
     empty: &mut u32,
-    warnings: &mut [usize; 13],
+    warnings: &mut [usize; WARNING_KINDS],
 ) -> u32
     ensures { λ r. ⌜ r ≡ status (readIntCall (now (src .entry)) at) ⌝ }
     ensures { λ _. ⌜ now (value .exit) ≡ output (λ x. x .value) (now (value .entry)) (readIntCall (now (src .entry)) at) ⌝ }
     ensures { λ _. ⌜ Stands (readIntCall (now (src .entry)) at) (now (src .entry)) at (now (next .entry)) (now (left .entry)) (now (empty .entry)) (now (next .exit)) (now (left .exit)) (now (empty .exit)) ⌝ }
-    ensures { λ _. ⌜ now (warnings .exit) ≡ Boundary.row (warningsOf (readIntCall (now (src .entry)) at)) ⌝ }
+    ensures { λ _. ⌜ now (warnings .exit) ≡ Totals.row (warningsOf (readIntCall (now (src .entry)) at)) ⌝ }
 {
     let r = packer::read_bytes(src, at);
     put_standing(r, next, left, empty);

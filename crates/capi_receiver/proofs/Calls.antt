@@ -1,5 +1,6 @@
 -- What the outputs hold, given a known call. Assumes nothing.
-use mathlib.Core.Path.{_≡_, refl}
+use mathlib.Core.Path.{_≡_, refl, sym}
+use mathlib.Core.Bool.{true, false, true≢false}
 use mathlib.Core.List.{List, [], _∷_}
 use mathlib.Core.Option.{Option, some, none}
 use Prim.Native.Nat.{ℕ}
@@ -22,10 +23,11 @@ use Rattle.receiver.specs.Answers.{receivedWith}
 use Rattle.receiver.specs.declared.checked.Ticks.{Ticks}
 use Rattle.receiver.specs.declared.Received.{Received}
 use Rattle.receiver.specs.declared.Received.the-variants as received
-use Rattle.boundary.specs.Boundary.{row, status, warningsOf, output}
+use Rattle.format.specs.Totals.{row}
+use Rattle.boundary.specs.Boundary.{status, warningsOf, output}
 use Rattle.boundary_states.specs.Rows.{receiverTicks, receiverCounts}
+use Rattle.capi_receiver.specs.Left.{isRefused, Rows}
 use Rattle.capi_receiver.specs.Held.{ticksAfter, countsAfter, kindOf, ticksOr, lengthOr, kindOfNumbers, rowOf, kindOfMessage, numbersOr, bytesIn}
-use Rattle.capi_receiver.proofs.Numbers.{not-zero}
 
 -- ---- the numbers of a message
 
@@ -85,31 +87,21 @@ module _ (a : Received) where
   pub tells-refused : {x : Error} → a ≡ received.Refused x → (r kind₀ : ℕ) (row₀ : List ℤ) (len₀ : ℕ) → r ≡ number x → Tells r kind₀ kind₀ row₀ row₀ len₀ len₀
   tells-refused e r kind₀ row₀ len₀ p = rw (e, p) (λ w. refl, (λ w. refl, (λ w. refl, λ w. refl)))
 
--- an answer whose number is 0
-pub zero-tells : (a : Received) (r kind₀ kind : ℕ) (row₀ row′ : List ℤ) (len₀ len : ℕ) → r ≡ 0 → Tells a r kind₀ kind row₀ row′ len₀ len → Tells a 0 kind₀ kind row₀ row′ len₀ len
-zero-tells a r kind₀ kind row₀ row′ len₀ len e t = rw e at t
-
 -- ---- a call on a receiver
 
--- the rows of the ticks before and after a call that answered a
-abbrev pub Rows : Ticks → Received → Counts → (ticks₀ : List ℤ) (counts₀ : List ℕ) (ticks : List ℤ) (counts : List ℕ) → Type 0
-Rows t a w ticks₀ counts₀ ticks counts =
-    (ticks ≡ output (λ _. receiverTicks (receiverWith t [])) ticks₀ (receivedWith a w))
-    × (counts ≡ output (λ _. receiverCounts (receiverWith t [])) counts₀ (receivedWith a w))
-
--- a call that is refused leaves them
-pub rows-left : (t : Ticks) (a : Received) (w : Counts) (ticks : List ℤ) (counts : List ℕ) (n : ℕ) → n ≡ status (receivedWith a w) → (n ≡ 0 → ⊥) → Rows t a w ticks counts ticks counts
-rows-left t received.NotYet w ticks counts n p f = absurd (f p)
-rows-left t (received.Delta x d k c) w ticks counts n p f = absurd (f p)
-rows-left t (received.Empty x d) w ticks counts n p f = absurd (f p)
-rows-left t (received.Refused e) w ticks counts n p f = (refl, refl)
+-- a call that is refused leaves the rows
+pub rows-left : (t : Ticks) (a : Received) (ticks : List ℤ) (counts : List ℕ) → isRefused a ≡ true → Rows t a ticks counts ticks counts
+rows-left t received.NotYet ticks counts e = absurd (true≢false (sym e))
+rows-left t (received.Delta x d k c) ticks counts e = absurd (true≢false (sym e))
+rows-left t (received.Empty x d) ticks counts e = absurd (true≢false (sym e))
+rows-left t (received.Refused x) ticks counts e = λ w. (refl, refl)
 
 -- any other writes those of the ticks that it leaves
-pub rows-written : (t : Ticks) (a : Received) (w : Counts) (ticks₀ ticks : List ℤ) (counts₀ counts : List ℕ) → 0 ≡ status (receivedWith a w) → (ticks ≡ receiverTicks (receiverWith t [])) × (counts ≡ receiverCounts (receiverWith t [])) → Rows t a w ticks₀ counts₀ ticks counts
-rows-written t received.NotYet w ticks₀ ticks counts₀ counts p h = h
-rows-written t (received.Delta x d k c) w ticks₀ ticks counts₀ counts p h = h
-rows-written t (received.Empty x d) w ticks₀ ticks counts₀ counts p h = h
-rows-written t (received.Refused e) w ticks₀ ticks counts₀ counts p h = absurd (not-zero e p)
+pub rows-written : (t : Ticks) (a : Received) (ticks₀ ticks : List ℤ) (counts₀ counts : List ℕ) → isRefused a ≡ false → (ticks ≡ receiverTicks (receiverWith t [])) × (counts ≡ receiverCounts (receiverWith t [])) → Rows t a ticks₀ counts₀ ticks counts
+rows-written t received.NotYet ticks₀ ticks counts₀ counts e h = λ w. h
+rows-written t (received.Delta x d k c) ticks₀ ticks counts₀ counts e h = λ w. h
+rows-written t (received.Empty x d) ticks₀ ticks counts₀ counts e h = λ w. h
+rows-written t (received.Refused x) ticks₀ ticks counts₀ counts e h = absurd (true≢false e)
 
 -- the warnings of an answer
 warned : (a : Received) (w : Counts) → warningsOf (receivedWith a w) ≡ w
@@ -119,18 +111,18 @@ warned (received.Empty t d) w = refl
 warned (received.Refused x) w = refl
 
 -- what a call leaves, with what its rows hold
-pub taken : (o : Receives) (a : Received) (w : Counts) (x : Ticks) {lengths ps js : List ℕ} → o ≡ record { answer = receivedWith a w; receiver = receiverWith x lengths; parts = ps; joined = js } → (r kind₀ kind : ℕ) (row₀ row′ : List ℤ) (len₀ len : ℕ) (ticks₀ ticks : List ℤ) (counts₀ counts ws : List ℕ) → Tells a r kind₀ kind row₀ row′ len₀ len → Rows x a w ticks₀ counts₀ ticks counts → ws ≡ row w → (r ≡ status (o .answer)) × ((ticks ≡ ticksAfter ticks₀ o) × ((counts ≡ countsAfter counts₀ o) × ((lengths ≡ o .receiver .parts) × ((ps ≡ o .parts) × ((js ≡ o .joined) × ((kind ≡ output kindOf kind₀ (o .answer)) × ((row′ ≡ output (ticksOr row₀) row₀ (o .answer)) × ((len ≡ output (lengthOr len₀) len₀ (o .answer)) × (ws ≡ row (warningsOf (o .answer)))))))))))
+pub taken : (o : Receives) (a : Received) (w : Counts) (x : Ticks) {lengths ps js : List ℕ} → o ≡ record { answer = receivedWith a w; receiver = receiverWith x lengths; parts = ps; joined = js } → (r kind₀ kind : ℕ) (row₀ row′ : List ℤ) (len₀ len : ℕ) (ticks₀ ticks : List ℤ) (counts₀ counts ws : List ℕ) → Tells a r kind₀ kind row₀ row′ len₀ len → Rows x a ticks₀ counts₀ ticks counts → ws ≡ row w → (r ≡ status (o .answer)) × ((ticks ≡ ticksAfter ticks₀ o) × ((counts ≡ countsAfter counts₀ o) × ((lengths ≡ o .receiver .parts) × ((ps ≡ o .parts) × ((js ≡ o .joined) × ((kind ≡ output kindOf kind₀ (o .answer)) × ((row′ ≡ output (ticksOr row₀) row₀ (o .answer)) × ((len ≡ output (lengthOr len₀) len₀ (o .answer)) × (ws ≡ row (warningsOf (o .answer)))))))))))
 taken o a w x e r kind₀ kind row₀ row′ len₀ len ticks₀ ticks counts₀ counts ws t h p =
-    rw (e, warned a w) (t .0 w, (h .0, (h .1, (refl, (refl, (refl, (t .1 .0 w, (t .1 .1 .0 w, (t .1 .1 .1 w, p)))))))))
+    rw (e, warned a w) (t .0 w, (h w .0, (h w .1, (refl, (refl, (refl, (t .1 .0 w, (t .1 .1 .0 w, (t .1 .1 .1 w, p)))))))))
 
 -- the same without the first part area
-pub taken-single : (o : Receives) (a : Received) (w : Counts) (x : Ticks) {lengths ps js : List ℕ} → o ≡ record { answer = receivedWith a w; receiver = receiverWith x lengths; parts = ps; joined = js } → (r kind₀ kind : ℕ) (row₀ row′ : List ℤ) (len₀ len : ℕ) (ticks₀ ticks : List ℤ) (counts₀ counts ws : List ℕ) → Tells a r kind₀ kind row₀ row′ len₀ len → Rows x a w ticks₀ counts₀ ticks counts → ws ≡ row w → (r ≡ status (o .answer)) × ((ticks ≡ ticksAfter ticks₀ o) × ((counts ≡ countsAfter counts₀ o) × ((lengths ≡ o .receiver .parts) × ((js ≡ o .joined) × ((kind ≡ output kindOf kind₀ (o .answer)) × ((row′ ≡ output (ticksOr row₀) row₀ (o .answer)) × ((len ≡ output (lengthOr len₀) len₀ (o .answer)) × (ws ≡ row (warningsOf (o .answer))))))))))
+pub taken-single : (o : Receives) (a : Received) (w : Counts) (x : Ticks) {lengths ps js : List ℕ} → o ≡ record { answer = receivedWith a w; receiver = receiverWith x lengths; parts = ps; joined = js } → (r kind₀ kind : ℕ) (row₀ row′ : List ℤ) (len₀ len : ℕ) (ticks₀ ticks : List ℤ) (counts₀ counts ws : List ℕ) → Tells a r kind₀ kind row₀ row′ len₀ len → Rows x a ticks₀ counts₀ ticks counts → ws ≡ row w → (r ≡ status (o .answer)) × ((ticks ≡ ticksAfter ticks₀ o) × ((counts ≡ countsAfter counts₀ o) × ((lengths ≡ o .receiver .parts) × ((js ≡ o .joined) × ((kind ≡ output kindOf kind₀ (o .answer)) × ((row′ ≡ output (ticksOr row₀) row₀ (o .answer)) × ((len ≡ output (lengthOr len₀) len₀ (o .answer)) × (ws ≡ row (warningsOf (o .answer))))))))))
 taken-single o a w x e r kind₀ kind row₀ row′ len₀ len ticks₀ ticks counts₀ counts ws t h p =
     let l = taken o a w x e r kind₀ kind row₀ row′ len₀ len ticks₀ ticks counts₀ counts ws t h p in
     (l .0, (l .1 .0, (l .1 .1 .0, (l .1 .1 .1 .0, l .1 .1 .1 .1 .1))))
 
 -- the same without any part area
-pub taken-empty : (o : Receives) (a : Received) (w : Counts) (x : Ticks) {lengths ps js : List ℕ} → o ≡ record { answer = receivedWith a w; receiver = receiverWith x lengths; parts = ps; joined = js } → (r kind₀ kind : ℕ) (row₀ row′ : List ℤ) (len₀ len : ℕ) (ticks₀ ticks : List ℤ) (counts₀ counts ws : List ℕ) → Tells a r kind₀ kind row₀ row′ len₀ len → Rows x a w ticks₀ counts₀ ticks counts → ws ≡ row w → (r ≡ status (o .answer)) × ((ticks ≡ ticksAfter ticks₀ o) × ((counts ≡ countsAfter counts₀ o) × ((lengths ≡ o .receiver .parts) × ((kind ≡ output kindOf kind₀ (o .answer)) × ((row′ ≡ output (ticksOr row₀) row₀ (o .answer)) × ((len ≡ output (lengthOr len₀) len₀ (o .answer)) × (ws ≡ row (warningsOf (o .answer)))))))))
+pub taken-empty : (o : Receives) (a : Received) (w : Counts) (x : Ticks) {lengths ps js : List ℕ} → o ≡ record { answer = receivedWith a w; receiver = receiverWith x lengths; parts = ps; joined = js } → (r kind₀ kind : ℕ) (row₀ row′ : List ℤ) (len₀ len : ℕ) (ticks₀ ticks : List ℤ) (counts₀ counts ws : List ℕ) → Tells a r kind₀ kind row₀ row′ len₀ len → Rows x a ticks₀ counts₀ ticks counts → ws ≡ row w → (r ≡ status (o .answer)) × ((ticks ≡ ticksAfter ticks₀ o) × ((counts ≡ countsAfter counts₀ o) × ((lengths ≡ o .receiver .parts) × ((kind ≡ output kindOf kind₀ (o .answer)) × ((row′ ≡ output (ticksOr row₀) row₀ (o .answer)) × ((len ≡ output (lengthOr len₀) len₀ (o .answer)) × (ws ≡ row (warningsOf (o .answer)))))))))
 taken-empty o a w x e r kind₀ kind row₀ row′ len₀ len ticks₀ ticks counts₀ counts ws t h p =
     let l = taken o a w x e r kind₀ kind row₀ row′ len₀ len ticks₀ ticks counts₀ counts ws t h p in
     (l .0, (l .1 .0, (l .1 .1 .0, (l .1 .1 .1 .0, l .1 .1 .1 .1 .1 .1))))

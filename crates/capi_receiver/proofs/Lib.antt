@@ -1,3 +1,2 @@
 -- What the outputs hold, given a known call. Assumes nothing.
-pub mod Numbers
 pub mod Calls

@@ -5,23 +5,26 @@ ghost use lib.IntN.{pos};
 ghost use Rattle.definitions.specs.Messages.{numChunksCall, chunkCall};
 ghost use Rattle.definitions.specs.Receiver.{freshReceiver, snapCall, snapSingleCall, snapEmptyCall};
 ghost use Rattle.receiver.specs.Answers.{receivedWith};
-ghost use Rattle.boundary.specs.Boundary as Boundary;
+ghost use Rattle.format.specs.Totals as Totals;
 ghost use Rattle.boundary.specs.Boundary.{status, warningsOf, output};
 ghost use Rattle.boundary_states.specs.Rows.{receiverTicks, receiverCounts, heldReceiver};
 ghost use Rattle.gamenet_snap.specs.Numbers as gamenet;
+ghost use Rattle.capi_receiver.specs.Left.{isRefused, Rows};
 ghost use Rattle.capi_receiver.specs.Held.{ticksAfter, countsAfter, kindOf, ticksOr, lengthOr, kindOfNumbers, rowOf, kindOfMessage, numbersOr, bytesIn};
 ghost use Rattle.definitions.specs.Warnings.{Counts};
-use boundary::checked::row;
 use boundary_states::checked::load_receiver;
 use boundary_states::checked::load_ticks;
 use boundary_states::checked::write_receiver;
 use boundary_states::checked::write_ticks;
 use delta_chunks::Chunk;
 use delta_chunks::NumChunks;
+use format::WARNING_KINDS;
+use format::row;
 use gamenet_snap::SnapMsg;
 use receiver::DeltaReceiver;
 use receiver::Received;
 use receiver::checked::Part;
+use receiver::checked::Ticks;
 use receiver::checked::receive;
 use receiver::whole::receive_empty;
 use receiver::whole::receive_single;
@@ -57,6 +60,28 @@ fn tell(a: Received, kind: &mut u32, numbers: &mut [i32; 3], len: &mut usize) ->
         }
         Received::Refused(e) => format::error_number(e),
     }
+}
+
+// Whether a message is refused.
+fn is_refused(a: Received) -> bool
+    ensures { λ r. ⌜ r ≡ isRefused a ⌝ }
+{
+    match a {
+        Received::NotYet => false,
+        Received::Delta { .. } => false,
+        Received::Empty { .. } => false,
+        Received::Refused(_) => true,
+    }
+}
+
+// Writes the ticks that a message left, if it was taken.
+fn put_ticks(a: Received, t: Ticks, ticks: &mut [i32; 4], counts: &mut [u32; 3])
+    ensures { λ _. ⌜ Rows t a (now (ticks .entry)) (now (counts .entry)) (now (ticks .exit)) (now (counts .exit)) ⌝ }
+{
+    if is_refused(a) {
+        return;
+    }
+    write_ticks(t, ticks, counts);
 }
 
 // How many messages the bytes of a delta make.
@@ -186,7 +211,7 @@ pub extern "C" fn cef_receiver_snap(
     kind: &mut u32,
     received: &mut [i32; 3],
     len: &mut usize,
-    warnings: &mut [usize; 13],
+    warnings: &mut [usize; WARNING_KINDS],
 ) -> u32
     ensures { λ r. ⌜ r ≡ status (snapCall (heldReceiver (now (ticks .entry)) (now (counts .entry)) (now (lengths .entry))) (record { tick = tick; deltaTick = «delta_tick»; numParts = «num_parts»; part = part; crc = crc }) (now («data» .entry)) (now (parts .entry)) (now (joined .entry)) .answer) ⌝ }
     ensures { λ _. ⌜ now (ticks .exit) ≡ ticksAfter (now (ticks .entry)) (snapCall (heldReceiver (now (ticks .entry)) (now (counts .entry)) (now (lengths .entry))) (record { tick = tick; deltaTick = «delta_tick»; numParts = «num_parts»; part = part; crc = crc }) (now («data» .entry)) (now (parts .entry)) (now (joined .entry))) ⌝ }
@@ -197,7 +222,7 @@ pub extern "C" fn cef_receiver_snap(
     ensures { λ _. ⌜ now (kind .exit) ≡ output kindOf (now (kind .entry)) (snapCall (heldReceiver (now (ticks .entry)) (now (counts .entry)) (now (lengths .entry))) (record { tick = tick; deltaTick = «delta_tick»; numParts = «num_parts»; part = part; crc = crc }) (now («data» .entry)) (now (parts .entry)) (now (joined .entry)) .answer) ⌝ }
     ensures { λ _. ⌜ now (received .exit) ≡ output (ticksOr (now (received .entry))) (now (received .entry)) (snapCall (heldReceiver (now (ticks .entry)) (now (counts .entry)) (now (lengths .entry))) (record { tick = tick; deltaTick = «delta_tick»; numParts = «num_parts»; part = part; crc = crc }) (now («data» .entry)) (now (parts .entry)) (now (joined .entry)) .answer) ⌝ }
     ensures { λ _. ⌜ now (len .exit) ≡ output (lengthOr (now (len .entry))) (now (len .entry)) (snapCall (heldReceiver (now (ticks .entry)) (now (counts .entry)) (now (lengths .entry))) (record { tick = tick; deltaTick = «delta_tick»; numParts = «num_parts»; part = part; crc = crc }) (now («data» .entry)) (now (parts .entry)) (now (joined .entry)) .answer) ⌝ }
-    ensures { λ _. ⌜ now (warnings .exit) ≡ Boundary.row (warningsOf (snapCall (heldReceiver (now (ticks .entry)) (now (counts .entry)) (now (lengths .entry))) (record { tick = tick; deltaTick = «delta_tick»; numParts = «num_parts»; part = part; crc = crc }) (now («data» .entry)) (now (parts .entry)) (now (joined .entry)) .answer)) ⌝ }
+    ensures { λ _. ⌜ now (warnings .exit) ≡ Totals.row (warningsOf (snapCall (heldReceiver (now (ticks .entry)) (now (counts .entry)) (now (lengths .entry))) (record { tick = tick; deltaTick = «delta_tick»; numParts = «num_parts»; part = part; crc = crc }) (now («data» .entry)) (now (parts .entry)) (now (joined .entry)) .answer)) ⌝ }
 {
     let m = Part {
         tick,
@@ -210,12 +235,8 @@ pub extern "C" fn cef_receiver_snap(
     let s = receive(r, m, lengths, data, parts, joined);
     *warnings = row(s.warnings);
     let answer = s.answer;
-    let number = tell(answer, kind, received, len);
-    if number != 0 {
-        return number;
-    }
-    write_ticks(s.ticks, ticks, counts);
-    0
+    put_ticks(answer, s.ticks, ticks, counts);
+    tell(answer, kind, received, len)
 }
 
 // Takes a whole delta, into joined.
@@ -232,7 +253,7 @@ pub extern "C" fn cef_receiver_snap_single(
     kind: &mut u32,
     received: &mut [i32; 3],
     len: &mut usize,
-    warnings: &mut [usize; 13],
+    warnings: &mut [usize; WARNING_KINDS],
 ) -> u32
     ensures { λ r. ⌜ r ≡ status (snapSingleCall (heldReceiver (now (ticks .entry)) (now (counts .entry)) (now (lengths .entry))) tick «delta_tick» crc (now («data» .entry)) [] (now (joined .entry)) .answer) ⌝ }
     ensures { λ _. ⌜ now (ticks .exit) ≡ ticksAfter (now (ticks .entry)) (snapSingleCall (heldReceiver (now (ticks .entry)) (now (counts .entry)) (now (lengths .entry))) tick «delta_tick» crc (now («data» .entry)) [] (now (joined .entry))) ⌝ }
@@ -242,18 +263,14 @@ pub extern "C" fn cef_receiver_snap_single(
     ensures { λ _. ⌜ now (kind .exit) ≡ output kindOf (now (kind .entry)) (snapSingleCall (heldReceiver (now (ticks .entry)) (now (counts .entry)) (now (lengths .entry))) tick «delta_tick» crc (now («data» .entry)) [] (now (joined .entry)) .answer) ⌝ }
     ensures { λ _. ⌜ now (received .exit) ≡ output (ticksOr (now (received .entry))) (now (received .entry)) (snapSingleCall (heldReceiver (now (ticks .entry)) (now (counts .entry)) (now (lengths .entry))) tick «delta_tick» crc (now («data» .entry)) [] (now (joined .entry)) .answer) ⌝ }
     ensures { λ _. ⌜ now (len .exit) ≡ output (lengthOr (now (len .entry))) (now (len .entry)) (snapSingleCall (heldReceiver (now (ticks .entry)) (now (counts .entry)) (now (lengths .entry))) tick «delta_tick» crc (now («data» .entry)) [] (now (joined .entry)) .answer) ⌝ }
-    ensures { λ _. ⌜ now (warnings .exit) ≡ Boundary.row (warningsOf (snapSingleCall (heldReceiver (now (ticks .entry)) (now (counts .entry)) (now (lengths .entry))) tick «delta_tick» crc (now («data» .entry)) [] (now (joined .entry)) .answer)) ⌝ }
+    ensures { λ _. ⌜ now (warnings .exit) ≡ Totals.row (warningsOf (snapSingleCall (heldReceiver (now (ticks .entry)) (now (counts .entry)) (now (lengths .entry))) tick «delta_tick» crc (now («data» .entry)) [] (now (joined .entry)) .answer)) ⌝ }
 {
     let r = load_ticks(ticks, counts);
     let s = receive_single(r, tick, delta_tick, crc, lengths, data, joined);
     *warnings = row(s.warnings);
     let answer = s.answer;
-    let number = tell(answer, kind, received, len);
-    if number != 0 {
-        return number;
-    }
-    write_ticks(s.ticks, ticks, counts);
-    0
+    put_ticks(answer, s.ticks, ticks, counts);
+    tell(answer, kind, received, len)
 }
 
 // Takes an empty delta.
@@ -267,7 +284,7 @@ pub extern "C" fn cef_receiver_snap_empty(
     kind: &mut u32,
     received: &mut [i32; 3],
     len: &mut usize,
-    warnings: &mut [usize; 13],
+    warnings: &mut [usize; WARNING_KINDS],
 ) -> u32
     ensures { λ r. ⌜ r ≡ status (snapEmptyCall (heldReceiver (now (ticks .entry)) (now (counts .entry)) (now (lengths .entry))) tick «delta_tick» [] [] .answer) ⌝ }
     ensures { λ _. ⌜ now (ticks .exit) ≡ ticksAfter (now (ticks .entry)) (snapEmptyCall (heldReceiver (now (ticks .entry)) (now (counts .entry)) (now (lengths .entry))) tick «delta_tick» [] []) ⌝ }
@@ -276,16 +293,12 @@ pub extern "C" fn cef_receiver_snap_empty(
     ensures { λ _. ⌜ now (kind .exit) ≡ output kindOf (now (kind .entry)) (snapEmptyCall (heldReceiver (now (ticks .entry)) (now (counts .entry)) (now (lengths .entry))) tick «delta_tick» [] [] .answer) ⌝ }
     ensures { λ _. ⌜ now (received .exit) ≡ output (ticksOr (now (received .entry))) (now (received .entry)) (snapEmptyCall (heldReceiver (now (ticks .entry)) (now (counts .entry)) (now (lengths .entry))) tick «delta_tick» [] [] .answer) ⌝ }
     ensures { λ _. ⌜ now (len .exit) ≡ output (lengthOr (now (len .entry))) (now (len .entry)) (snapEmptyCall (heldReceiver (now (ticks .entry)) (now (counts .entry)) (now (lengths .entry))) tick «delta_tick» [] [] .answer) ⌝ }
-    ensures { λ _. ⌜ now (warnings .exit) ≡ Boundary.row (warningsOf (snapEmptyCall (heldReceiver (now (ticks .entry)) (now (counts .entry)) (now (lengths .entry))) tick «delta_tick» [] [] .answer)) ⌝ }
+    ensures { λ _. ⌜ now (warnings .exit) ≡ Totals.row (warningsOf (snapEmptyCall (heldReceiver (now (ticks .entry)) (now (counts .entry)) (now (lengths .entry))) tick «delta_tick» [] [] .answer)) ⌝ }
 {
     let r = load_ticks(ticks, counts);
     let s = receive_empty(r, tick, delta_tick, lengths);
     *warnings = row(s.warnings);
     let answer = s.answer;
-    let number = tell(answer, kind, received, len);
-    if number != 0 {
-        return number;
-    }
-    write_ticks(s.ticks, ticks, counts);
-    0
+    put_ticks(answer, s.ticks, ticks, counts);
+    tell(answer, kind, received, len)
 }

@@ -6,12 +6,13 @@ ghost use Rattle.definitions.specs.Applying.{rawReadWithDeltaCall};
 ghost use Rattle.definitions.specs.Types.{typedReadCall, typedReadFromIntsCall, typedReadWithDeltaCall, typedItem, typedHasItemCall, rawTypeIdCall, typeIdCall};
 ghost use Rattle.definitions.specs.Builder.{newCall, builderAddItemCall, finishCall};
 ghost use Rattle.snap.specs.Answers.{typeOf};
-ghost use Rattle.boundary.specs.Boundary as Boundary;
+ghost use Rattle.format.specs.Totals as Totals;
 ghost use Rattle.boundary.specs.Boundary.{status, warningsOf, output, flag, itemInto};
 ghost use Rattle.capi_snaps.specs.Types.{typeIn, isKnown, rawOr, kindOf, ordinalOr, uuidOr};
 use boundary::checked::part_into;
-use boundary::checked::row;
 use boundary::checked::told;
+use format::WARNING_KINDS;
+use format::row;
 use raw_snap::Has;
 use snap::RawTypeId;
 use snap::TypeFound;
@@ -35,13 +36,13 @@ pub extern "C" fn cef_table_read_with_delta(
     out: &mut [i32],
     scratch: &mut [i32],
     count: &mut usize,
-    warnings: &mut [usize; 13],
+    warnings: &mut [usize; WARNING_KINDS],
 ) -> u32
     ensures { λ r. ⌜ r ≡ status (rawReadWithDeltaCall (now (base .entry)) (now (delta .entry)) (now (out .entry)) (length (now (scratch .entry))) .answer) ⌝ }
     ensures { λ _. ⌜ now (out .exit) ≡ rawReadWithDeltaCall (now (base .entry)) (now (delta .entry)) (now (out .entry)) (length (now (scratch .entry))) .out ⌝ }
     ensures { λ _. ⌜ now (scratch .exit) ≡ cleared (now (scratch .entry)) ⌝ }
     ensures { λ _. ⌜ now (count .exit) ≡ output (λ n. n) (now (count .entry)) (rawReadWithDeltaCall (now (base .entry)) (now (delta .entry)) (now (out .entry)) (length (now (scratch .entry))) .answer) ⌝ }
-    ensures { λ _. ⌜ now (warnings .exit) ≡ Boundary.row (warningsOf (rawReadWithDeltaCall (now (base .entry)) (now (delta .entry)) (now (out .entry)) (length (now (scratch .entry))) .answer)) ⌝ }
+    ensures { λ _. ⌜ now (warnings .exit) ≡ Totals.row (warningsOf (rawReadWithDeltaCall (now (base .entry)) (now (delta .entry)) (now (out .entry)) (length (now (scratch .entry))) .answer)) ⌝ }
 {
     let read = raw_snap::read_with_delta(base, delta, out, scratch);
     *warnings = row(read.warnings);
@@ -57,13 +58,13 @@ pub extern "C" fn cef_snap_read_with_delta(
     out: &mut [i32],
     scratch: &mut [i32],
     count: &mut usize,
-    warnings: &mut [usize; 13],
+    warnings: &mut [usize; WARNING_KINDS],
 ) -> u32
     ensures { λ r. ⌜ r ≡ status (typedReadWithDeltaCall (now (base .entry)) (now (delta .entry)) (now (out .entry)) (length (now (scratch .entry))) .answer) ⌝ }
     ensures { λ _. ⌜ now (out .exit) ≡ typedReadWithDeltaCall (now (base .entry)) (now (delta .entry)) (now (out .entry)) (length (now (scratch .entry))) .out ⌝ }
     ensures { λ _. ⌜ now (scratch .exit) ≡ cleared (now (scratch .entry)) ⌝ }
     ensures { λ _. ⌜ now (count .exit) ≡ output (λ n. n) (now (count .entry)) (typedReadWithDeltaCall (now (base .entry)) (now (delta .entry)) (now (out .entry)) (length (now (scratch .entry))) .answer) ⌝ }
-    ensures { λ _. ⌜ now (warnings .exit) ≡ Boundary.row (warningsOf (typedReadWithDeltaCall (now (base .entry)) (now (delta .entry)) (now (out .entry)) (length (now (scratch .entry))) .answer)) ⌝ }
+    ensures { λ _. ⌜ now (warnings .exit) ≡ Totals.row (warningsOf (typedReadWithDeltaCall (now (base .entry)) (now (delta .entry)) (now (out .entry)) (length (now (scratch .entry))) .answer)) ⌝ }
 {
     let read = snap::read_with_delta(base, delta, out, scratch);
     *warnings = row(read.warnings);
@@ -78,13 +79,13 @@ pub extern "C" fn cef_snap_read(
     out: &mut [i32],
     scratch: &mut [i32],
     count: &mut usize,
-    warnings: &mut [usize; 13],
+    warnings: &mut [usize; WARNING_KINDS],
 ) -> u32
     ensures { λ r. ⌜ r ≡ status (typedReadCall (now (src .entry)) (now (out .entry)) (length (now (scratch .entry))) .answer) ⌝ }
     ensures { λ _. ⌜ now (out .exit) ≡ typedReadCall (now (src .entry)) (now (out .entry)) (length (now (scratch .entry))) .out ⌝ }
     ensures { λ _. ⌜ now (scratch .exit) ≡ cleared (now (scratch .entry)) ⌝ }
     ensures { λ _. ⌜ now (count .exit) ≡ output (λ n. n) (now (count .entry)) (typedReadCall (now (src .entry)) (now (out .entry)) (length (now (scratch .entry))) .answer) ⌝ }
-    ensures { λ _. ⌜ now (warnings .exit) ≡ Boundary.row (warningsOf (typedReadCall (now (src .entry)) (now (out .entry)) (length (now (scratch .entry))) .answer)) ⌝ }
+    ensures { λ _. ⌜ now (warnings .exit) ≡ Totals.row (warningsOf (typedReadCall (now (src .entry)) (now (out .entry)) (length (now (scratch .entry))) .answer)) ⌝ }
 {
     let read = snap::read(src, out, scratch);
     *warnings = row(read.warnings);
@@ -99,13 +100,13 @@ pub extern "C" fn cef_snap_read_from_ints(
     out: &mut [i32],
     scratch: &mut [i32],
     count: &mut usize,
-    warnings: &mut [usize; 13],
+    warnings: &mut [usize; WARNING_KINDS],
 ) -> u32
     ensures { λ r. ⌜ r ≡ status (typedReadFromIntsCall (now (src .entry)) (now (out .entry)) (length (now (scratch .entry))) .answer) ⌝ }
     ensures { λ _. ⌜ now (out .exit) ≡ typedReadFromIntsCall (now (src .entry)) (now (out .entry)) (length (now (scratch .entry))) .out ⌝ }
     ensures { λ _. ⌜ now (scratch .exit) ≡ cleared (now (scratch .entry)) ⌝ }
     ensures { λ _. ⌜ now (count .exit) ≡ output (λ n. n) (now (count .entry)) (typedReadFromIntsCall (now (src .entry)) (now (out .entry)) (length (now (scratch .entry))) .answer) ⌝ }
-    ensures { λ _. ⌜ now (warnings .exit) ≡ Boundary.row (warningsOf (typedReadFromIntsCall (now (src .entry)) (now (out .entry)) (length (now (scratch .entry))) .answer)) ⌝ }
+    ensures { λ _. ⌜ now (warnings .exit) ≡ Totals.row (warningsOf (typedReadFromIntsCall (now (src .entry)) (now (out .entry)) (length (now (scratch .entry))) .answer)) ⌝ }
 {
     let read = snap::read_from_ints(src, out, scratch);
     *warnings = row(read.warnings);

@@ -12,7 +12,8 @@ use Rattle.definitions.specs.Storage.{Store}
 use Rattle.definitions.specs.StorageCalls.{StoreStep, AddStep, setDeltaTickCall, addDeltaCall, addSnapCall, tickCall}
 use Rattle.format.specs.Numbers.{number}
 use Rattle.format.specs.declared.Error.{Error}
-use Rattle.boundary.specs.Boundary.{row, status, warningsOf, output}
+use Rattle.format.specs.Totals.{row}
+use Rattle.boundary.specs.Boundary.{status, warningsOf, output}
 use Rattle.boundary_states.specs.Rows.{SavedStore}
 use Rattle.boundary_states.specs.Few.{Fits}
 use Rattle.storage.specs.Answers.{setWith, addedIn, Clashing}

@@ -7,7 +7,8 @@ use Rattle.definitions.specs.Ints.{bits}
 use Rattle.definitions.specs.Refusals.{deltaDifferingSizes}
 use Rattle.definitions.specs.Storage.{Store}
 use Rattle.definitions.specs.StorageCalls.{StoreStep, AddStep}
-use Rattle.boundary.specs.Boundary.{row, status, warningsOf, output}
+use Rattle.format.specs.Totals.{row}
+use Rattle.boundary.specs.Boundary.{status, warningsOf, output}
 use Rattle.boundary_states.specs.Rows.{SavedStore}
 use Rattle.storage.specs.Answers.{Clash}
 use Rattle.storage.specs.declared.Added.{Added}

@@ -11,11 +11,12 @@ ghost use Rattle.storage.specs.Answers.{setWith, addedIn};
 ghost use Rattle.storage.specs.Taking.{takenWith};
 ghost use Rattle.capi_storage.specs.Told.{Told, ToldAdded, Names, clashOr};
 use boundary::checked::part_into;
-use boundary::checked::row;
 use boundary_states::checked::load_storage;
 use boundary_states::checked::save_storage;
 use boundary_states::checked::write_storage;
 use format::Error;
+use format::WARNING_KINDS;
+use format::row;
 use storage::Added;
 use storage::HeldTick;
 use storage::Set;
@@ -108,7 +109,7 @@ pub extern "C" fn cef_storage_set_delta_tick(
     counts: &mut [u32; 3],
     tick: i32,
     area: &mut [i32],
-    warnings: &mut [usize; 13],
+    warnings: &mut [usize; WARNING_KINDS],
 ) -> u32
     ensures { λ r. ⌜ Told (setDeltaTickCall (heldStore (now (ticks .entry)) (now (counts .entry))) (now (area .entry)) tick) (now (ticks .entry)) (now (counts .entry)) (now (ticks .exit)) (now (counts .exit)) (now (area .exit)) (now (warnings .exit)) r ⌝ }
 {
@@ -186,7 +187,7 @@ pub extern "C" fn cef_storage_add_delta(
     delta: &[i32],
     area: &mut [i32],
     scratch: &mut [i32],
-    warnings: &mut [usize; 13],
+    warnings: &mut [usize; WARNING_KINDS],
 ) -> u32
     ensures { λ r. ⌜ Told (addDeltaCall (heldStore (now (ticks .entry)) (now (counts .entry))) (now (area .entry)) (given «has_crc» crc) «delta_tick» tick (now (delta .entry)) (length (now (scratch .entry)))) (now (ticks .entry)) (now (counts .entry)) (now (ticks .exit)) (now (counts .exit)) (now (area .exit)) (now (warnings .exit)) r ⌝ }
     ensures { λ _. ⌜ now (scratch .exit) ≡ cleared (now (scratch .entry)) ⌝ }

@@ -4,12 +4,13 @@ ghost use lib.ListN.{length};
 ghost use Rattle.definitions.specs.Areas.{cleared};
 ghost use Rattle.definitions.specs.Tables.{keyOf};
 ghost use Rattle.definitions.specs.TableCalls.{emptyCall, readCall, readFromIntsCall, writeToIntsCall, writeCall, numItemsCall, hasItemCall, crcCall, walkKeyCall, addItemCall};
-ghost use Rattle.boundary.specs.Boundary as Boundary;
+ghost use Rattle.format.specs.Totals as Totals;
 ghost use Rattle.boundary.specs.Boundary.{status, warningsOf, output, flag, itemInto, keyOr, ended};
 ghost use Rattle.capi_tables.specs.Items.{itemIn, walkItemIn};
 use boundary::checked::part_into;
-use boundary::checked::row;
 use boundary::checked::told;
+use format::WARNING_KINDS;
+use format::row;
 use packer::IntWrite;
 use raw_snap::Checksum;
 use raw_snap::Count;
@@ -33,13 +34,13 @@ pub extern "C" fn cef_table_read(
     out: &mut [i32],
     scratch: &mut [i32],
     count: &mut usize,
-    warnings: &mut [usize; 13],
+    warnings: &mut [usize; WARNING_KINDS],
 ) -> u32
     ensures { λ r. ⌜ r ≡ status (readCall (now (src .entry)) (now (out .entry)) (length (now (scratch .entry))) .answer) ⌝ }
     ensures { λ _. ⌜ now (out .exit) ≡ readCall (now (src .entry)) (now (out .entry)) (length (now (scratch .entry))) .out ⌝ }
     ensures { λ _. ⌜ now (scratch .exit) ≡ cleared (now (scratch .entry)) ⌝ }
     ensures { λ _. ⌜ now (count .exit) ≡ output (λ n. n) (now (count .entry)) (readCall (now (src .entry)) (now (out .entry)) (length (now (scratch .entry))) .answer) ⌝ }
-    ensures { λ _. ⌜ now (warnings .exit) ≡ Boundary.row (warningsOf (readCall (now (src .entry)) (now (out .entry)) (length (now (scratch .entry))) .answer)) ⌝ }
+    ensures { λ _. ⌜ now (warnings .exit) ≡ Totals.row (warningsOf (readCall (now (src .entry)) (now (out .entry)) (length (now (scratch .entry))) .answer)) ⌝ }
 {
     let read = raw_snap::read(src, out, scratch);
     *warnings = row(read.warnings);
@@ -53,12 +54,12 @@ pub extern "C" fn cef_table_read_from_ints(
     src: &[i32],
     out: &mut [i32],
     count: &mut usize,
-    warnings: &mut [usize; 13],
+    warnings: &mut [usize; WARNING_KINDS],
 ) -> u32
     ensures { λ r. ⌜ r ≡ status (readFromIntsCall (now (src .entry)) (now (out .entry)) .answer) ⌝ }
     ensures { λ _. ⌜ now (out .exit) ≡ readFromIntsCall (now (src .entry)) (now (out .entry)) .out ⌝ }
     ensures { λ _. ⌜ now (count .exit) ≡ output (λ n. n) (now (count .entry)) (readFromIntsCall (now (src .entry)) (now (out .entry)) .answer) ⌝ }
-    ensures { λ _. ⌜ now (warnings .exit) ≡ Boundary.row (warningsOf (readFromIntsCall (now (src .entry)) (now (out .entry)) .answer)) ⌝ }
+    ensures { λ _. ⌜ now (warnings .exit) ≡ Totals.row (warningsOf (readFromIntsCall (now (src .entry)) (now (out .entry)) .answer)) ⌝ }
 {
     let read = raw_snap::read_from_ints(src, out);
     *warnings = row(read.warnings);

@@ -25,10 +25,10 @@ use Rattle.packer.specs.Scans.{Scanned}
 use Rattle.packer.specs.declared.checked.Totals.{Totals}
 use Rattle.format.specs.Answers.{storedWith}
 use Rattle.format.specs.declared.Stored.{Stored}
-use Rattle.delta_reading.specs.Answers.{deletedCounts, OrderedRead}
+use Rattle.format.specs.Sources.{deletedCounts, deltaCounts}
+use Rattle.delta_reading.specs.Answers.{OrderedRead}
 use Rattle.delta_reading.specs.declared.checked.Ordered.the-variants as ordered
 use Rattle.delta_source.specs.Source.{source, from}
-use Rattle.delta_any_order.specs.Counted.{deltaCounts}
 
 -- one answer for another
 pub answered : {a b : Outcome ℕ} (last : List ℤ) → a ≡ b → _≡_ {A = Wrote ℕ ℤ} (record { answer = a; out = last }) (record { answer = b; out = last })

@@ -10,7 +10,6 @@ ghost use Rattle.format.specs.Numbers.{number};
 ghost use Rattle.format.specs.Totals.{counts};
 ghost use Rattle.format.specs.Answers.{storedWith};
 use delta_any_order::checked::read_any;
-use delta_any_order::checked::warnings;
 use delta_reading::checked::Ordered;
 use delta_reading::checked::read_ordered;
 use format::Error;
@@ -42,7 +41,7 @@ pub fn read_ints(src: &[i32], sizes: &[i32], out: &mut [i32], scratch: &mut [i32
     };
     Reading {
         answer,
-        warnings: warnings(0, 0, false, false, 0, delete_updates, false),
+        warnings: Warnings::delta(0, 0, false, false, 0, delete_updates, false),
     }
 }
 
@@ -64,7 +63,7 @@ pub fn read_packed(src: &[u8], sizes: &[i32], out: &mut [i32], scratch: &mut [i3
     };
     Reading {
         answer,
-        warnings: warnings(
+        warnings: Warnings::delta(
             all.overlong,
             all.padding,
             false,

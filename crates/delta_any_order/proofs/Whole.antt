@@ -17,6 +17,7 @@ use Rattle.format.specs.Numbers.{number}
 use Rattle.format.specs.Answers.{storedWith}
 use Rattle.format.specs.declared.Error.{Error}
 use Rattle.format.specs.declared.Stored.{Stored}
+use Rattle.format.specs.Sources.{deltaCounts}
 use Rattle.delta_index.specs.Entries.{countItems}
 use Rattle.delta_index.specs.RepeatLaws.{repeated}
 use Rattle.delta_index.specs.declared.checked.Tally.{Tally}
@@ -28,7 +29,6 @@ use Rattle.delta_source.specs.declared.checked.Ended.{Ended}
 use Rattle.delta_source.specs.declared.checked.Ended.the-variants as ended
 use Rattle.delta_source.specs.declared.checked.Judged.{Judged}
 use Rattle.delta_entries.specs.Told.{Told, Tallies}
-use Rattle.delta_any_order.specs.Counted.{deltaCounts}
 use Rattle.delta_any_order.specs.KeyLaws.{walk-repeats}
 use Rattle.delta_any_order.specs.ReadLaws.{twice, otherCount, readEnding, header-refused, keys-short, delta-walked}
 use Rattle.delta_any_order.specs.Fronts.{Fronts}

@@ -7,30 +7,8 @@ use native.Mathlib.Omega.{arith}
 use Rattle.definitions.specs.Warnings.{Counts, count, DuplicateDelete, DuplicateUpdate, DeleteUpdate, NumUpdatedItems, one, plus}
 use Rattle.definitions.specs.Warnings as Warnings
 use Rattle.laws.specs.WarningLaws.{packed, counted-same}
+use Rattle.format.specs.Sources.{countsOf, deltaCounts}
 use Rattle.delta_source.specs.Source.{oddPadding}
-
--- the packer's two kinds, padding that is not 0, keys deleted twice, repeated updates, updates of deleted keys, a wrong count of updates
-abbrev pub countsOf : ℕ → ℕ → ℕ → ℕ → ℕ → ℕ → ℕ → Counts
-countsOf o p odd twice repeats crossing other =
-    record {
-      overlongIntEncoding = o;
-      nonZeroIntPadding = p;
-      nonZeroPadding = odd;
-      duplicateDelete = twice;
-      duplicateUpdate = repeats;
-      unknownDelete = 0;
-      deleteUpdate = crossing;
-      numUpdatedItems = other;
-      excessSnapData = 0;
-      excessUuidItemData = 0;
-      duplicateSnap = 0;
-      differingAttributes = 0;
-      weirdNegativeDeltaTick = 0;
-    }
-
--- the same; three of them are counted at most once
-abbrev pub deltaCounts : ℕ → ℕ → Bool → Bool → ℕ → ℕ → Bool → Counts
-deltaCounts o p odd twice repeats crossing other = countsOf o p (cond odd 1 0) (cond twice 1 0) repeats crossing (cond other 1 0)
 
 -- a warning of a kind, if there is cause
 abbrev pub warnedIf : Bool → Warnings.Warning → Counts

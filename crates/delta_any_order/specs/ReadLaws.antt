@@ -21,7 +21,8 @@ use Rattle.delta_index.specs.Entries.{countItems}
 use Rattle.delta_index.specs.RepeatLaws.{repeated}
 use Rattle.delta_source.specs.Source.{Source, from, oddPadding, Walks, whole, broken, more}
 use Rattle.delta_source.specs.SourceLaws.{Reads, got, update-reads}
-use Rattle.delta_any_order.specs.Counted.{deltaCounts, warnedIf, updateCounts, counts-turn, counts-whole, counts-broken, counts-short}
+use Rattle.format.specs.Sources.{deltaCounts}
+use Rattle.delta_any_order.specs.Counted.{warnedIf, updateCounts, counts-turn, counts-whole, counts-broken, counts-short}
 
 -- ---- the updates
 

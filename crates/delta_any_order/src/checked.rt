@@ -16,9 +16,9 @@ ghost use Rattle.definitions.specs.DeltaCalls.{storedDelta};
 ghost use Rattle.format.specs.Numbers.{number};
 ghost use Rattle.format.specs.Totals.{counts};
 ghost use Rattle.format.specs.Answers.{storedWith};
+ghost use Rattle.format.specs.Sources.{deltaCounts};
 ghost use Rattle.delta_source.specs.Source.{source, size, from};
 ghost use Rattle.delta_entries.specs.Told.{Told};
-ghost use Rattle.delta_any_order.specs.Counted.{deltaCounts};
 ghost use Rattle.delta_any_order.specs.Fronts.{Fronts, Weighs, Laid};
 use delta_entries::checked::emit;
 use delta_entries::checked::tally;
@@ -37,42 +37,13 @@ use format::Warnings;
 use table::checked::nat_at;
 use table::checked::put;
 
-// The warnings of reading: the packer's two kinds, non-zero padding, keys deleted twice, repeated updates, updates of deleted keys, a wrong count of updates.
-pub fn warnings(
-    overlong: usize,
-    padding: usize,
-    odd: bool,
-    twice: bool,
-    repeats: usize,
-    crossing: usize,
-    other: bool,
-) -> Warnings
-    ensures { λ r. ⌜ counts r ≡ deltaCounts overlong padding odd twice repeats crossing other ⌝ }
-{
-    Warnings {
-        overlong_int_encoding: overlong,
-        non_zero_int_padding: padding,
-        non_zero_padding: ints::one_if(odd),
-        duplicate_delete: ints::one_if(twice),
-        duplicate_update: repeats,
-        unknown_delete: 0,
-        delete_update: crossing,
-        num_updated_items: ints::one_if(other),
-        excess_snap_data: 0,
-        excess_uuid_item_data: 0,
-        duplicate_snap: 0,
-        differing_attributes: 0,
-        weird_negative_delta_tick: 0,
-    }
-}
-
 // The refusal of a delta before its updates, with the warnings up to there.
 pub fn refused(error: Error, overlong: usize, padding: usize, odd: bool) -> Reading
     ensures { λ r. ⌜ err (number error) (deltaCounts overlong padding odd false 0 0 false) ≡ storedWith (r .answer) (counts (r .warnings)) ⌝ }
 {
     Reading {
         answer: Stored::Refused(error),
-        warnings: warnings(overlong, padding, odd, false, 0, 0, false),
+        warnings: Warnings::delta(overlong, padding, odd, false, 0, 0, false),
     }
 }
 
@@ -120,7 +91,7 @@ fn counted(front: Front, judged: Judged, t: Tally, other: bool) -> Warnings
     requires { ⌜ (front .overlong + judged .overlong < 2 ^ 32) × (front .padding + judged .padding < 2 ^ 32) × (t .updated ≤ judged .updates) ⌝ }
     ensures { λ r. ⌜ counts r ≡ deltaCounts (front .overlong + judged .overlong) (front .padding + judged .padding) (front .odd) (not (eqb (t .deleted) (front .deleted))) (judged .updates - t .updated) (t .crossing) other ⌝ }
 {
-    warnings(
+    Warnings::delta(
         front.overlong + judged.overlong,
         front.padding + judged.padding,
         front.odd,

@@ -1,4 +1,6 @@
 -- What the code's warning counts mean. Assumes nothing.
+use mathlib.Core.List.{List, [], _∷_}
+use Prim.Native.Nat.{ℕ}
 use Rattle.definitions.specs.Warnings.{Counts}
 use Rattle.format.specs.declared.Warnings.{Warnings}
 
@@ -20,3 +22,21 @@ counts w =
       differingAttributes = w .«differing_attributes»;
       weirdNegativeDeltaTick = w .«weird_negative_delta_tick»;
     }
+
+-- the counts in the order of their kinds
+abbrev pub row : Counts → List ℕ
+row c =
+    c .overlongIntEncoding
+    ∷ c .nonZeroIntPadding
+    ∷ c .nonZeroPadding
+    ∷ c .duplicateDelete
+    ∷ c .duplicateUpdate
+    ∷ c .unknownDelete
+    ∷ c .deleteUpdate
+    ∷ c .numUpdatedItems
+    ∷ c .excessSnapData
+    ∷ c .excessUuidItemData
+    ∷ c .duplicateSnap
+    ∷ c .differingAttributes
+    ∷ c .weirdNegativeDeltaTick
+    ∷ []

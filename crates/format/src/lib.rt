@@ -5,10 +5,14 @@ ghost use mathlib.Core.Option as Option;
 ghost use Prim.Native.Nat.{_/_, _%_};
 ghost use Rattle.definitions.specs.Ints.{bits};
 ghost use Rattle.definitions.specs.Warnings.{none};
+ghost use Rattle.definitions.specs.Packed.{warned};
 ghost use Rattle.definitions.specs.Tables.{keyOf};
 ghost use Rattle.definitions.specs.DeltaCalls.{createItemDeltaCall, applyItemDeltaCall};
 ghost use Rattle.format.specs.Numbers.{number};
+ghost use Rattle.format.specs.Totals as Totals;
 ghost use Rattle.format.specs.Totals.{counts};
+ghost use Rattle.format.specs.Sources.{tableCounts, deltaCounts, typedCounts, flagged, takenCounts, merge};
+ghost use Rattle.laws.specs.WarningLaws.{packed};
 ghost use Rattle.format.specs.Answers.{storedInts};
 
 // Why a call is refused, in the order of the table of refusals in docs/FORMAT.md.
@@ -98,6 +102,9 @@ pub enum OptionTick {
     None,
 }
 
+// How many kinds of warning there are.
+pub const WARNING_KINDS: usize = 13;
+
 // How many warnings of each kind were counted.
 pub struct Warnings {
     // From the packer.
@@ -140,6 +147,119 @@ impl Warnings {
             weird_negative_delta_tick: 0,
         }
     }
+
+    // The packer's warnings.
+    pub fn packed(overlong: usize, padding: usize) -> Warnings
+        ensures { λ r. ⌜ counts r ≡ packed overlong padding ⌝ }
+    {
+        let mut w = Warnings::none();
+        w.overlong_int_encoding = overlong;
+        w.non_zero_int_padding = padding;
+        w
+    }
+
+    // The warnings of reading a table: the packer's, how often ints are left over, and how many kinds have more than four ints.
+    pub fn table(overlong: usize, padding: usize, excess: usize, kinds: usize) -> Warnings
+        ensures { λ r. ⌜ counts r ≡ tableCounts overlong padding excess kinds ⌝ }
+    {
+        let mut w = Warnings::packed(overlong, padding);
+        w.excess_snap_data = excess;
+        w.excess_uuid_item_data = kinds;
+        w
+    }
+
+    // The warnings of reading a delta: the packer's, non-zero padding, keys deleted twice, repeated updates, updates of deleted keys, a wrong
+    // count of updates.
+    pub fn delta(
+        overlong: usize,
+        padding: usize,
+        odd: bool,
+        twice: bool,
+        repeats: usize,
+        crossing: usize,
+        other: bool,
+    ) -> Warnings
+        ensures { λ r. ⌜ counts r ≡ deltaCounts overlong padding odd twice repeats crossing other ⌝ }
+    {
+        let mut w = Warnings::packed(overlong, padding);
+        w.non_zero_padding = ints::one_if(odd);
+        w.duplicate_delete = ints::one_if(twice);
+        w.duplicate_update = repeats;
+        w.delete_update = crossing;
+        w.num_updated_items = ints::one_if(other);
+        w
+    }
+
+    // The warnings of applying a delta: whether the base lacks a deleted key, and how many kinds have more than four ints.
+    pub fn applied(unknown_delete: bool, kinds: usize) -> Warnings
+        ensures { λ r. ⌜ counts r ≡ typedCounts «unknown_delete» kinds ⌝ }
+    {
+        let mut w = Warnings::none();
+        w.unknown_delete = ints::one_if(unknown_delete);
+        w.excess_uuid_item_data = kinds;
+        w
+    }
+
+    // The receiver's warnings: the message's tick was unfinished, or its numbers differ.
+    pub fn received(duplicate: bool, differing: bool) -> Warnings
+        ensures { λ r. ⌜ counts r ≡ flagged duplicate differing ⌝ }
+    {
+        let mut w = Warnings::none();
+        w.duplicate_snap = ints::one_if(duplicate);
+        w.differing_attributes = ints::one_if(differing);
+        w
+    }
+
+    // The store's warnings: whether the base's tick is negative and not -1, and those of applying.
+    pub fn taken(weird: bool, unknown_delete: bool, kinds: usize) -> Warnings
+        ensures { λ r. ⌜ counts r ≡ takenCounts weird «unknown_delete» kinds ⌝ }
+    {
+        let mut w = Warnings::applied(unknown_delete, kinds);
+        w.weird_negative_delta_tick = ints::one_if(weird);
+        w
+    }
+
+    // The warnings of a message: those of the receiver, of the delta that was read and of the store.
+    pub fn merged(received: Warnings, read: Warnings, taken: Warnings) -> Warnings
+        ensures { λ r. ⌜ counts r ≡ merge (counts received) (counts read) (counts taken) ⌝ }
+    {
+        let mut w = read;
+        w.excess_snap_data = 0;
+        w.duplicate_snap = received.duplicate_snap;
+        w.differing_attributes = received.differing_attributes;
+        w.unknown_delete = taken.unknown_delete;
+        w.excess_uuid_item_data = taken.excess_uuid_item_data;
+        w.weird_negative_delta_tick = taken.weird_negative_delta_tick;
+        w
+    }
+}
+
+// The counts in the order of their kinds.
+pub fn row(w: Warnings) -> [usize; WARNING_KINDS]
+    ensures { λ r. ⌜ r ≡ Totals.row (counts w) ⌝ }
+{
+    [
+        w.overlong_int_encoding,
+        w.non_zero_int_padding,
+        w.non_zero_padding,
+        w.duplicate_delete,
+        w.duplicate_update,
+        w.unknown_delete,
+        w.delete_update,
+        w.num_updated_items,
+        w.excess_snap_data,
+        w.excess_uuid_item_data,
+        w.duplicate_snap,
+        w.differing_attributes,
+        w.weird_negative_delta_tick,
+    ]
+}
+
+// The counts of an integer's warnings in that order.
+pub fn warned_row(overlong: bool, padding: bool) -> [usize; WARNING_KINDS]
+    ensures { λ r. ⌜ r ≡ Totals.row (warned overlong padding) ⌝ }
+{
+    row(Warnings::packed(ints::one_if(overlong), ints::one_if(padding)))
 }
 
 // How many ints were stored at the front of an area, or why none were.

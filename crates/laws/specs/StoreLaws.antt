@@ -18,7 +18,8 @@ use Rattle.definitions.specs.Deltas.{Delta}
 use Rattle.definitions.specs.Applying.{applyDelta}
 use Rattle.definitions.specs.Types.{typed}
 use Rattle.definitions.specs.Receiver.{same}
-use Rattle.definitions.specs.Storage.{StoredSnap, Storage, storeInts, newestTick, dropOlder, isNegative, warnWeird, dropFor, baseFor, Keeps, withSnaps, withAck, sumFits, pushSnap, addTable, addOn, addDelta}
+use Rattle.definitions.specs.Storage.{StoredSnap, Storage, newestTick, dropOlder, isNegative, warnWeird, dropFor, baseFor, Keeps, withSnaps, withAck, sumFits, pushSnap, addTable, addOn, addDelta}
+use Rattle.laws.specs.StoreForm.{storeRoom}
 
 -- ---- ticks
 
@@ -74,7 +75,7 @@ module _ (n : ℕ) (sum : Option ℤ) (tick : ℤ) where
   table-falls : (s : Storage) (o : Outcome Table) → Above (s .snaps) tick → Falling (s .snaps) → Falling (addTable n sum tick s o .storage .snaps)
   unfolding addTable
   table-falls s (err e w) h f = f
-  table-falls s (ok t w) h f = go (sumFits sum t) (leb (length (storeInts (pushSnap tick t (s .snaps)))) n)
+  table-falls s (ok t w) h f = go (sumFits sum t) (leb (storeRoom (pushSnap tick t (s .snaps))) n)
     where
       go : (a b : Bool) → Falling (cond {A = Keeps ℤ} a (cond b (record { answer = ok tick w; storage = withAck (withSnaps s (pushSnap tick t (s .snaps))) (some tick) }) (record { answer = err capacityError w; storage = s })) (record { answer = err invalidCrc w; storage = withAck s Option.none }) .storage .snaps)
       go true true = falling-take 100 (record { tick = tick; snap = t } ∷ s .snaps) (more h f)

@@ -3,7 +3,8 @@ use mathlib.Core.Path.{_≡_, refl}
 use mathlib.Core.Bool.{Bool, true, false, cond}
 use Prim.Native.Nat.{ℕ, _+_}
 use native.Mathlib.Nat.{add-assoc, add-comm, add-zero, zero-add}
-use Rattle.definitions.specs.Warnings.{Warning, Counts, count, counted, none, plus}
+use lib.Dec.{eqb}
+use Rattle.definitions.specs.Warnings.{Warning, Counts, OverlongIntEncoding, NonZeroIntPadding, index, count, counted, none, plus}
 use Rattle.definitions.specs.Packed.{warned}
 
 -- equal numbers for each kind are equal counts
@@ -26,26 +27,17 @@ pub plus-comm : (a b : Counts) → plus a b ≡ plus b a
 plus-comm a b =
     counted-same (λ k. count a k + count b k) (λ k. count b k + count a k) (λ k. add-comm (count a k) (count b k))
 
+-- ---- counts, kind by kind
+
+-- the counts with another number for a kind
+abbrev pub set : Warning → ℕ → Counts → Counts
+set w n c = counted (λ k. cond (eqb (index k) (index w)) n (count c k))
+
 -- ---- the packer's warnings
 
 -- counts of the packer's two kinds
 abbrev pub packed : ℕ → ℕ → Counts
-packed o p =
-    record {
-      overlongIntEncoding = o;
-      nonZeroIntPadding = p;
-      nonZeroPadding = 0;
-      duplicateDelete = 0;
-      duplicateUpdate = 0;
-      unknownDelete = 0;
-      deleteUpdate = 0;
-      numUpdatedItems = 0;
-      excessSnapData = 0;
-      excessUuidItemData = 0;
-      duplicateSnap = 0;
-      differingAttributes = 0;
-      weirdNegativeDeltaTick = 0;
-    }
+packed o p = set OverlongIntEncoding o (set NonZeroIntPadding p none)
 
 -- an integer's warnings
 pub warned-packed : (overlong padding : Bool) → warned overlong padding ≡ packed (cond overlong 1 0) (cond padding 1 0)

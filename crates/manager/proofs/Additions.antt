@@ -23,13 +23,14 @@ use Rattle.format.specs.declared.Reading.{Reading}
 use Rattle.format.specs.declared.Stored.{Stored}
 use Rattle.format.specs.declared.Stored.the-variants as answer
 use Rattle.format.specs.declared.Warnings.{Warnings}
+use Rattle.format.specs.Sources.{merge}
 use Rattle.receiver.specs.States.{receiverOf}
 use Rattle.receiver.specs.Answers.{receivedWith, answered}
 use Rattle.receiver.specs.declared.Received.{Received}
 use Rattle.receiver.specs.declared.Received.the-variants as received
 use Rattle.receiver.specs.declared.Receiving.{Receiving}
-use Rattle.storage.specs.States.{storeOf, holdsIn, Holds}
-use Rattle.storage.specs.Told.{beside-is}
+use Rattle.store_area.specs.Stores.{holdsIn, Holds, beside-is}
+use Rattle.storage.specs.States.{storeOf}
 use Rattle.storage.specs.Taking.{sumOf, takenWith, takings}
 use Rattle.storage.specs.declared.Storage.{Storage}
 use Rattle.storage.specs.declared.Taken.{Taken}
@@ -37,7 +38,7 @@ use Rattle.storage.specs.declared.Taken.the-variants as taken
 use Rattle.storage.specs.declared.Taking.{Taking}
 use Rattle.storage.specs.declared.checked.Sent.{Sent}
 use Rattle.manager.specs.Answers.{handledWith, handlings}
-use Rattle.manager.specs.Steps.{merge, readInto, toldBy, goes, keeps, handledBy, fitting, deltaLeft, Adds, stopping, Brought, laidOut}
+use Rattle.manager.specs.Steps.{readInto, toldBy, goes, keeps, handledBy, fitting, deltaLeft, Adds, stopping, Brought, laidOut}
 use Rattle.manager.specs.declared.Handled.{Handled}
 use Rattle.manager.specs.declared.Handled.the-variants as handled
 use Rattle.manager.specs.declared.Handling.{Handling}

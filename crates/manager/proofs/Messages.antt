@@ -24,7 +24,7 @@ use Rattle.receiver.specs.Answers.{receivedWith, answered}
 use Rattle.receiver.specs.declared.Received.{Received}
 use Rattle.receiver.specs.declared.Received.the-variants as received
 use Rattle.receiver.specs.declared.Receiving.{Receiving}
-use Rattle.storage.specs.States.{holdsIn}
+use Rattle.store_area.specs.Stores.{holdsIn}
 use Rattle.manager.specs.Steps.{Short, Brought, laidOut, refusing}
 use Rattle.manager.proofs.WarningKinds.{ofReceiver, Told, value, refusal}
 use Rattle.manager.proofs.ReceiverKinds.{Few, NoBytes, receive-told, empty-brings}

@@ -18,6 +18,7 @@ use Rattle.definitions.specs.Applying.{kept, updatedItem, changeItem, newItem, 
 use Rattle.definitions.specs.Types.{typeOf, hasKind, kindNamed, judgeTypes, typed}
 use Rattle.definitions.specs.Receiver.{same}
 use Rattle.definitions.specs.Storage as Store
+use Rattle.laws.specs.StoreForm.{storeRoom}
 use Rattle.manager.proofs.WarningKinds.{ofStore, Told, value, refusal, Any, storing, returns, given, warns, either, then}
 use Rattle.manager.proofs.WarningKinds as Kinds
 
@@ -77,7 +78,7 @@ typed-told t = Kinds.next storing (types-told t [] (walk t)) (returns storing t 
 table-told : (n : ℕ) (sum : Option ℤ) (tick : ℤ) (s : Store.Storage) {o : Outcome Table} → Told ofStore (Any {A = Table}) o → Told ofStore (Any {A = ℤ}) (Store.addTable n sum tick s o .answer)
 unfolding Store.addTable
 table-told n sum tick s (refusal e) = refusal e
-table-told n sum tick s (value {a = t} {w = w} p e) = go (Store.sumFits sum t) (leb (length (Store.storeInts (Store.pushSnap tick t (s .snaps)))) n)
+table-told n sum tick s (value {a = t} {w = w} p e) = go (Store.sumFits sum t) (leb (storeRoom (Store.pushSnap tick t (s .snaps))) n)
   where
     go : (a b : Bool) → Told ofStore (Any {A = ℤ}) (cond {A = Store.Keeps ℤ} a (cond b (record { answer = ok tick w; storage = Store.withAck (Store.withSnaps s (Store.pushSnap tick t (s .snaps))) (some tick) }) (record { answer = err capacityError w; storage = s })) (record { answer = err invalidCrc w; storage = Store.withAck s none }) .answer)
     go true true = value tt e

@@ -1,13 +1,12 @@
 -- Which kinds of warning a step of a message counts. Assumes nothing.
 use mathlib.Core.Path.{_≡_, refl, ap₂, _∙_}
 use mathlib.Core.Bool.{Bool, true, false, cond}
-use Prim.Native.Nat.{ℕ, _+_}
-use native.Mathlib.Omega.{arith}
-use Rattle.definitions.specs.Warnings.{Warning, OverlongIntEncoding, NonZeroIntPadding, NonZeroPadding, DuplicateDelete, DuplicateUpdate, UnknownDelete, DeleteUpdate, NumUpdatedItems, ExcessSnapData, ExcessUuidItemData, DuplicateSnap, DifferingAttributes, WeirdNegativeDeltaTick, Counts, count, one, plus}
+use Prim.Native.Nat.{ℕ}
+use native.Mathlib.Nat.{add-zero, zero-add}
+use Rattle.definitions.specs.Warnings.{Warning, Counts, one, plus}
 use Rattle.definitions.specs.Warnings as Warnings
 use Rattle.definitions.specs.Outcome.{Outcome, ok, err, return, require, warnIf, after, _>>=_, _>>_}
-use Rattle.laws.specs.WarningLaws.{counted-same}
-use Rattle.manager.specs.Steps.{merge}
+use Rattle.format.specs.Sources.{merge}
 
 -- ---- the kinds of each step
 
@@ -23,23 +22,7 @@ ofStore w = merge Warnings.none Warnings.none w
 
 -- the sum of the three has each kind from the step that counts it
 sums : (a b c : Counts) → plus (plus (ofReceiver a) (ofReading b)) (ofStore c) ≡ merge a b c
-sums a b c =
-    counted-same (λ k. count (ofReceiver a) k + count (ofReading b) k + count (ofStore c) k) (λ k. count (merge a b c) k) each
-  where
-    each : (k : Warning) → count (ofReceiver a) k + count (ofReading b) k + count (ofStore c) k ≡ count (merge a b c) k
-    each OverlongIntEncoding = omega arith
-    each NonZeroIntPadding = omega arith
-    each NonZeroPadding = omega arith
-    each DuplicateDelete = omega arith
-    each DuplicateUpdate = omega arith
-    each UnknownDelete = omega arith
-    each DeleteUpdate = omega arith
-    each NumUpdatedItems = omega arith
-    each ExcessSnapData = omega arith
-    each ExcessUuidItemData = omega arith
-    each DuplicateSnap = omega arith
-    each DifferingAttributes = omega arith
-    each WeirdNegativeDeltaTick = omega arith
+sums a b c = simp (add-zero, zero-add)
 
 -- of counts that have no other kinds
 pub merges : (a b c : Counts) → a ≡ ofReceiver a → b ≡ ofReading b → c ≡ ofStore c → plus (plus a b) c ≡ merge a b c

@@ -19,13 +19,15 @@ use Rattle.definitions.specs.Receiver.{Receiver}
 use Rattle.definitions.specs.Manager as Manager
 use Rattle.format.specs.Numbers.{number}
 use Rattle.format.specs.Totals.{counts}
+use Rattle.format.specs.Sources.{merge}
 use Rattle.format.specs.declared.Stored.{Stored}
 use Rattle.format.specs.declared.Stored.the-variants as stored
 use Rattle.receiver.specs.States.{receiverOf}
 use Rattle.receiver.specs.declared.Received.{Received}
 use Rattle.receiver.specs.declared.Received.the-variants as received
 use Rattle.receiver.specs.declared.Receiving.{Receiving}
-use Rattle.storage.specs.States.{storeOf, holdsIn}
+use Rattle.store_area.specs.Stores.{holdsIn}
+use Rattle.storage.specs.States.{storeOf}
 use Rattle.storage.specs.Taking.{sumOf}
 use Rattle.storage.specs.declared.Storage.{Storage}
 use Rattle.storage.specs.declared.Taken.{Taken}
@@ -35,25 +37,6 @@ use Rattle.manager.specs.Answers.{handledWith}
 use Rattle.manager.specs.declared.Handled.{Handled}
 use Rattle.manager.specs.declared.Handled.the-variants as handled
 use Rattle.manager.specs.declared.Handling.{Handling}
-
--- each kind of warning from the step that counts it: receiver, reading of the delta, or store
-abbrev pub merge : Counts → Counts → Counts → Counts
-merge a b c =
-    record {
-      overlongIntEncoding = b .overlongIntEncoding;
-      nonZeroIntPadding = b .nonZeroIntPadding;
-      nonZeroPadding = b .nonZeroPadding;
-      duplicateDelete = b .duplicateDelete;
-      duplicateUpdate = b .duplicateUpdate;
-      unknownDelete = c .unknownDelete;
-      deleteUpdate = b .deleteUpdate;
-      numUpdatedItems = b .numUpdatedItems;
-      excessSnapData = 0;
-      excessUuidItemData = c .excessUuidItemData;
-      duplicateSnap = a .duplicateSnap;
-      differingAttributes = a .differingAttributes;
-      weirdNegativeDeltaTick = c .weirdNegativeDeltaTick;
-    }
 
 -- the delta that was read into an area, or why none was
 abbrev pub readInto : Stored → Counts → List ℤ → Outcome Delta
@@ -139,7 +122,7 @@ laidOut area x =
       parts = x .parts;
       joined = x .joined;
       delta = x .delta;
-      area = Store.storeArea (length area) (x .manager .storage .snaps);
+      area = Calls.laidOut area (record { answer = x .answer; storage = x .manager .storage }) .area;
     }
 
 -- the refusal of a call before anything is done

@@ -19,13 +19,15 @@ ghost use Rattle.format.specs.Numbers.{number};
 ghost use Rattle.format.specs.Totals.{counts};
 ghost use Rattle.format.specs.Answers.{storedWith};
 ghost use Rattle.format.specs.declared.Stored.the-variants as stored;
+ghost use Rattle.format.specs.Sources.{merge};
 ghost use Rattle.gamenet_snap.specs.Numbers.{numbers};
 ghost use Rattle.receiver.specs.States.{receiverOf};
 ghost use Rattle.receiver.specs.Answers.{receivedWith, answered};
-ghost use Rattle.storage.specs.States.{storeOf, holdsIn, Holds};
+ghost use Rattle.store_area.specs.Stores.{holdsIn, Holds};
+ghost use Rattle.storage.specs.States.{storeOf};
 ghost use Rattle.storage.specs.Taking.{sumOf, takings};
 ghost use Rattle.manager.specs.Answers.{handlings};
-ghost use Rattle.manager.specs.Steps.{merge, readInto, handledBy, goes, keeps, Adds, stopping, Brought, laidOut, refusing};
+ghost use Rattle.manager.specs.Steps.{readInto, handledBy, goes, keeps, Adds, stopping, Brought, laidOut, refusing};
 use super::Handled;
 use super::Handling;
 use super::Manager;
@@ -45,27 +47,6 @@ use storage::checked::Sent;
 use storage::checked::take_judged;
 use store_area::checked::StoreForm;
 use table::checked::nat_at;
-
-// The warnings of a message: those of the receiver, of the delta that was read and of the store.
-pub fn merged(a: Warnings, b: Warnings, c: Warnings) -> Warnings
-    ensures { λ r. ⌜ counts r ≡ merge (counts a) (counts b) (counts c) ⌝ }
-{
-    Warnings {
-        overlong_int_encoding: b.overlong_int_encoding,
-        non_zero_int_padding: b.non_zero_int_padding,
-        non_zero_padding: b.non_zero_padding,
-        duplicate_delete: b.duplicate_delete,
-        duplicate_update: b.duplicate_update,
-        unknown_delete: c.unknown_delete,
-        delete_update: b.delete_update,
-        num_updated_items: b.num_updated_items,
-        excess_snap_data: 0,
-        excess_uuid_item_data: c.excess_uuid_item_data,
-        duplicate_snap: a.duplicate_snap,
-        differing_attributes: a.differing_attributes,
-        weird_negative_delta_tick: c.weird_negative_delta_tick,
-    }
-}
 
 // Passes a message to the receiver.
 pub fn receive(
@@ -188,7 +169,7 @@ pub fn add(
     let answer = read.answer;
     match answer {
         Stored::Refused(error) => {
-            let all = merged(warnings, read_warnings, Warnings::none());
+            let all = Warnings::merged(warnings, read_warnings, Warnings::none());
             told(Handled::Refused(error), all, receiver, s)
         }
         Stored::Ints(_) => {
@@ -196,7 +177,7 @@ pub fn add(
             let taken = taking.answer;
             let storage = taking.storage;
             let store_warnings = taking.warnings;
-            let all = merged(warnings, read_warnings, store_warnings);
+            let all = Warnings::merged(warnings, read_warnings, store_warnings);
             told(handled(taken), all, receiver, storage)
         }
     }

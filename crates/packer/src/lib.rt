@@ -161,27 +161,6 @@ fn put(out: &mut [i32], at: usize, x: i32)
     }
 }
 
-// Warnings of the packer's two kinds.
-pub fn packed_warnings(overlong: usize, padding: usize) -> Warnings
-    ensures { λ r. ⌜ counts r ≡ packed overlong padding ⌝ }
-{
-    Warnings {
-        overlong_int_encoding: overlong,
-        non_zero_int_padding: padding,
-        non_zero_padding: 0,
-        duplicate_delete: 0,
-        duplicate_update: 0,
-        unknown_delete: 0,
-        delete_update: 0,
-        num_updated_items: 0,
-        excess_snap_data: 0,
-        excess_uuid_item_data: 0,
-        duplicate_snap: 0,
-        differing_attributes: 0,
-        weird_negative_delta_tick: 0,
-    }
-}
-
 // All the packed integers of src, into the front of out, which has room for them.
 fn unpack_all(src: &[u8], out: &mut [i32]) -> Unpacked
     requires { ⌜ length (Stream.ints (stream (now src))) ≤ length (now out) ⌝ }
@@ -193,7 +172,7 @@ fn unpack_all(src: &[u8], out: &mut [i32]) -> Unpacked
             count: all.count,
             cut: all.cut,
         },
-        warnings: packed_warnings(all.overlong, all.padding),
+        warnings: Warnings::packed(all.overlong, all.padding),
     }
 }
 
@@ -208,7 +187,7 @@ fn unpack_judged(src: &[u8], out: &mut [i32]) -> Unpacked
     if out.len() < all.count {
         return Unpacked {
             answer: IntsRead::Refused(Error::CapacityError),
-            warnings: packed_warnings(all.overlong, all.padding),
+            warnings: Warnings::packed(all.overlong, all.padding),
         };
     }
     unpack_all(src, out)

@@ -10,40 +10,20 @@ ghost use Rattle.laws.specs.WarningLaws.{packed};
 ghost use Rattle.format.specs.Numbers.{number};
 ghost use Rattle.format.specs.Totals.{counts};
 ghost use Rattle.format.specs.Answers.{storedInts, storedWith};
+ghost use Rattle.format.specs.Sources.{excess, uuidExcess};
 ghost use Rattle.table.specs.Held.{formOf};
 ghost use Rattle.table.specs.declared.checked.TableForm.the-variants as tableForm;
-ghost use Rattle.applying.specs.Answers.{unknownCounts};
-ghost use Rattle.table_reading.specs.Answers.{excess};
 ghost use Rattle.raw_snap.specs.Applied.{Judged};
+ghost use Rattle.raw_snap.specs.Unpacking.{UnpacksTo};
 use applying::checked::apply;
 use delta_form::checked::DeltaForm;
 use format::Error;
 use format::Reading;
 use format::Stored;
 use format::Warnings;
+use packer::checked::Totals;
 use table::checked::TableForm;
 use table_reading::checked::read_table;
-
-// The warnings of reading a table: the packer's two kinds, and those for a cut integer and for ints left over.
-pub fn warnings(overlong: usize, padding: usize, cut: bool, more: bool) -> Warnings
-    ensures { λ r. ⌜ counts r ≡ plus (packed overlong padding) (plus (excess cut) (excess more)) ⌝ }
-{
-    Warnings {
-        overlong_int_encoding: overlong,
-        non_zero_int_padding: padding,
-        non_zero_padding: 0,
-        duplicate_delete: 0,
-        duplicate_update: 0,
-        unknown_delete: 0,
-        delete_update: 0,
-        num_updated_items: 0,
-        excess_snap_data: ints::one_if(cut) + ints::one_if(more),
-        excess_uuid_item_data: 0,
-        duplicate_snap: 0,
-        differing_attributes: 0,
-        weird_negative_delta_tick: 0,
-    }
-}
 
 // The refusal of a call before anything is read.
 pub fn refused(error: Error) -> Reading
@@ -55,46 +35,52 @@ pub fn refused(error: Error) -> Reading
     }
 }
 
+// A packed table's ints at the front of an area, and what the packer counted; or why they are not read.
+pub enum Unpacked {
+    Ints(Totals),
+    Refused(Error),
+}
+
+// Unpacks a packed table into the front of scratch, which needs at least 16,384 entries and one for each byte.
+pub fn unpack(src: &[u8], scratch: &mut [i32]) -> Unpacked
+    ensures { λ r. ⌜ UnpacksTo (now (src .entry)) (length (now (scratch .entry))) (now (scratch .exit)) r ⌝ }
+{
+    if scratch.len() < 16384 {
+        return Unpacked::Refused(Error::ScratchTooShort);
+    }
+    if scratch.len() < src.len() {
+        return Unpacked::Refused(Error::ScratchTooShort);
+    }
+    if 1048576 < src.len() {
+        return Unpacked::Refused(Error::InputTooLong);
+    }
+    Unpacked::Ints(packer::checked::scan(src, scratch))
+}
+
+// The warnings of reading a packed table: the packer's, and those for a cut integer, for ints left over, and for kinds.
+pub fn packed_warnings(all: Totals, more: bool, kinds: usize) -> Warnings
+    ensures { λ r. ⌜ counts r ≡ plus (packed (all .overlong) (all .padding)) (plus (excess (all .cut)) (plus (excess more) (uuidExcess kinds))) ⌝ }
+{
+    let excess = ints::one_if(all.cut) + ints::one_if(more);
+    Warnings::table(all.overlong, all.padding, excess, kinds)
+}
+
 // Reads a packed table into the front of out. Leaves scratch in any state.
 pub fn read_packed(src: &[u8], out: &mut [i32], scratch: &mut [i32]) -> Reading
     ensures { λ r. ⌜ readCall (now (src .entry)) (now (out .entry)) (length (now (scratch .entry))) ≡ record { answer = storedWith (r .answer) (counts (r .warnings)); out = now (out .exit) } ⌝ }
 {
-    if scratch.len() < 16384 {
-        return refused(Error::ScratchTooShort);
-    }
-    if scratch.len() < src.len() {
-        return refused(Error::ScratchTooShort);
-    }
-    if 1048576 < src.len() {
-        return refused(Error::InputTooLong);
-    }
-    let all = packer::checked::scan(src, scratch);
-    let read = read_table(&scratch[..all.count], out);
-    let answer = read.answer;
-    Reading {
-        answer,
-        warnings: warnings(all.overlong, all.padding, all.cut, read.excess),
-    }
-}
-
-// The warnings of applying a delta: whether the base lacks a deleted key.
-pub fn applied_warnings(unknown_delete: bool) -> Warnings
-    ensures { λ r. ⌜ counts r ≡ unknownCounts «unknown_delete» ⌝ }
-{
-    Warnings {
-        overlong_int_encoding: 0,
-        non_zero_int_padding: 0,
-        non_zero_padding: 0,
-        duplicate_delete: 0,
-        duplicate_update: 0,
-        unknown_delete: ints::one_if(unknown_delete),
-        delete_update: 0,
-        num_updated_items: 0,
-        excess_snap_data: 0,
-        excess_uuid_item_data: 0,
-        duplicate_snap: 0,
-        differing_attributes: 0,
-        weird_negative_delta_tick: 0,
+    let unpacked = unpack(src, scratch);
+    match unpacked {
+        Unpacked::Refused(e) => refused(e),
+        Unpacked::Ints(all) => {
+            let count = all.count;
+            let read = read_table(&scratch[..count], out);
+            let answer = read.answer;
+            Reading {
+                answer,
+                warnings: packed_warnings(all, read.excess, 0),
+            }
+        }
     }
 }
 
@@ -149,7 +135,7 @@ pub fn apply_delta(base: &[i32], delta: &[i32], out: &mut [i32], scratch: usize)
             let answer = applied.answer;
             Reading {
                 answer,
-                warnings: applied_warnings(applied.unknown_delete),
+                warnings: Warnings::applied(applied.unknown_delete, 0),
             }
         }
     }

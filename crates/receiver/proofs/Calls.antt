@@ -16,10 +16,11 @@ use Rattle.definitions.specs.Outcome.{err, require, return, warnIf, _>>_}
 use Rattle.definitions.specs.Receiver.{Receiver, Part, Taken, Receives, noParts, finishedAt, isIn, receiverForm, isOld, isCurrent, opened, differs, withPart, putPart, takeSnap, takeSingle, takeEmpty, whole, leaves, snapCall, snapSingleCall, snapEmptyCall}
 use Rattle.format.specs.Totals.{counts}
 use Rattle.format.specs.declared.Warnings.{Warnings}
+use Rattle.format.specs.Sources.{flagged}
 use Rattle.receiver.specs.declared.checked.Ticks.{Ticks}
 use Rattle.receiver.specs.declared.Received.the-variants as received
 use Rattle.receiver.specs.States.{receiverWith}
-use Rattle.receiver.specs.Answers.{taken, flagged, refusing, settled, taking}
+use Rattle.receiver.specs.Answers.{taken, refusing, settled, taking}
 
 -- ---- a part
 

@@ -15,13 +15,14 @@ use Rattle.format.specs.declared.Warnings.{Warnings}
 use Rattle.format.specs.declared.Error.the-variants as error
 use Rattle.format.specs.declared.OptionTick.{OptionTick}
 use Rattle.format.specs.Ticks.{tickOf}
+use Rattle.format.specs.Sources.{flagged}
 use Rattle.receiver.specs.declared.CurrentDelta.{CurrentDelta}
 use Rattle.receiver.specs.declared.Current.the-variants as current
 use Rattle.receiver.specs.declared.checked.Ticks.{Ticks}
 use Rattle.receiver.specs.declared.checked.Part.{Part}
 use Rattle.receiver.specs.declared.Received.the-variants as received
 use Rattle.receiver.specs.States.{currentIn, receiverWith, openedWith, partsFor, partOf, Opens}
-use Rattle.receiver.specs.Answers.{taken, flagged, settled, taking}
+use Rattle.receiver.specs.Answers.{taken, settled, taking}
 
 -- ---- whether a part's numbers differ
 

@@ -12,6 +12,7 @@ use Rattle.definitions.specs.Receiver as Receiver
 use Rattle.definitions.specs.Tables.{num}
 use Rattle.format.specs.Numbers.{number}
 use Rattle.format.specs.Totals.{counts}
+use Rattle.format.specs.Sources.{flagged}
 use Rattle.receiver.specs.States.{receiverOf, receiverWith}
 use Rattle.receiver.specs.declared.Received.{Received}
 use Rattle.receiver.specs.declared.Received.the-variants as received
@@ -50,25 +51,6 @@ taken a lengths area second =
     }
 
 -- ---- steps of a call
-
--- the receiver's two kinds of warning
-abbrev pub flagged : Bool → Bool → Counts
-flagged duplicate differing =
-    record {
-      overlongIntEncoding = 0;
-      nonZeroIntPadding = 0;
-      nonZeroPadding = 0;
-      duplicateDelete = 0;
-      duplicateUpdate = 0;
-      unknownDelete = 0;
-      deleteUpdate = 0;
-      numUpdatedItems = 0;
-      excessSnapData = 0;
-      excessUuidItemData = 0;
-      duplicateSnap = cond duplicate 1 0;
-      differingAttributes = cond differing 1 0;
-      weirdNegativeDeltaTick = 0;
-    }
 
 -- a call that is refused without a warning
 abbrev pub refusing : ℕ → Receiver.Receiver → List ℕ → List ℕ → Receiver.Receives

@@ -11,8 +11,9 @@ ghost use Rattle.definitions.specs.Receiver as Receiver;
 ghost use Rattle.format.specs.Numbers.{number};
 ghost use Rattle.format.specs.Ticks.{tickOf};
 ghost use Rattle.format.specs.Totals.{counts};
+ghost use Rattle.format.specs.Sources.{flagged};
 ghost use Rattle.receiver.specs.States.{ticksOf, receiverOf, receiverWith, currentIn, openedWith, partsFor, partOf, Opens};
-ghost use Rattle.receiver.specs.Answers.{flagged, refusing, settled, taking, answered, taken, judgedAs, Fits};
+ghost use Rattle.receiver.specs.Answers.{refusing, settled, taking, answered, taken, judgedAs, Fits};
 use super::Current;
 use super::CurrentDelta;
 use super::DeltaReceiver;
@@ -48,34 +49,6 @@ pub struct Part {
     pub num_parts: i32,
     pub part: i32,
     pub crc: i32,
-}
-
-// Whether two ints are equal.
-pub fn same(a: i32, b: i32) -> bool
-    ensures { λ r. ⌜ r ≡ Receiver.same a b ⌝ }
-{
-    ints::to_bits(a) == ints::to_bits(b)
-}
-
-// The warnings of a message: its tick was unfinished, or its numbers differ.
-pub fn warnings(duplicate: bool, differing: bool) -> Warnings
-    ensures { λ r. ⌜ counts r ≡ flagged duplicate differing ⌝ }
-{
-    Warnings {
-        overlong_int_encoding: 0,
-        non_zero_int_padding: 0,
-        non_zero_padding: 0,
-        duplicate_delete: 0,
-        duplicate_update: 0,
-        unknown_delete: 0,
-        delete_update: 0,
-        num_updated_items: 0,
-        excess_snap_data: 0,
-        excess_uuid_item_data: 0,
-        duplicate_snap: ints::one_if(duplicate),
-        differing_attributes: ints::one_if(differing),
-        weird_negative_delta_tick: 0,
-    }
 }
 
 // The ticks of a receiver, without the lengths.
@@ -216,7 +189,7 @@ pub fn is_current(r: Ticks, tick: i32) -> bool
     let Current::Some(c) = current else {
         return false;
     };
-    same(c.tick, tick)
+    ints::same(c.tick, tick)
 }
 
 // What a part fixes if it is the first one of its tick.
@@ -243,7 +216,7 @@ pub fn opened(r: Ticks, m: Part) -> CurrentDelta
     let Current::Some(c) = current else {
         return first_says(m);
     };
-    if same(c.tick, m.tick) {
+    if ints::same(c.tick, m.tick) {
         return c;
     }
     first_says(m)
@@ -253,14 +226,14 @@ pub fn opened(r: Ticks, m: Part) -> CurrentDelta
 pub fn differs(o: CurrentDelta, m: Part) -> bool
     ensures { λ b. ⌜ b ≡ Receiver.differs (currentIn o) (partOf m) ⌝ }
 {
-    if !same(m.delta_tick, o.delta_tick) {
+    if !ints::same(m.delta_tick, o.delta_tick) {
         return true;
     }
     let k = o.num_parts as usize;
     if ints::num(m.num_parts) != k {
         return true;
     }
-    !same(m.crc, o.crc)
+    !ints::same(m.crc, o.crc)
 }
 
 // Whether part p is in already; none is if the tick is new.
@@ -407,7 +380,7 @@ pub fn take(
 {
     let current = is_current(r, m.tick);
     let o = opened(r, m);
-    let w = warnings(false, differs(o, m));
+    let w = Warnings::received(false, differs(o, m));
     if is_in(current, lengths, p) {
         return Taking {
             answer: Received::Refused(Error::DuplicatePart),

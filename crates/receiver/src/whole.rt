@@ -12,6 +12,7 @@ use super::checked::Taking;
 use super::checked::Ticks;
 use format::Error;
 use format::OptionTick;
+use format::Warnings;
 
 // Takes a single message, its bytes copied to joined; the lengths are changed in place.
 pub fn receive_single(
@@ -38,7 +39,7 @@ pub fn receive_single(
     if checked::is_old(r, tick) {
         return checked::refused(Error::OldDelta, r);
     }
-    let warnings = checked::warnings(checked::is_current(r, tick), false);
+    let warnings = Warnings::received(checked::is_current(r, tick), false);
     *lengths = [901u16; 32];
     checked::put_bytes(joined, 0, data);
     let answer = Received::Delta {
@@ -66,7 +67,7 @@ pub fn receive_empty(r: Ticks, tick: i32, delta_tick: i32, lengths: &mut [u16; 3
         return checked::refused(Error::OldDelta, r);
     }
     let duplicate = checked::is_current(r, tick);
-    let warnings = checked::warnings(duplicate, false);
+    let warnings = Warnings::received(duplicate, false);
     let base = ints::wrapping_sub(tick, delta_tick);
     *lengths = [901u16; 32];
     let answer = Received::Empty {

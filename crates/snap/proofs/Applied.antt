@@ -17,10 +17,11 @@ use Rattle.format.specs.Answers.{storedInts, storedWith, with-counts}
 use Rattle.format.specs.declared.Error.{Error}
 use Rattle.format.specs.declared.Stored.{Stored}
 use Rattle.format.specs.declared.Stored.the-variants as storedAs
+use Rattle.format.specs.Sources.{typedCounts}
 use Rattle.table.specs.Held.{formOf}
 use Rattle.table.specs.declared.checked.TableForm.the-variants as tableForm
 use Rattle.table.specs.Writing.{is-held}
-use Rattle.typed_applying.specs.Answers.{typedCounts, typedTable, Stands}
+use Rattle.typed_applying.specs.Answers.{typedTable, Stands}
 use Rattle.typed_applying.specs.declared.checked.Typed.{Typed}
 use Rattle.typed_applying.specs.declared.checked.Table as Made
 use Rattle.typed_applying.specs.declared.checked.Table.the-variants as table

@@ -25,17 +25,15 @@ use Rattle.format.specs.Numbers.{number}
 use Rattle.format.specs.Answers.{storedWith}
 use Rattle.format.specs.declared.Error.{Error}
 use Rattle.format.specs.declared.Stored.{Stored}
-use Rattle.table_reading.specs.Answers.{excess}
-use Rattle.table_reading.specs.Counted.{warned}
+use Rattle.format.specs.Sources.{excess, uuidExcess}
+use Rattle.table_reading.specs.Counted.{warned, told-after}
 use Rattle.table_reading.specs.Reading.{Indexed, picked, AllPlaced, all, refused, headerOf, Headed, Ints}
 use Rattle.table_reading.specs.declared.checked.Placed.{Placed}
 use Rattle.table_reading.specs.declared.checked.Placed.the-variants as placed
 use Rattle.table_reading.specs.declared.checked.Header.{Header}
 use Rattle.table_reading.specs.declared.checked.Header.the-variants as header
 use Rattle.types.specs.Picks.{Picks, tableIn, picked-list}
-use Rattle.types.specs.Answers.{uuidExcess}
 use Rattle.snap.specs.Answers.{typedItems, typedTable}
-use Rattle.snap.proofs.Counted.{told-after}
 
 -- ---- what the answer to placing all items says
 

@@ -12,12 +12,11 @@ ghost use Rattle.definitions.specs.Types.{typedReadCall, typedReadFromIntsCall,
 ghost use Rattle.laws.specs.WarningLaws.{packed};
 ghost use Rattle.format.specs.Totals.{counts};
 ghost use Rattle.format.specs.Answers.{storedWith};
+ghost use Rattle.format.specs.Sources.{excess, uuidExcess, typedCounts};
 ghost use Rattle.table.specs.Held.{Held};
 ghost use Rattle.raw_snap.specs.Answers.{hasItem};
-ghost use Rattle.table_reading.specs.Answers.{excess};
 ghost use Rattle.table_reading.specs.Reading.{Ints};
-ghost use Rattle.types.specs.Answers.{uuidExcess};
-ghost use Rattle.typed_applying.specs.Answers.{typedCounts, Stands};
+ghost use Rattle.typed_applying.specs.Answers.{Stands};
 ghost use Rattle.typed_applying.specs.Answers as Applying;
 ghost use Rattle.snap.specs.Answers.{typeOf, rawType, typeFound, numberIn, namesKind, typedItems, typedTable, rawTypeIn};
 use super::RawTypeId;
@@ -29,9 +28,12 @@ use format::Stored;
 use format::Warnings;
 use raw_snap::Has;
 use raw_snap::checked::Areas;
+use raw_snap::checked::Unpacked;
 use raw_snap::checked::copy_table;
 use raw_snap::checked::judge_areas;
+use raw_snap::checked::packed_warnings;
 use raw_snap::checked::refused;
+use raw_snap::checked::unpack;
 use table::checked::data_at;
 use table::checked::find;
 use table::checked::key_at;
@@ -119,27 +121,6 @@ pub fn read_typed(src: &[i32], out: &mut [i32]) -> Found
     }
 }
 
-// The warnings of reading a table: the packer's two kinds, and those for a cut integer, for ints left over, and for kinds.
-pub fn warnings(overlong: usize, padding: usize, cut: bool, more: bool, kinds: usize) -> Warnings
-    ensures { λ r. ⌜ counts r ≡ plus (packed overlong padding) (plus (excess cut) (plus (excess more) (uuidExcess kinds))) ⌝ }
-{
-    Warnings {
-        overlong_int_encoding: overlong,
-        non_zero_int_padding: padding,
-        non_zero_padding: 0,
-        duplicate_delete: 0,
-        duplicate_update: 0,
-        unknown_delete: 0,
-        delete_update: 0,
-        num_updated_items: 0,
-        excess_snap_data: ints::one_if(cut) + ints::one_if(more),
-        excess_uuid_item_data: kinds,
-        duplicate_snap: 0,
-        differing_attributes: 0,
-        weird_negative_delta_tick: 0,
-    }
-}
-
 // Reads a table from ints, with sound types, into the front of out; scratch has so many entries.
 pub fn read_ints(src: &[i32], out: &mut [i32], scratch: usize) -> Reading
     ensures { λ r. ⌜ typedReadFromIntsCall (now (src .entry)) (now (out .entry)) scratch ≡ record { answer = storedWith (r .answer) (counts (r .warnings)); out = now (out .exit) } ⌝ }
@@ -154,7 +135,7 @@ pub fn read_ints(src: &[i32], out: &mut [i32], scratch: usize) -> Reading
     let answer = read.answer;
     Reading {
         answer,
-        warnings: warnings(0, 0, false, read.excess, read.kinds),
+        warnings: Warnings::table(0, 0, ints::one_if(read.excess), read.kinds),
     }
 }
 
@@ -162,42 +143,18 @@ pub fn read_ints(src: &[i32], out: &mut [i32], scratch: usize) -> Reading
 pub fn read_packed(src: &[u8], out: &mut [i32], scratch: &mut [i32]) -> Reading
     ensures { λ r. ⌜ typedReadCall (now (src .entry)) (now (out .entry)) (length (now (scratch .entry))) ≡ record { answer = storedWith (r .answer) (counts (r .warnings)); out = now (out .exit) } ⌝ }
 {
-    if scratch.len() < 16384 {
-        return refused(Error::ScratchTooShort);
-    }
-    if scratch.len() < src.len() {
-        return refused(Error::ScratchTooShort);
-    }
-    if 1048576 < src.len() {
-        return refused(Error::InputTooLong);
-    }
-    let all = packer::checked::scan(src, scratch);
-    let read = read_typed(&scratch[..all.count], out);
-    let answer = read.answer;
-    Reading {
-        answer,
-        warnings: warnings(all.overlong, all.padding, all.cut, read.excess, read.kinds),
-    }
-}
-
-// The warnings of applying a delta: whether the base lacks a deleted key, and how many kinds have more than four ints.
-pub fn applied_warnings(unknown_delete: bool, long: usize) -> Warnings
-    ensures { λ r. ⌜ counts r ≡ typedCounts «unknown_delete» long ⌝ }
-{
-    Warnings {
-        overlong_int_encoding: 0,
-        non_zero_int_padding: 0,
-        non_zero_padding: 0,
-        duplicate_delete: 0,
-        duplicate_update: 0,
-        unknown_delete: ints::one_if(unknown_delete),
-        delete_update: 0,
-        num_updated_items: 0,
-        excess_snap_data: 0,
-        excess_uuid_item_data: long,
-        duplicate_snap: 0,
-        differing_attributes: 0,
-        weird_negative_delta_tick: 0,
+    let unpacked = unpack(src, scratch);
+    match unpacked {
+        Unpacked::Refused(e) => refused(e),
+        Unpacked::Ints(all) => {
+            let count = all.count;
+            let read = read_typed(&scratch[..count], out);
+            let answer = read.answer;
+            Reading {
+                answer,
+                warnings: packed_warnings(all, read.excess, read.kinds),
+            }
+        }
     }
 }
 
@@ -206,7 +163,7 @@ pub fn store_made(made: Typed, area: &[i32], out: &mut [i32]) -> Reading
     requires { ⌜ Stands (now area) (made .table) ⌝ }
     ensures { λ r. ⌜ storedTable (now (out .entry)) (Applying.typedTable (items (now (area .entry))) made) ≡ record { answer = storedWith (r .answer) (counts (r .warnings)); out = now (out .exit) } ⌝ }
 {
-    let warnings = applied_warnings(made.unknown_delete, made.excess);
+    let warnings = Warnings::applied(made.unknown_delete, made.excess);
     let table = made.table;
     match table {
         Table::Refused(e) => Reading {

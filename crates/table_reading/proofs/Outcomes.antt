@@ -22,8 +22,8 @@ use Rattle.table.specs.Forms.{formed}
 use Rattle.table.specs.Writing.{form-front}
 use Rattle.format.specs.declared.Stored.{Stored}
 use Rattle.format.specs.declared.Stored.the-variants as write
+use Rattle.format.specs.Sources.{excess}
 use Rattle.table.specs.declared.checked.TableForm.the-variants as form
-use Rattle.table_reading.specs.Answers.{excess}
 use Rattle.table_reading.specs.Reading.{headerOf, Headed, Ints}
 use Rattle.table_reading.specs.Counted.{table-after, warned}
 use Rattle.table_reading.specs.declared.checked.Header.{Header}

@@ -1,4 +1,3 @@
 -- What the answers of `table_reading` mean, what its functions require, and how warnings count. Assumes nothing.
-pub mod Answers
 pub mod Reading
 pub mod Counted

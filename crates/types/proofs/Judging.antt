@@ -21,7 +21,7 @@ use Rattle.laws.specs.OutcomeLaws.{after-none, after-after}
 use Rattle.laws.specs.TableWalk.{walk-list}
 use Rattle.laws.specs.ListLaws.{list-ext}
 use Rattle.types.specs.Picks.{keyIn, itemOf, tableIn, seg, seg-list, Lower, anyLacks}
-use Rattle.types.specs.Answers.{uuidExcess}
+use Rattle.format.specs.Sources.{uuidExcess}
 use Rattle.types.proofs.Walking.{Plain, lacked, plain, plain-before, plain-behind, oneIf, kind-new, kind-again, kind-short}
 use Rattle.types.proofs.Naming.{kindsBefore}
 

@@ -16,7 +16,7 @@ use Rattle.definitions.specs.Types.{typeOf, hasKind, kindNamed, judgeTypes}
 use Rattle.laws.specs.WarningLaws.{plus-none}
 use Rattle.laws.specs.OutcomeLaws.{after-none, after-after}
 use Rattle.types.specs.Picks.{lacksKind, anyLacks}
-use Rattle.types.specs.Answers.{uuidExcess}
+use Rattle.format.specs.Sources.{uuidExcess}
 
 -- ---- items that are not of type 0
 

@@ -4,28 +4,10 @@ use Rattle.definitions.specs.Warnings.{Counts}
 use Rattle.definitions.specs.Outcome.{Outcome, ok, err}
 use Rattle.definitions.specs.Tables.{Table}
 use Rattle.format.specs.Numbers.{number}
+use Rattle.format.specs.Sources.{uuidExcess}
 use Rattle.types.specs.declared.checked.Types.{Types}
 use Rattle.types.specs.declared.checked.Types.the-variants as types
 use Rattle.types.specs.declared.checked.Judged.{Judged}
-
--- n items of type 0 with more than four ints
-abbrev pub uuidExcess : ℕ → Counts
-uuidExcess n =
-    record {
-      overlongIntEncoding = 0;
-      nonZeroIntPadding = 0;
-      nonZeroPadding = 0;
-      duplicateDelete = 0;
-      duplicateUpdate = 0;
-      unknownDelete = 0;
-      deleteUpdate = 0;
-      numUpdatedItems = 0;
-      excessSnapData = 0;
-      excessUuidItemData = n;
-      duplicateSnap = 0;
-      differingAttributes = 0;
-      weirdNegativeDeltaTick = 0;
-    }
 
 -- an answer on types, with its warning counts
 abbrev pub typesWith : {A : Type 0} → A → Types → Counts → Outcome A

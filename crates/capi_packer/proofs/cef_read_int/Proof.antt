@@ -12,7 +12,8 @@ use Rattle.definitions.specs.Outcome.{Outcome, ok, err}
 use Rattle.definitions.specs.Packed.{warned}
 use Rattle.definitions.specs.Packer.{IntAt, readIntCall}
 use Rattle.packer.specs.Answers.{intRead, refusal}
-use Rattle.boundary.specs.Boundary.{row, status, warningsOf, output}
+use Rattle.format.specs.Totals.{row}
+use Rattle.boundary.specs.Boundary.{status, warningsOf, output}
 use borrow.Author.Needs.{needs}
 use Rattle.capi_packer.proofs.cef_read_int.Statement.{statement}
 use Rattle.capi_packer.proofs.cef_read_int.Tie as tie

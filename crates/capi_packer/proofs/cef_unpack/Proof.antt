@@ -6,7 +6,8 @@ use lib.IntN.{ℤ}
 use Rattle.definitions.specs.Warnings.{Counts}
 use Rattle.definitions.specs.Outcome.{Outcome, ok, err, Wrote}
 use Rattle.definitions.specs.Packer.{Unpacked}
-use Rattle.boundary.specs.Boundary.{row, flag, status, warningsOf, output}
+use Rattle.format.specs.Totals.{row}
+use Rattle.boundary.specs.Boundary.{flag, status, warningsOf, output}
 use borrow.Author.Needs.{needs}
 use Rattle.capi_packer.proofs.cef_unpack.Statement.{statement}
 use Rattle.capi_packer.proofs.cef_unpack.Tie as tie

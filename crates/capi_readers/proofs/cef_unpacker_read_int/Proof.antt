@@ -1,7 +1,7 @@
 -- `capi_readers::cef_unpacker_read_int` meets its contract: by what the reader answered. Assumes nothing.
 use mathlib.Core.Path.{sym, ap, _∙_}
 use mir.Facts.{toZ-ofZ}
-use Rattle.boundary.specs.Boundary.{row}
+use Rattle.format.specs.Totals.{row}
 use Rattle.capi_readers.proofs.Readings.{refused, no-warnings, found, found-warnings}
 use borrow.Author.Needs.{needs}
 use Rattle.capi_readers.proofs.cef_unpacker_read_int.Statement.{statement}

@@ -8,7 +8,7 @@ use Rattle.definitions.specs.Receiver.{snapCall}
 use Rattle.format.specs.Totals.{counts}
 use Rattle.receiver.specs.Moves.{snap-moved}
 use Rattle.boundary_states.specs.Rows.{heldReceiver}
-use Rattle.capi_receiver.proofs.Calls.{rows-left, rows-written, zero-tells, taken}
+use Rattle.capi_receiver.proofs.Calls.{taken}
 use borrow.Author.Needs.{needs}
 use Rattle.capi_receiver.proofs.cef_receiver_snap.Statement.{statement}
 use Rattle.capi_receiver.proofs.cef_receiver_snap.Tie as tie
@@ -22,6 +22,9 @@ receive-requires c κs = search needs
 row-requires : tie.Need-row-requires
 row-requires c κs = search needs
 
+put-ticks-requires : tie.Need-put-ticks-requires
+put-ticks-requires c κs = search needs
+
 tell-requires : tie.Need-tell-requires
 tell-requires c κs = search needs
 
@@ -33,48 +36,17 @@ same-length-2 c = search needs
 
 returns : tie.Need-returns
 returns c =
-    let s = c .before .before .before .before .before .before .before .before .before .before .before .before .before .before .before .before .before .before .before .before in
+    let m = c .before .before .before .before .before .before .before .before .before .before .before .before in
+    let k = m .before .before .before .before in
+    let s = k .before .before .before .before .before .before in
     let a = s .args in
     let f = s .fits in
     let h = heldReceiver (now (a .ticks)) (now (a .counts)) (now (a .lengths)) in
     let o = snapCall h (record { tick = a .tick; deltaTick = a .delta-tick; numParts = a .num-parts; part = a .part; crc = a .crc }) (now (a .«data»)) (now (a .parts)) (now (a .joined)) in
-    let r = c .before .before .before .before .before .before .before .before .before .before .receive .result in
-    let e = snap-moved (now (a .«data»)) (now (a .parts)) (now (a .joined)) (c .before .before .before .before .before .before .before .before .before .before .before .before .before .before .load-ticks .ensures (now (a .lengths))) (toZ-ofZ (f .tick)) (toZ-ofZ (f .delta-tick)) (toZ-ofZ (f .num-parts)) (toZ-ofZ (f .part)) (toZ-ofZ (f .crc)) (c .before .before .before .before .before .before .before .before .before .before .receive .ensures) in
-    taken o (r .answer) (counts (r .warnings)) (r .ticks) e _ (now (a .kind)) _ (now (a .received)) _ (now (a .len)) _ (now (a .ticks)) _ (now (a .counts)) _ _ (c .before .tell .ensures) (rows-left (r .ticks) (r .answer) (counts (r .warnings)) (now (a .ticks)) (now (a .counts)) _ (c .before .tell .ensures .0 _) (c .if1 .taken)) (c .before .before .before .before .before .row .ensures)
-
-write-ticks-requires : tie.Need-write-ticks-requires
-write-ticks-requires c κs = search needs
-
-same-length-3 : tie.Need-same-length-3
-same-length-3 c = search needs
-
-same-length-4 : tie.Need-same-length-4
-same-length-4 c = search needs
-
-returns-2 : tie.Need-returns-2
-returns-2 c =
-    let s = c .before .before .before .before .before .before .before .before .before .before .before .before .before .before .before .before .before .before .before .before .before .before .before in
-    let a = s .args in
-    let f = s .fits in
-    let h = heldReceiver (now (a .ticks)) (now (a .counts)) (now (a .lengths)) in
-    let o = snapCall h (record { tick = a .tick; deltaTick = a .delta-tick; numParts = a .num-parts; part = a .part; crc = a .crc }) (now (a .«data»)) (now (a .parts)) (now (a .joined)) in
-    let r = c .before .before .before .before .before .before .before .before .before .before .before .before .before .receive .result in
-    let e = snap-moved (now (a .«data»)) (now (a .parts)) (now (a .joined)) (c .before .before .before .before .before .before .before .before .before .before .before .before .before .before .before .before .before .load-ticks .ensures (now (a .lengths))) (toZ-ofZ (f .tick)) (toZ-ofZ (f .delta-tick)) (toZ-ofZ (f .num-parts)) (toZ-ofZ (f .part)) (toZ-ofZ (f .crc)) (c .before .before .before .before .before .before .before .before .before .before .before .before .before .receive .ensures) in
-    let z = zero-tells (r .answer) (c .before .before .before .before .tell .result) (now (a .kind)) _ (now (a .received)) _ (now (a .len)) _ (c .before .before .before .if1 .left) (c .before .before .before .before .tell .ensures) in
-    taken o (r .answer) (counts (r .warnings)) (r .ticks) e 0 (now (a .kind)) _ (now (a .received)) _ (now (a .len)) _ (now (a .ticks)) _ (now (a .counts)) _ _ z (rows-written (r .ticks) (r .answer) (counts (r .warnings)) (now (a .ticks)) _ (now (a .counts)) _ (z .0 _) (c .write-ticks .ensures)) (c .before .before .before .before .before .before .before .before .row .ensures)
+    let r = m .receive .result in
+    let e = snap-moved (now (a .«data»)) (now (a .parts)) (now (a .joined)) (k .load-ticks .ensures (now (a .lengths))) (toZ-ofZ (f .tick)) (toZ-ofZ (f .delta-tick)) (toZ-ofZ (f .num-parts)) (toZ-ofZ (f .part)) (toZ-ofZ (f .crc)) (m .receive .ensures) in
+    taken o (r .answer) (counts (r .warnings)) (r .ticks) e _ (now (a .kind)) _ (now (a .received)) _ (now (a .len)) _ (now (a .ticks)) _ (now (a .counts)) _ _
+    (c .tell .ensures) (c .before .before .before .before .put-ticks .ensures) (c .before .before .before .before .before .before .before .row .ensures)
 
 pub cef-receiver-snap-spec : {M : Type 1} → statement M
-cef-receiver-snap-spec =
-    tie.close
-    (tie.spec
-    load-ticks-requires
-    receive-requires
-    row-requires
-    tell-requires
-    same-length
-    same-length-2
-    returns
-    write-ticks-requires
-    same-length-3
-    same-length-4
-    returns-2)
+cef-receiver-snap-spec = tie.close (tie.spec load-ticks-requires receive-requires row-requires put-ticks-requires tell-requires same-length same-length-2 returns)

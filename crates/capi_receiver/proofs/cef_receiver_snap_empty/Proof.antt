@@ -8,7 +8,7 @@ use Rattle.definitions.specs.Receiver.{snapEmptyCall}
 use Rattle.format.specs.Totals.{counts}
 use Rattle.receiver.specs.Moves.{empty-moved}
 use Rattle.boundary_states.specs.Rows.{heldReceiver}
-use Rattle.capi_receiver.proofs.Calls.{rows-left, rows-written, zero-tells, taken-empty}
+use Rattle.capi_receiver.proofs.Calls.{taken-empty}
 use borrow.Author.Needs.{needs}
 use Rattle.capi_receiver.proofs.cef_receiver_snap_empty.Statement.{statement}
 use Rattle.capi_receiver.proofs.cef_receiver_snap_empty.Tie as tie
@@ -22,43 +22,25 @@ receive-empty-requires c κs = search needs
 row-requires : tie.Need-row-requires
 row-requires c κs = search needs
 
+put-ticks-requires : tie.Need-put-ticks-requires
+put-ticks-requires c κs = search needs
+
 tell-requires : tie.Need-tell-requires
 tell-requires c κs = search needs
 
 returns : tie.Need-returns
 returns c =
-    let s = c .before .before .before .before .before .before .before .before .before .before .before in
+    let m = c .before .before .before .before .before .before .before .before in
+    let k = m .before .before in
+    let s = k .before .before .before in
     let a = s .args in
     let f = s .fits in
     let h = heldReceiver (now (a .ticks)) (now (a .counts)) (now (a .lengths)) in
     let o = snapEmptyCall h (a .tick) (a .delta-tick) [] [] in
-    let r = c .before .before .before .before .before .before .receive-empty .result in
-    let e = empty-moved [] [] (c .before .before .before .before .before .before .before .before .load-ticks .ensures (now (a .lengths))) (toZ-ofZ (f .tick)) (toZ-ofZ (f .delta-tick)) (c .before .before .before .before .before .before .receive-empty .ensures [] []) in
-    taken-empty o (r .answer) (counts (r .warnings)) (r .ticks) e _ (now (a .kind)) _ (now (a .received)) _ (now (a .len)) _ (now (a .ticks)) _ (now (a .counts)) _ _ (c .before .tell .ensures) (rows-left (r .ticks) (r .answer) (counts (r .warnings)) (now (a .ticks)) (now (a .counts)) _ (c .before .tell .ensures .0 _) (c .if1 .taken)) (c .before .before .before .before .before .row .ensures)
-
-write-ticks-requires : tie.Need-write-ticks-requires
-write-ticks-requires c κs = search needs
-
-returns-2 : tie.Need-returns-2
-returns-2 c =
-    let s = c .before .before .before .before .before .before .before .before .before .before .before .before .before .before in
-    let a = s .args in
-    let f = s .fits in
-    let h = heldReceiver (now (a .ticks)) (now (a .counts)) (now (a .lengths)) in
-    let o = snapEmptyCall h (a .tick) (a .delta-tick) [] [] in
-    let r = c .before .before .before .before .before .before .before .before .before .receive-empty .result in
-    let e = empty-moved [] [] (c .before .before .before .before .before .before .before .before .before .before .before .load-ticks .ensures (now (a .lengths))) (toZ-ofZ (f .tick)) (toZ-ofZ (f .delta-tick)) (c .before .before .before .before .before .before .before .before .before .receive-empty .ensures [] []) in
-    let z = zero-tells (r .answer) (c .before .before .before .before .tell .result) (now (a .kind)) _ (now (a .received)) _ (now (a .len)) _ (c .before .before .before .if1 .left) (c .before .before .before .before .tell .ensures) in
-    taken-empty o (r .answer) (counts (r .warnings)) (r .ticks) e 0 (now (a .kind)) _ (now (a .received)) _ (now (a .len)) _ (now (a .ticks)) _ (now (a .counts)) _ _ z (rows-written (r .ticks) (r .answer) (counts (r .warnings)) (now (a .ticks)) _ (now (a .counts)) _ (z .0 _) (c .write-ticks .ensures)) (c .before .before .before .before .before .before .before .before .row .ensures)
+    let r = m .receive-empty .result in
+    let e = empty-moved [] [] (k .load-ticks .ensures (now (a .lengths))) (toZ-ofZ (f .tick)) (toZ-ofZ (f .delta-tick)) (m .receive-empty .ensures [] []) in
+    taken-empty o (r .answer) (counts (r .warnings)) (r .ticks) e _ (now (a .kind)) _ (now (a .received)) _ (now (a .len)) _ (now (a .ticks)) _ (now (a .counts)) _ _
+    (c .tell .ensures) (c .before .before .before .before .put-ticks .ensures) (c .before .before .before .before .before .before .before .row .ensures)
 
 pub cef-receiver-snap-empty-spec : {M : Type 1} → statement M
-cef-receiver-snap-empty-spec =
-    tie.close
-    (tie.spec
-    load-ticks-requires
-    receive-empty-requires
-    row-requires
-    tell-requires
-    returns
-    write-ticks-requires
-    returns-2)
+cef-receiver-snap-empty-spec = tie.close (tie.spec load-ticks-requires receive-empty-requires row-requires put-ticks-requires tell-requires returns)

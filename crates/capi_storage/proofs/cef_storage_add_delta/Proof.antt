@@ -4,8 +4,8 @@ use lib.ListN.{length}
 use mir.Facts.{toZ-ofZ}
 use denote.Ref.{now}
 use Rattle.definitions.specs.StorageCalls.{addDeltaCall}
-use Rattle.format.specs.Totals.{counts}
-use Rattle.boundary.specs.Boundary.{row, given}
+use Rattle.format.specs.Totals.{counts, row}
+use Rattle.boundary.specs.Boundary.{given}
 use Rattle.boundary_states.specs.Rows.{heldStore}
 use Rattle.boundary_states.specs.Few.{delta-fits}
 use Rattle.boundary_states.specs.Emptied.{fits-before}

@@ -3,8 +3,7 @@ use mathlib.Core.Path.{sym, ap, _∙_}
 use mir.Facts.{toZ-ofZ}
 use denote.Ref.{now}
 use Rattle.definitions.specs.StorageCalls.{setDeltaTickCall}
-use Rattle.format.specs.Totals.{counts}
-use Rattle.boundary.specs.Boundary.{row}
+use Rattle.format.specs.Totals.{counts, row}
 use Rattle.boundary_states.specs.Rows.{heldStore}
 use Rattle.boundary_states.specs.Few.{set-fits}
 use Rattle.boundary_states.specs.Emptied.{fits-before}

@@ -28,8 +28,8 @@ slice-aggregate-scan c = search needs
 scan-requires : tie.Need-scan-requires
 scan-requires c κs = search needs
 
-packed-warnings-requires : tie.Need-packed-warnings-requires
-packed-warnings-requires c κs = search needs
+packed-requires : tie.Need-packed-requires
+packed-requires c κs = search needs
 
 same-length-2 : tie.Need-same-length-2
 same-length-2 c = search needs
@@ -38,7 +38,7 @@ returns-2 : tie.Need-returns-2
 returns-2 c =
     let a = c .before .before .before .before .before .before .before .before .args in
     let s = c .before .before .before .before .scan in
-    no-room (a .src .now) (a .out .now) (s .result) _ (c .packed-warnings .ensures) _ (c .before .if2 .taken) (s .ensures)
+    no-room (a .src .now) (a .out .now) (s .result) _ (c .packed .ensures) _ (c .before .if2 .taken) (s .ensures)
 
 unpack-all-requires-2 : tie.Need-unpack-all-requires-2
 unpack-all-requires-2 c κs = search needs
@@ -62,7 +62,7 @@ unpack-judged-spec =
     slice-relend-prefix-scan
     slice-aggregate-scan
     scan-requires
-    packed-warnings-requires
+    packed-requires
     same-length-2
     returns-2
     unpack-all-requires-2

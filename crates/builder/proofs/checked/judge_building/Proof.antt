@@ -5,7 +5,8 @@ use Rattle.definitions.specs.Tables.{items, count, size}
 use Rattle.table.specs.Held.{Held}
 use Rattle.table.specs.Forms.{formed}
 use Rattle.types.specs.declared.checked.Types.{Types}
-use Rattle.types.specs.Answers.{uuidExcess, typesWith}
+use Rattle.format.specs.Sources.{uuidExcess}
+use Rattle.types.specs.Answers.{typesWith}
 use Rattle.builder.proofs.Counting.{not-in-form, kinds-apart, types-refused, builds}
 use borrow.Author.Needs.{needs}
 use Rattle.builder.proofs.checked.judge_building.Statement.{statement}

@@ -32,8 +32,8 @@ returns c =
     let a = c .before .before .before .before .before .before .before .before .before .before .before .args in
     any-ints [] (a .src .now) (a .sizes .now) (a .out .now) _ _ (rw (c .before .before .before .before .before .before .enum-told .given .1) at (c .before .before .before .before .before .before .before .before .before .read-ordered .ensures)) (c .before .before .read-any .ensures)
 
-warnings-requires : tie.Need-warnings-requires
-warnings-requires c κs = search needs
+delta-requires : tie.Need-delta-requires
+delta-requires c κs = search needs
 
 same-length-3 : tie.Need-same-length-3
 same-length-3 c = search needs
@@ -42,7 +42,7 @@ returns-2 : tie.Need-returns-2
 returns-2 c =
     let a = c .before .before .before .before .before .before .before .args in
     let r = c .before .before .answer .given in
-    ordered-ints (a .sizes .now) (a .src .now) (a .out .now) _ (r .0 .0) (r .0 .1 .0) (rw (r .1) at (c .before .before .before .before .before .read-ordered .ensures)) _ (c .warnings .ensures)
+    ordered-ints (a .sizes .now) (a .src .now) (a .out .now) _ (r .0 .0) (r .0 .1 .0) (rw (r .1) at (c .before .before .before .before .before .read-ordered .ensures)) _ (c .delta .ensures)
 
 pub read-ints-spec : {M : Type 1} → statement M
 read-ints-spec =
@@ -56,6 +56,6 @@ read-ints-spec =
     same-length
     same-length-2
     returns
-    warnings-requires
+    delta-requires
     same-length-3
     returns-2)

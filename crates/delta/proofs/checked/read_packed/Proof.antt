@@ -75,8 +75,8 @@ returns-2 c =
     let a = c .before .before .before .before .before .before .before .before .before .before .before .before .before .before .before .before .before .args in
     any-bytes (a .src .now) _ (a .sizes .now) (a .out .now) _ _ (rw (c .before .before .before .before .before .before .enum-told .given .1) at (c .before .before .before .before .before .before .before .before .before .read-ordered .ensures)) (c .before .before .read-any2 .ensures)
 
-warnings-requires : tie.Need-warnings-requires
-warnings-requires c κs = search needs
+delta-requires : tie.Need-delta-requires
+delta-requires c κs = search needs
 
 same-length-5 : tie.Need-same-length-5
 same-length-5 c = search needs
@@ -89,7 +89,7 @@ returns-3 c =
     let a = c .before .before .before .before .before .before .before .before .before .before .before .before .before .args in
     let r = c .before .before .answer .given in
     let s = c .before .before .before .before .before .before .before .before .before .before .scan in
-    ordered-bytes (a .src .now) (a .sizes .now) (a .out .now) _ (a .scratch .now) _ (s .result) (r .0 .0) (r .0 .1 .0) _ (c .before .before .before .before .before .before .before .before .before .before .before .before .before .pre .1) (s .ensures) (c .before .before .before .before .before .before .before .before .if1 .left) (rw (r .1) at (c .before .before .before .before .before .read-ordered .ensures)) (c .warnings .ensures)
+    ordered-bytes (a .src .now) (a .sizes .now) (a .out .now) _ (a .scratch .now) _ (s .result) (r .0 .0) (r .0 .1 .0) _ (c .before .before .before .before .before .before .before .before .before .before .before .before .before .pre .1) (s .ensures) (c .before .before .before .before .before .before .before .before .if1 .left) (rw (r .1) at (c .before .before .before .before .before .read-ordered .ensures)) (c .delta .ensures)
 
 pub read-packed-spec : {M : Type 1} → statement M
 read-packed-spec =
@@ -111,7 +111,7 @@ read-packed-spec =
     same-length-3
     same-length-4
     returns-2
-    warnings-requires
+    delta-requires
     same-length-5
     same-length-6
     returns-3)

@@ -3,21 +3,21 @@ use borrow.Author.Needs.{needs}
 use Rattle.delta_any_order.proofs.checked.counted.Statement.{statement}
 use Rattle.delta_any_order.proofs.checked.counted.Tie as tie
 
-add-warnings : tie.Need-add-warnings
-add-warnings c = search needs
+add-delta : tie.Need-add-delta
+add-delta c = search needs
 
-add-warnings-2 : tie.Need-add-warnings-2
-add-warnings-2 c = search needs
+add-delta-2 : tie.Need-add-delta-2
+add-delta-2 c = search needs
 
-sub-warnings : tie.Need-sub-warnings
-sub-warnings c = search needs
+sub-delta : tie.Need-sub-delta
+sub-delta c = search needs
 
-warnings-requires : tie.Need-warnings-requires
-warnings-requires c κs = search needs
+delta-requires : tie.Need-delta-requires
+delta-requires c κs = search needs
 
 returns : tie.Need-returns
-returns c = c .warnings .ensures
+returns c = c .delta .ensures
 
 pub counted-spec : {M : Type 1} → statement M
 counted-spec =
-    tie.close (tie.spec add-warnings add-warnings-2 sub-warnings warnings-requires returns)
+    tie.close (tie.spec add-delta add-delta-2 sub-delta delta-requires returns)

@@ -6,11 +6,11 @@ use borrow.Author.Needs.{needs}
 use Rattle.delta_any_order.proofs.checked.refused.Statement.{statement}
 use Rattle.delta_any_order.proofs.checked.refused.Tie as tie
 
-warnings-requires : tie.Need-warnings-requires
-warnings-requires c κs = search needs
+delta-requires : tie.Need-delta-requires
+delta-requires c κs = search needs
 
 returns : tie.Need-returns
-returns c = ap (err (number (c .before .args .error))) (sym (c .warnings .ensures))
+returns c = ap (err (number (c .before .args .error))) (sym (c .delta .ensures))
 
 pub refused-spec : {M : Type 1} → statement M
-refused-spec = tie.close (tie.spec warnings-requires returns)
+refused-spec = tie.close (tie.spec delta-requires returns)

@@ -1,7 +1,7 @@
 -- `checked::add` meets its contract: by whether the delta was read. Assumes nothing.
 use Rattle.format.specs.Totals.{counts}
+use Rattle.format.specs.Sources.{merge}
 use Rattle.manager.proofs.Additions.{not-read, was-read}
-use Rattle.manager.specs.Steps.{merge}
 use Rattle.storage.specs.States.{storeOf}
 use Rattle.storage.specs.Taking.{sumOf}
 use borrow.Author.Needs.{needs}

@@ -2,7 +2,8 @@
 use Rattle.gamenet_snap.specs.Numbers.{numbers}
 use Rattle.manager.proofs.Messages.{brought, handles}
 use Rattle.receiver.specs.States.{receiverOf}
-use Rattle.storage.specs.States.{storeOf, holdsIn}
+use Rattle.storage.specs.States.{storeOf}
+use Rattle.store_area.specs.Stores.{holdsIn}
 use borrow.Author.Needs.{needs}
 use denote.Ref.{now}
 use native.Mathlib.Omega.{arith}

@@ -3,7 +3,7 @@ use Rattle.gamenet_snap.specs.Numbers.{numbers}
 use Rattle.manager.proofs.Messages.{receiver-47, store-47, scratch-41, parts-41, joined-41, judged}
 use Rattle.receiver.specs.States.{receiverOf}
 use Rattle.storage.specs.States.{storeOf}
-use Rattle.storage.specs.Told.{not-held, told, Told}
+use Rattle.store_area.specs.Stores.{not-held, told, Told}
 use borrow.Author.Needs.{needs}
 use borrow.Author.Tests.{not-true, not-false}
 use denote.Ref.{now}

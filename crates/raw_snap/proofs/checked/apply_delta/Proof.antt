@@ -3,7 +3,7 @@ use mathlib.Core.Path.{ap, _∙_}
 use denote.Ref.{now}
 use Rattle.definitions.specs.TableCalls.{storedTable}
 use Rattle.raw_snap.specs.Applied.{Holds, refused-leaves}
-use Rattle.raw_snap.proofs.Counted.{answered}
+use Rattle.table_reading.specs.Counted.{answered}
 use borrow.Author.Needs.{needs}
 use Rattle.raw_snap.proofs.checked.apply_delta.Statement.{statement}
 use Rattle.raw_snap.proofs.checked.apply_delta.Tie as tie
@@ -27,8 +27,8 @@ enum-known-areas-2 c = search needs
 apply-requires : tie.Need-apply-requires
 apply-requires c κs = let h = holds (c .before .before) in (h .table, h .changes)
 
-applied-warnings-requires : tie.Need-applied-warnings-requires
-applied-warnings-requires c κs = search needs
+applied-requires : tie.Need-applied-requires
+applied-requires c κs = search needs
 
 returns : tie.Need-returns
 returns c = refused-leaves _ _ _ (rw (c .before .before .areas .given .1) at (c .before .before .before .before .judge-areas .ensures)) ∙ answered _ (c .refused .ensures)
@@ -37,7 +37,7 @@ same-length : tie.Need-same-length
 same-length c = search needs
 
 returns-2 : tie.Need-returns-2
-returns-2 c = ap (storedTable (now (c .before .before .before .before .before .before .before .before .args .out))) (holds (c .before .before .before .before .before) .is) ∙ rw (c .applied-warnings .ensures) (c .before .before .apply .ensures)
+returns-2 c = ap (storedTable (now (c .before .before .before .before .before .before .before .before .args .out))) (holds (c .before .before .before .before .before) .is) ∙ rw (c .applied .ensures) (c .before .before .apply .ensures)
 
 pub apply-delta-spec : {M : Type 1} → statement M
 apply-delta-spec =
@@ -48,7 +48,7 @@ apply-delta-spec =
     refused-requires
     enum-known-areas-2
     apply-requires
-    applied-warnings-requires
+    applied-requires
     returns
     same-length
     returns-2)

@@ -9,8 +9,8 @@ use mir.Facts.{toZ-ofZ}
 use Rattle.definitions.specs.Messages.{baseTick}
 use Rattle.definitions.specs.Receiver.{noParts, receiverForm, isOld, isCurrent, finishedAt}
 use Rattle.format.specs.Totals.{counts}
+use Rattle.format.specs.Sources.{flagged}
 use Rattle.receiver.specs.States.{receiverWith}
-use Rattle.receiver.specs.Answers.{flagged}
 use Rattle.receiver.proofs.Calls.{empty-47, empty-20, empty-taken, empty-settled}
 use Rattle.receiver.proofs.whole.receive_empty.Statement.{statement}
 use Rattle.receiver.proofs.whole.receive_empty.Tie as tie
@@ -24,9 +24,9 @@ old : (c : tie.After-is-old) → let a = c .before .before .before .before .befo
 old c = rw (toZ-ofZ (c .before .before .before .before .before .before .fits .tick)) at (c .is-old .ensures (c .before .before .before .before .before .before .args .lengths .now))
 
 -- the warning
-told : (c : tie.After-warnings) → let a = c .before .before .before .before .before .before .before .before .before .args in counts (c .warnings .result) ≡ flagged (isCurrent (receiverWith (a .r) (a .lengths .now)) (a .tick)) false
+told : (c : tie.After-received) → let a = c .before .before .before .before .before .before .before .before .before .args in counts (c .received .result) ≡ flagged (isCurrent (receiverWith (a .r) (a .lengths .now)) (a .tick)) false
 told c =
-    rw (c .before .is-current .ensures (c .before .before .before .before .before .before .before .before .before .args .lengths .now), toZ-ofZ (c .before .before .before .before .before .before .before .before .before .fits .tick)) at (c .warnings .ensures)
+    rw (c .before .is-current .ensures (c .before .before .before .before .before .before .before .before .before .args .lengths .now), toZ-ofZ (c .before .before .before .before .before .before .before .before .before .fits .tick)) at (c .received .ensures)
 
 -- the base
 base : (c : tie.After-wrapping-sub) → let a = c .before .before .before .before .before .before .before .before .before .before .args in toZ w32 (ofZ w32 (c .wrapping-sub .result)) ≡ baseTick (a .tick) (a .delta-tick)
@@ -69,8 +69,8 @@ returns-2 c area second =
 is-current-requires : tie.Need-is-current-requires
 is-current-requires c κs = search needs
 
-warnings-requires : tie.Need-warnings-requires
-warnings-requires c κs = search needs
+received-requires : tie.Need-received-requires
+received-requires c κs = search needs
 
 wrapping-sub-requires : tie.Need-wrapping-sub-requires
 wrapping-sub-requires c κs = search needs
@@ -83,7 +83,7 @@ returns-3 c area second =
     let s = c .before .before .before .before .before .before .before .before .before .before .before .before in
     let a = s .args in
     empty-taken (receiverWith (a .r) (a .lengths .now)) (a .tick) (a .delta-tick) (formed (c .before .before .before .before .before .before .before)) (sym (old (c .before .before .before .before .before .before)) ∙ c .before .before .before .before .before .if2 .left) area second
-    ∙ empty-settled (c .before .before .before .warnings .result) (isCurrent (receiverWith (a .r) (a .lengths .now)) (a .tick)) (a .tick) (a .delta-tick) _ _ (c .without-current .result) (told (c .before .before .before)) (toZ-ofZ (s .fits .tick)) (base (c .before .before)) (after c) area second
+    ∙ empty-settled (c .before .before .before .received .result) (isCurrent (receiverWith (a .r) (a .lengths .now)) (a .tick)) (a .tick) (a .delta-tick) _ _ (c .without-current .result) (told (c .before .before .before)) (toZ-ofZ (s .fits .tick)) (base (c .before .before)) (after c) area second
 
 pub receive-empty-spec : {M : Type 1} → statement M
 receive-empty-spec =
@@ -97,7 +97,7 @@ receive-empty-spec =
     refused-requires-2
     returns-2
     is-current-requires
-    warnings-requires
+    received-requires
     wrapping-sub-requires
     without-current-requires
     returns-3)

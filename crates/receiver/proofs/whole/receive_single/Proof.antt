@@ -10,8 +10,8 @@ use mir.Facts.{toZ-ofZ}
 use Rattle.definitions.specs.Messages.{baseTick}
 use Rattle.definitions.specs.Receiver.{noParts, receiverForm, isOld, isCurrent, finishedAt}
 use Rattle.format.specs.Totals.{counts}
+use Rattle.format.specs.Sources.{flagged}
 use Rattle.receiver.specs.States.{receiverWith}
-use Rattle.receiver.specs.Answers.{flagged}
 use Rattle.receiver.proofs.Calls.{single-47, single-41, single-43, single-20, single-taken, single-settled}
 use Rattle.receiver.proofs.whole.receive_single.Statement.{statement}
 use Rattle.receiver.proofs.whole.receive_single.Tie as tie
@@ -25,9 +25,9 @@ old : (c : tie.After-is-old) → let a = c .before .before .before .before .befo
 old c = rw (toZ-ofZ (c .before .before .before .before .before .before .before .before .before .before .fits .tick)) at (c .is-old .ensures (c .before .before .before .before .before .before .before .before .before .before .args .lengths .now))
 
 -- the warning
-told : (c : tie.After-warnings) → let a = c .before .before .before .before .before .before .before .before .before .before .before .before .before .args in counts (c .warnings .result) ≡ flagged (isCurrent (receiverWith (a .r) (a .lengths .now)) (a .tick)) false
+told : (c : tie.After-received) → let a = c .before .before .before .before .before .before .before .before .before .before .before .before .before .args in counts (c .received .result) ≡ flagged (isCurrent (receiverWith (a .r) (a .lengths .now)) (a .tick)) false
 told c =
-    rw (c .before .is-current .ensures (c .before .before .before .before .before .before .before .before .before .before .before .before .before .args .lengths .now), toZ-ofZ (c .before .before .before .before .before .before .before .before .before .before .before .before .before .fits .tick)) at (c .warnings .ensures)
+    rw (c .before .is-current .ensures (c .before .before .before .before .before .before .before .before .before .before .before .before .before .args .lengths .now), toZ-ofZ (c .before .before .before .before .before .before .before .before .before .before .before .before .before .fits .tick)) at (c .received .ensures)
 
 -- the base
 base : (c : tie.After-wrapping-sub) → let a = c .before .before .before .before .before .before .before .before .before .before .before .before .before .before .before .before .before .before .before .args in toZ w32 (ofZ w32 (c .wrapping-sub .result)) ≡ baseTick (a .tick) (a .delta-tick)
@@ -88,8 +88,8 @@ returns-4 c area =
 is-current-requires : tie.Need-is-current-requires
 is-current-requires c κs = search needs
 
-warnings-requires : tie.Need-warnings-requires
-warnings-requires c κs = search needs
+received-requires : tie.Need-received-requires
+received-requires c κs = search needs
 
 put-bytes-requires : tie.Need-put-bytes-requires
 put-bytes-requires c κs = (omega (arith, c .before .before .before .before .before .before .if3 .left), omega (arith, c .before .before .before .before .before .before .if3 .left, c .before .before .before .before .before .before .before .if2 .left))
@@ -108,7 +108,7 @@ returns-5 c area =
     let s = c .before .before .before .before .before .before .before .before .before .before .before .before .before .before .before .before .before .before .before .before in
     let a = s .args in
     single-taken (receiverWith (a .r) (a .lengths .now)) (a .tick) (a .delta-tick) (a .crc) (a .«data» .now) (a .joined .now) (formed (c .before .before .before .before .before .before .before .before .before .before .before .before .before)) (c .before .before .before .before .before .before .before .before .before .before .before .before .if2 .left) (c .before .before .before .before .before .before .before .before .before .before .before .if3 .left) (sym (old (c .before .before .before .before .before .before .before .before .before .before)) ∙ c .before .before .before .before .before .before .before .before .before .if4 .left) area
-    ∙ single-settled (c .before .before .before .before .before .before .before .warnings .result) (isCurrent (receiverWith (a .r) (a .lengths .now)) (a .tick)) (a .tick) (a .delta-tick) _ _ (c .without-current .result) (told (c .before .before .before .before .before .before .before)) (toZ-ofZ (s .fits .tick)) (base (c .before)) (after c) area _ _ _ _ _ (toZ-ofZ (s .fits .crc)) (c .before .before .before .before .put-bytes .ensures)
+    ∙ single-settled (c .before .before .before .before .before .before .before .received .result) (isCurrent (receiverWith (a .r) (a .lengths .now)) (a .tick)) (a .tick) (a .delta-tick) _ _ (c .without-current .result) (told (c .before .before .before .before .before .before .before)) (toZ-ofZ (s .fits .tick)) (base (c .before)) (after c) area _ _ _ _ _ (toZ-ofZ (s .fits .crc)) (c .before .before .before .before .put-bytes .ensures)
 
 pub receive-single-spec : {M : Type 1} → statement M
 receive-single-spec =
@@ -126,7 +126,7 @@ receive-single-spec =
     refused-requires-4
     returns-4
     is-current-requires
-    warnings-requires
+    received-requires
     put-bytes-requires
     wrapping-sub-requires
     without-current-requires

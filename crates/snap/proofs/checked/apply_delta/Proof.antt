@@ -4,7 +4,7 @@ use denote.Ref.{now}
 use lib.ListN.{length}
 use Rattle.raw_snap.specs.Applied.{Holds, refused-leaves}
 use Rattle.snap.proofs.Applied.{call-is}
-use Rattle.snap.proofs.Counted.{answered}
+use Rattle.table_reading.specs.Counted.{answered}
 use borrow.Author.Needs.{needs}
 use Rattle.snap.proofs.checked.apply_delta.Statement.{statement}
 use Rattle.snap.proofs.checked.apply_delta.Tie as tie

@@ -4,7 +4,8 @@ use mathlib.Core.Path.{ap, _∙_}
 use Rattle.table_reading.specs.Reading.{Indexed}
 use Rattle.types.specs.declared.checked.Types.{Types}
 use Rattle.types.specs.Picks.{tableIn}
-use Rattle.types.specs.Answers.{uuidExcess, typesWith}
+use Rattle.format.specs.Sources.{uuidExcess}
+use Rattle.types.specs.Answers.{typesWith}
 use Rattle.snap.proofs.Placing.{placed-refused, placed-all, picks, types-refused, no-room, with-room}
 use borrow.Author.Needs.{needs}
 use Rattle.snap.proofs.checked.place_typed.Statement.{statement}

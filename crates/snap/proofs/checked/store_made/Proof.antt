@@ -14,8 +14,8 @@ use Rattle.snap.proofs.checked.store_made.Tie as tie
 told : (c : tie.After-table2) → tableForm.Table (c .table2 .given .0 .0) (c .table2 .given .0 .1 .0) ≡ formOf (tableOf (now (c .before .before .before .args .area)))
 told c = made-form _ (c .before .before .before .args .made .table) _ _ (c .table2 .given .1) (c .before .before .before .pre)
 
-applied-warnings-requires : tie.Need-applied-warnings-requires
-applied-warnings-requires c κs = search needs
+applied-requires : tie.Need-applied-requires
+applied-requires c κs = search needs
 
 enum-known-table : tie.Need-enum-known-table
 enum-known-table c = search needs
@@ -29,7 +29,7 @@ copy-table-requires c κs = form-counted _ _ _ (told (c .before .before))
 returns : tie.Need-returns
 returns c =
     let a = c .before .before .before .before .args in
-    store-refused (now (a .out)) (now (a .area)) (a .made) _ (c .before .before .before .applied-warnings .ensures) _ (c .before .table .given .1)
+    store-refused (now (a .out)) (now (a .area)) (a .made) _ (c .before .before .before .applied .ensures) _ (c .before .table .given .1)
 
 same-length : tie.Need-same-length
 same-length c = search needs
@@ -37,13 +37,13 @@ same-length c = search needs
 returns-2 : tie.Need-returns-2
 returns-2 c =
     let a = c .before .before .before .before .before .before .before .args in
-    store-copied (now (a .out)) (now (a .area)) (a .made) _ (c .before .before .before .before .before .before .applied-warnings .ensures) _ _ (c .before .before .before .before .table2 .given .1) (c .before .before .before .before .before .before .before .pre) (c .before .copy-table .result) _ (c .before .copy-table .ensures)
+    store-copied (now (a .out)) (now (a .area)) (a .made) _ (c .before .before .before .before .before .before .applied .ensures) _ _ (c .before .before .before .before .table2 .given .1) (c .before .before .before .before .before .before .before .pre) (c .before .copy-table .result) _ (c .before .copy-table .ensures)
 
 pub store-made-spec : {M : Type 1} → statement M
 store-made-spec =
     tie.close
     (tie.spec
-    applied-warnings-requires
+    applied-requires
     enum-known-table
     enum-known-table-2
     copy-table-requires

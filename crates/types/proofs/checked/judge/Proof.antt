@@ -2,7 +2,8 @@
 use mathlib.Core.Path.{sym, ap, _∙_}
 use Rattle.definitions.specs.Outcome.{Outcome}
 use Rattle.types.specs.declared.checked.Types.{Types}
-use Rattle.types.specs.Answers.{uuidExcess, typesWith}
+use Rattle.format.specs.Sources.{uuidExcess}
+use Rattle.types.specs.Answers.{typesWith}
 use Rattle.types.proofs.Judging.{z-low, first-missing, kinds-refused, later-missing, all-sound}
 use borrow.Author.Needs.{needs}
 use Rattle.types.proofs.checked.judge.Statement.{statement}

@@ -1,7 +1,7 @@
 -- `checked::walk_kinds` meets its contract. The loop's invariant: the rest, after the warnings so far, gives the whole outcome. Assumes nothing.
 use Rattle.definitions.specs.Refusals.{duplicateUuidType}
 use Rattle.definitions.specs.Outcome.{Outcome, err}
-use Rattle.types.specs.Answers.{uuidExcess}
+use Rattle.format.specs.Sources.{uuidExcess}
 use native.Mathlib.Omega.{arith}
 use mathlib.Core.Path.{_≡_, sym, ap, subst, _∙_}
 use mathlib.Core.List.{List, []}

@@ -1,0 +1,75 @@
+-- What each source of warnings counts; a kind that is not named has none. Assumes nothing.
+use mathlib.Core.Bool.{Bool, cond}
+use Prim.Native.Nat.{ℕ}
+use Rattle.definitions.specs.Warnings.{Counts, none, one}
+use Rattle.definitions.specs.Warnings.{NonZeroPadding, DuplicateDelete, DuplicateUpdate, UnknownDelete, DeleteUpdate, NumUpdatedItems}
+use Rattle.definitions.specs.Warnings.{ExcessSnapData, ExcessUuidItemData, DuplicateSnap, DifferingAttributes, WeirdNegativeDeltaTick}
+use Rattle.laws.specs.WarningLaws.{set, packed}
+
+-- ---- tables
+
+-- more ints follow a table
+abbrev pub excess : Bool → Counts
+excess b = cond b (one ExcessSnapData) none
+
+-- n items of type 0 with more than four ints
+abbrev pub uuidExcess : ℕ → Counts
+uuidExcess n = set ExcessUuidItemData n none
+
+-- reading a table: the packer's two kinds, how often ints are left over, and kinds with more than four ints
+abbrev pub tableCounts : ℕ → ℕ → ℕ → ℕ → Counts
+tableCounts o p n kinds = set ExcessSnapData n (set ExcessUuidItemData kinds (packed o p))
+
+-- ---- deltas
+
+-- n updates of deleted keys
+abbrev pub deletedCounts : ℕ → Counts
+deletedCounts n = set DeleteUpdate n none
+
+-- the packer's two kinds, padding that is not 0, keys deleted twice, repeated updates, updates of deleted keys, a wrong count of updates
+abbrev pub countsOf : ℕ → ℕ → ℕ → ℕ → ℕ → ℕ → ℕ → Counts
+countsOf o p odd twice repeats crossing other =
+    set NonZeroPadding odd
+    (set DuplicateDelete twice
+    (set DuplicateUpdate repeats
+    (set DeleteUpdate crossing
+    (set NumUpdatedItems other (packed o p)))))
+
+-- the same; three of them are counted at most once
+abbrev pub deltaCounts : ℕ → ℕ → Bool → Bool → ℕ → ℕ → Bool → Counts
+deltaCounts o p odd twice repeats crossing other = countsOf o p (cond odd 1 0) (cond twice 1 0) repeats crossing (cond other 1 0)
+
+-- ---- applying a delta
+
+-- the base lacks a deleted key
+abbrev pub unknownCounts : Bool → Counts
+unknownCounts unknown = set UnknownDelete (cond unknown 1 0) none
+
+-- the same, and n kinds with more than four ints
+abbrev pub typedCounts : Bool → ℕ → Counts
+typedCounts unknown n = set UnknownDelete (cond unknown 1 0) (uuidExcess n)
+
+-- ---- receiver and store
+
+-- the message's tick was unfinished; its numbers differ
+abbrev pub flagged : Bool → Bool → Counts
+flagged duplicate differing = set DuplicateSnap (cond duplicate 1 0) (set DifferingAttributes (cond differing 1 0) none)
+
+-- the base's tick is negative and not -1
+abbrev pub weirdly : Bool → Counts
+weirdly weird = set WeirdNegativeDeltaTick (cond weird 1 0) none
+
+-- the same, and the warnings of applying
+abbrev pub takenCounts : Bool → Bool → ℕ → Counts
+takenCounts weird unknown n = set WeirdNegativeDeltaTick (cond weird 1 0) (typedCounts unknown n)
+
+-- ---- a message
+
+-- each kind of warning from the step that counts it: receiver, reading of the delta, or store; the delta's steps leave no ints over
+abbrev pub merge : Counts → Counts → Counts → Counts
+merge received read taken =
+    set DuplicateSnap (received .duplicateSnap)
+    (set DifferingAttributes (received .differingAttributes)
+    (set UnknownDelete (taken .unknownDelete)
+    (set ExcessUuidItemData (taken .excessUuidItemData)
+    (set WeirdNegativeDeltaTick (taken .weirdNegativeDeltaTick) (set ExcessSnapData 0 read)))))
