@@ -10,6 +10,8 @@ use format::Stored;
 use packer::IntWrite;
 use raw_snap::Checksum;
 use raw_snap::raw_builder;
+use replay_text::areas::int_area;
+use replay_text::areas::part_area;
 use snap::TypeId;
 use storage::Added;
 use storage::Storage;
@@ -205,8 +207,8 @@ impl Controller {
 
     // Adds a table and packs its delta.
     fn add(self, made: Prepared, tick: i32, table: &[i32; 16384], area: &mut [i32; 65536]) -> Told {
-        let mut delta = [0i32; 16384];
-        let mut packed = [0u8; 28800];
+        let mut delta = int_area();
+        let mut packed = part_area();
         let storage = self.storage;
         let adding = storage.add_snap(tick, table, &mut delta, area);
         let len = pack_new(made.repeated, &delta, &mut packed);
@@ -227,7 +229,7 @@ impl Controller {
 
     // Adds a table at a tick. If again is set and there is a base, it is the base's table again, and no bytes are sent.
     pub fn tell(self, tick: i32, again: bool, area: &mut [i32; 65536]) -> Told {
-        let mut table = [0i32; 16384];
+        let mut table = int_area();
         let made = prepare(self, again, area, &mut table);
         self.add(made, tick, &table, area)
     }

@@ -9,6 +9,9 @@ use logbook::Note;
 use manager::Handled;
 use manager::Handling;
 use manager::Manager;
+use replay_text::areas::int_area;
+use replay_text::areas::part_area;
+use replay_text::areas::scratch;
 
 // The manager with its part area; the logbook with its two lists; how many messages came, how many of them were acknowledged, and how often the
 // two answers differed.
@@ -78,9 +81,9 @@ fn hand_empty(manager: Manager, m: SnapMsg, parts: &mut [u8], area: &mut [i32]) 
     let SnapMsg::SnapEmpty { tick, delta_tick } = m else {
         return quiet(manager);
     };
-    let mut joined = [0u8; 28800];
-    let mut delta = [0i32; 16384];
-    let mut scratch = [0i32; 28800];
+    let mut joined = part_area();
+    let mut delta = int_area();
+    let mut scratch = scratch();
     manager.snap_empty(
         tick,
         delta_tick,
@@ -109,9 +112,9 @@ fn hand_whole(
         return hand_empty(manager, m, parts, area);
     };
     let sizes = [0i32; 1];
-    let mut joined = [0u8; 28800];
-    let mut delta = [0i32; 16384];
-    let mut scratch = [0i32; 28800];
+    let mut joined = part_area();
+    let mut delta = int_area();
+    let mut scratch = scratch();
     manager.snap_single(
         tick,
         delta_tick,
@@ -139,9 +142,9 @@ fn hand(manager: Manager, m: SnapMsg, data: &[u8], parts: &mut [u8], area: &mut 
         return hand_whole(manager, m, data, parts, area);
     };
     let sizes = [0i32; 1];
-    let mut joined = [0u8; 28800];
-    let mut delta = [0i32; 16384];
-    let mut scratch = [0i32; 28800];
+    let mut joined = part_area();
+    let mut delta = int_area();
+    let mut scratch = scratch();
     manager.snap(
         tick,
         delta_tick,
@@ -176,7 +179,7 @@ impl Printer {
     pub fn new() -> Printer {
         let manager = Manager::new();
         let logbook = Logbook::new();
-        let parts = [0u8; 28800];
+        let parts = part_area();
         let came = [0usize; 33];
         let held = [0i32; 101];
         Printer {

@@ -1,6 +1,4 @@
 // What cases and answers of several subjects have in common.
-ghost use mathlib.Core.Path.{_≡_};
-ghost use lib.ListN.{length};
 ghost use Rattle.io.specs.Counts.{Counts};
 ghost use Rattle.replay_text.specs.Buffer.{CountsInts};
 use format::Error;
@@ -57,20 +55,6 @@ pub fn part(area: &[i32], from: usize, to: usize) -> &[i32] {
         }
     }
     &area[..0]
-}
-
-// 28,800 ints, as scratch: what they are does not matter before a call.
-pub fn scratch() -> [i32; 28800]
-    ensures { λ r. ⌜ 28800 ≡ length r ⌝ }
-{
-    [77; 28800]
-}
-
-// 28,800 bytes, for the parts of a delta.
-pub fn part_area() -> [u8; 28800]
-    ensures { λ r. ⌜ 28800 ≡ length r ⌝ }
-{
-    [0; 28800]
 }
 
 // The answer to a line that is no case.

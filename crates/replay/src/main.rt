@@ -16,8 +16,8 @@ mod table_cases;
 
 use fields::letter;
 use fields::odd;
-use fields::part_area;
 use libc::STDIN_FILENO;
+use replay_text::areas::part_area;
 use replay_text::words::word;
 use state::Answered;
 use state::State;

@@ -6,7 +6,6 @@
 //     e TICK DIST                    an empty message
 // An answer is DUPLICATE DIFFERING, the two warning counts, and then more, delta TICK BASE CRC LEN HEX, empty TICK BASE, or refused NUMBER.
 use crate::fields::letter;
-use crate::fields::part_area;
 use crate::fields::refusal;
 use crate::fields::warnings;
 use crate::state::Answered;
@@ -16,6 +15,7 @@ use format::Warnings;
 use receiver::DeltaReceiver;
 use receiver::Received;
 use receiver::Receiving;
+use replay_text::areas::part_area;
 use replay_text::line::Line;
 use replay_text::words::int;
 use replay_text::words::word;

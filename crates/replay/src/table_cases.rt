@@ -14,7 +14,6 @@ use crate::fields::part;
 use crate::fields::reading;
 use crate::fields::refused;
 use crate::fields::room;
-use crate::fields::scratch;
 use crate::fields::stored;
 use crate::fields::written;
 use raw_snap::Checksum;
@@ -22,6 +21,7 @@ use raw_snap::Count;
 use raw_snap::Has;
 use raw_snap::Walked;
 use raw_snap::raw_builder;
+use replay_text::areas::scratch;
 use replay_text::line::Line;
 use replay_text::words::word;
 

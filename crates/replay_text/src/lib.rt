@@ -11,6 +11,7 @@ ghost use Rattle.replay_text.specs.Answers as Answers;
 ghost use Rattle.format.specs.Numbers.{number};
 use format::Error;
 
+pub mod areas;
 pub mod line;
 pub mod words;
 
