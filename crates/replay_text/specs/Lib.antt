@@ -3,3 +3,4 @@ pub mod Words
 pub mod Buffer
 pub mod Numbers
 pub mod Answers
+pub mod Lines
