@@ -507,7 +507,8 @@ uint32_t cef_delta_clear(int32_t *out, size_t out_len, size_t *count);
  *
  * CEF_OK: the delta takes *count ints there. *clash is left.
  * CEF_DELTA_DIFFERING_SIZES: both tables have an item with the key *clash,
- * with data of different lengths. `out` and *count are left.
+ * with data of different lengths; of all such keys it is the least one, read
+ * as unsigned. `out` and *count are left.
  * CEF_NOT_IN_FORM, CEF_CAPACITY_ERROR: `out`, *count and *clash are left.
  */
 uint32_t cef_delta_create(const int32_t *base, size_t base_len,
@@ -846,8 +847,9 @@ uint32_t cef_storage_set_delta_tick(int32_t ticks[2], uint32_t counts[3],
  * the delta takes *count ints. *clash is left.
  * CEF_NOT_IN_FORM: the store is not in form, or `table` holds no table.
  * CEF_STORE_FULL: CEF_STORED_TABLES are held.
- * CEF_DELTA_DIFFERING_SIZES: both tables have an item with the key *clash,
- * with data of different lengths.
+ * CEF_DELTA_DIFFERING_SIZES: base and table have an item with the key *clash,
+ * with data of different lengths; of all such keys it is the least one, read
+ * as unsigned.
  * CEF_CAPACITY_ERROR: the store or the delta does not fit its area.
  * Judged in this order. A refused call leaves the store, both areas and all
  * outputs but the key of CEF_DELTA_DIFFERING_SIZES.

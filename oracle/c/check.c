@@ -431,6 +431,17 @@ static void check_delta_create(void)
         CHECK(count == LEFT && clash == -1 && ints_left(out, 0, 20));
     }
 
+    /* All three keys clash: the least is told, read as unsigned, whichever is the base. */
+    const int32_t shorter[] = {12, 3, 0, 4, 8, 3, 65537, -1};
+    for (int turned = 0; turned < 2; turned++) {
+        count = LEFT;
+        clash = LEFT;
+        CHECK(cef_delta_create(turned ? shorter : base, turned ? 8 : 11, turned ? base : shorter,
+                               turned ? 11 : 8, out, 20, &count,
+                               &clash) == CEF_DELTA_DIFFERING_SIZES);
+        CHECK(count == LEFT && clash == 3);
+    }
+
     /* Two full tables without a common key make the longest delta. */
     for (uint16_t side = 0; side < 2; side++) {
         CHECK(cef_table_empty(side ? scratch : area, CEF_TABLE_INTS, &count) == CEF_OK);

@@ -59,6 +59,12 @@ void check_storage(void)
 
     CHECK(cef_storage_set_delta_tick(ticks, counts, 3, area, 14, warnings) == CEF_OK);
     CHECK(counts[HAS_BASE] == 1 && ticks[BASE] == 3 && only(warnings, -1));
+    /* The base's item 65537 has one int. */
+    const int32_t bare[] = {4, 1, 0, 65537};
+    CHECK(cef_storage_add_snap(ticks, counts, 9, bare, 4, delta, 8, area, 14, &base, &count,
+                               &clash) == CEF_DELTA_DIFFERING_SIZES);
+    CHECK(base == LEFT && clash == 65537 && counts[HELD] == 1);
+    clash = LEFT;
 #define SNAP(len, to, room) \
     cef_storage_add_snap(ticks, counts, 9, TABLE, len, delta, to, area, room, &base, &count, &clash)
     fill_ints(delta, 8);

@@ -2,11 +2,9 @@
 ghost use mathlib.Core.Path.{_≡_};
 ghost use lib.ListN.{length};
 ghost use Rattle.definitions.specs.Areas.{cleared};
-ghost use Rattle.definitions.specs.Tables.{items};
-ghost use Rattle.definitions.specs.DeltaCalls.{clearCall, createCall, writeToIntsCall, writeCall, readFromIntsCall, readCall, createItemDeltaCall, applyItemDeltaCall};
+ghost use Rattle.definitions.specs.DeltaCalls.{clearCall, createCall, createClash, writeToIntsCall, writeCall, readFromIntsCall, readCall, createItemDeltaCall, applyItemDeltaCall};
 ghost use Rattle.format.specs.Totals as Totals;
-ghost use Rattle.boundary.specs.Boundary.{status, warningsOf, output, given};
-ghost use Rattle.capi_deltas.specs.Clashes.{Named};
+ghost use Rattle.boundary.specs.Boundary.{status, warningsOf, output, keyOr, given};
 use boundary::checked::told;
 use delta_making::Made;
 use format::Error;
@@ -24,7 +22,8 @@ pub extern "C" fn cef_delta_clear(out: &mut [i32], count: &mut usize) -> u32
     told(delta::clear(out), count)
 }
 
-// Writes the delta from a base to a target into the front of out; if two items of one key differ in length, sets such a key.
+// Writes the delta from a base to a target into the front of out; if items of one key differ in length, sets clash to the least such key,
+// read as unsigned.
 #[no_mangle]
 pub extern "C" fn cef_delta_create(
     base: &[i32],
@@ -36,7 +35,7 @@ pub extern "C" fn cef_delta_create(
     ensures { λ r. ⌜ r ≡ status (createCall (now (base .entry)) (now (target .entry)) (now (out .entry)) .answer) ⌝ }
     ensures { λ _. ⌜ now (out .exit) ≡ createCall (now (base .entry)) (now (target .entry)) (now (out .entry)) .out ⌝ }
     ensures { λ _. ⌜ now (count .exit) ≡ output (λ n. n) (now (count .entry)) (createCall (now (base .entry)) (now (target .entry)) (now (out .entry)) .answer) ⌝ }
-    ensures { λ r. ⌜ Named (items (now (base .entry))) (items (now (target .entry))) (now (clash .entry)) (now (clash .exit)) r ⌝ }
+    ensures { λ _. ⌜ now (clash .exit) ≡ keyOr (now (clash .entry)) (createClash (now (base .entry)) (now (target .entry)) (now (out .entry))) ⌝ }
 {
     let m = delta::create(base, target, out);
     match m {

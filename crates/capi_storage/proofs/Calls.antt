@@ -1,22 +1,21 @@
 -- What C sees, given a known call. Assumes nothing.
-use mathlib.Core.Path.{_≡_, refl, sym, _∙_}
+use mathlib.Core.Path.{_≡_, refl}
 use mathlib.Core.List.{List}
 use mathlib.Core.Option.{Option}
 use Prim.Native.Nat.{ℕ}
-use native.Mathlib.Omega.{arith}
 use lib.IntN.{ℤ}
 use Rattle.definitions.specs.Refusals.{deltaDifferingSizes}
 use Rattle.definitions.specs.Warnings.{Counts}
 use Rattle.definitions.specs.Outcome.{Outcome}
 use Rattle.definitions.specs.Storage.{Store}
-use Rattle.definitions.specs.StorageCalls.{StoreStep, AddStep, setDeltaTickCall, addDeltaCall, addSnapCall, tickCall}
+use Rattle.definitions.specs.StorageCalls.{StoreStep, AddStep, setDeltaTickCall, addDeltaCall, addSnapCall, addSnapClash, tickCall}
 use Rattle.format.specs.Numbers.{number}
 use Rattle.format.specs.declared.Error.{Error}
 use Rattle.format.specs.Totals.{row}
-use Rattle.boundary.specs.Boundary.{status, warningsOf, output}
+use Rattle.boundary.specs.Boundary.{status, warningsOf, output, keyOr}
 use Rattle.boundary_states.specs.Rows.{SavedStore}
 use Rattle.boundary_states.specs.Few.{Fits}
-use Rattle.storage.specs.Answers.{setWith, addedIn, Clashing}
+use Rattle.storage.specs.Answers.{setWith, addedIn, addedClash}
 use Rattle.storage.specs.Taking.{takenWith}
 use Rattle.storage.specs.declared.Set.{Set}
 use Rattle.storage.specs.declared.Set.the-variants as set
@@ -24,7 +23,7 @@ use Rattle.storage.specs.declared.Taken.{Taken}
 use Rattle.storage.specs.declared.Taken.the-variants as taken
 use Rattle.storage.specs.declared.Added.{Added}
 use Rattle.storage.specs.declared.Added.the-variants as added
-use Rattle.capi_storage.specs.Told.{Told, ToldAdded, Beside, Names, clashOr}
+use Rattle.capi_storage.specs.Told.{Told, ToldAdded, Beside}
 
 -- ---- calls with an equal store and equal numbers
 
@@ -37,8 +36,9 @@ delta-moved area delta n p q r u e = rw (p, q, r, u) at e
 pub snap-moved : {s h : Store} {t′ t : ℤ} (area table delta : List ℤ) {o : AddStep} → s ≡ h → t′ ≡ t → addSnapCall s area t′ table delta ≡ o → addSnapCall h area t table delta ≡ o
 snap-moved area table delta p q e = rw (p, q) at e
 
-pub clashing-moved : {s h : Store} {t′ t : ℤ} (area table : List ℤ) (a : Added) → s ≡ h → t′ ≡ t → Clashing s area t′ table a → Clashing h area t table a
-clashing-moved area table a p q c = rw (p, q) at c
+pub clash-moved : {s h : Store} {t′ t : ℤ} (area table delta : List ℤ) {k : Option ℤ} → s ≡ h → t′ ≡ t
+    → k ≡ addSnapClash s area t′ table delta → k ≡ addSnapClash h area t table delta
+clash-moved area table delta p q e = rw (p, q) at e
 
 pub tick-moved : {s h : Store} (area : List ℤ) (i : ℕ) {o : Outcome (Option ℤ)} → s ≡ h → tickCall s area i ≡ o → tickCall h area i ≡ o
 tick-moved area i p e = rw p at e
@@ -71,7 +71,7 @@ module _ (a : Added) where
   Tells r base₀ base count₀ count clash₀ clash =
       (r ≡ status (addedIn a))
       × ((base ≡ output (λ x. x .base) base₀ (addedIn a))
-      × ((count ≡ output (λ x. x .ints) count₀ (addedIn a)) × (clash ≡ clashOr clash₀ a)))
+      × ((count ≡ output (λ x. x .ints) count₀ (addedIn a)) × (clash ≡ keyOr clash₀ (addedClash a))))
 
   pub tells-delta : {b b′ : ℤ} {n : ℕ} → a ≡ added.Delta b n → b′ ≡ b → (base₀ : ℤ) (count₀ : ℕ) (clash₀ : ℤ) → Tells 0 base₀ b′ count₀ n clash₀ clash₀
   tells-delta e p base₀ count₀ clash₀ = rw (e, p) (refl, (refl, (refl, refl)))
@@ -97,12 +97,3 @@ module _ (o : AddStep) (a : Added) {s : Store} {area delta : List ℤ} (e : o �
         base-is = t .1 .0;
         count-is = t .1 .1 .0;
       })
-
--- the clashing key
-pub named : (s : Store) (area : List ℤ) (tick : ℤ) (table : List ℤ) (a : Added) → Clashing s area tick table a → (r : ℕ) (clash₀ clash : ℤ) → r ≡ status (addedIn a) → clash ≡ clashOr clash₀ a → Names s area tick table clash₀ clash r
-named s area tick table (added.Delta base ints) c r clash₀ clash p q =
-    record { differs = λ x. absurd (omega (arith, x, p)); left = λ _. q }
-named s area tick table (added.DifferingSizes k) c r clash₀ clash p q =
-    record { differs = λ _. rw q c; left = λ f. absurd (f p) }
-named s area tick table (added.Refused x) c r clash₀ clash p q =
-    record { differs = λ d. absurd (c (sym p ∙ d)); left = λ _. q }

@@ -3,16 +3,10 @@ use mathlib.Core.Path.{_≡_}
 use mathlib.Core.List.{List}
 use Prim.Native.Nat.{ℕ}
 use lib.IntN.{ℤ}
-use Rattle.definitions.specs.Ints.{bits}
-use Rattle.definitions.specs.Refusals.{deltaDifferingSizes}
-use Rattle.definitions.specs.Storage.{Store}
 use Rattle.definitions.specs.StorageCalls.{StoreStep, AddStep}
 use Rattle.format.specs.Totals.{row}
 use Rattle.boundary.specs.Boundary.{status, warningsOf, output}
 use Rattle.boundary_states.specs.Rows.{SavedStore}
-use Rattle.storage.specs.Answers.{Clash}
-use Rattle.storage.specs.declared.Added.{Added}
-use Rattle.storage.specs.declared.Added.the-variants as added
 
 -- a step with its warnings: the store's rows before and after, its area, the counts and the number
 pub record Told {A : Type 0} (step : StoreStep A) (ticks₀ : List ℤ) (counts₀ : List ℕ) (ticks : List ℤ) (counts : List ℕ) (area : List ℤ) (warnings : List ℕ) (r : ℕ) : Type 0 where
@@ -38,14 +32,3 @@ pub record ToldAdded (step : AddStep) (before after : Beside) (area delta : List
   pub delta-is : delta ≡ step .delta
   pub base-is : after .base ≡ output (λ x. x .base) (before .base) (step .answer)
   pub count-is : after .count ≡ output (λ x. x .ints) (before .count) (step .answer)
-
--- the output for a clashing key, before and after a call, by its answer: 10 comes with such a key, else the output is unchanged
-pub record Names (s : Store) (area : List ℤ) (tick : ℤ) (table : List ℤ) (before after : ℤ) (r : ℕ) : Type 0 where
-  pub differs : r ≡ deltaDifferingSizes → Clash s area tick table (bits after)
-  pub left : (r ≡ deltaDifferingSizes → ⊥) → after ≡ before
-
--- the key of an answer, or the previous content
-abbrev pub clashOr : ℤ → Added → ℤ
-clashOr before (added.Delta base ints) = before
-clashOr before (added.DifferingSizes k) = k
-clashOr before (added.Refused e) = before

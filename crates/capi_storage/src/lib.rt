@@ -4,12 +4,12 @@ ghost use lib.ListN.{length};
 ghost use Rattle.definitions.specs.Areas.{cleared};
 ghost use Rattle.definitions.specs.Warnings.{Counts};
 ghost use Rattle.definitions.specs.Storage.{beside, freshStorage};
-ghost use Rattle.definitions.specs.StorageCalls.{addDeltaCall, resetCall, setDeltaTickCall, addSnapCall, tickCall, tableCall};
+ghost use Rattle.definitions.specs.StorageCalls.{addDeltaCall, resetCall, setDeltaTickCall, addSnapCall, addSnapClash, tickCall, tableCall};
 ghost use Rattle.boundary.specs.Boundary.{status, output, partInto, keyOr, ended, given};
 ghost use Rattle.boundary_states.specs.Rows.{storeTicks, storeCounts, heldStore};
-ghost use Rattle.storage.specs.Answers.{setWith, addedIn};
+ghost use Rattle.storage.specs.Answers.{setWith, addedIn, addedClash};
 ghost use Rattle.storage.specs.Taking.{takenWith};
-ghost use Rattle.capi_storage.specs.Told.{Told, ToldAdded, Names, clashOr};
+ghost use Rattle.capi_storage.specs.Told.{Told, ToldAdded};
 use boundary::checked::part_into;
 use boundary_states::checked::load_storage;
 use boundary_states::checked::save_storage;
@@ -126,7 +126,7 @@ fn tell(a: Added, base: &mut i32, count: &mut usize, clash: &mut i32) -> u32
     ensures { λ r. ⌜ r ≡ status (addedIn a) ⌝ }
     ensures { λ _. ⌜ now (base .exit) ≡ output (λ x. x .base) (now (base .entry)) (addedIn a) ⌝ }
     ensures { λ _. ⌜ now (count .exit) ≡ output (λ x. x .ints) (now (count .entry)) (addedIn a) ⌝ }
-    ensures { λ _. ⌜ now (clash .exit) ≡ clashOr (now (clash .entry)) a ⌝ }
+    ensures { λ _. ⌜ now (clash .exit) ≡ keyOr (now (clash .entry)) (addedClash a) ⌝ }
 {
     match a {
         Added::Delta { base: b, ints } => {
@@ -142,7 +142,8 @@ fn tell(a: Added, base: &mut i32, count: &mut usize, clash: &mut i32) -> u32
     }
 }
 
-// Adds a table, and makes its delta against the base that is set, else against the empty table; if two items of one key differ in length, sets such a key.
+// Adds a table, and makes its delta against the base that is set, else against the empty table; if items of one key differ in length, sets
+// clash to the least such key, read as unsigned.
 #[no_mangle]
 pub extern "C" fn cef_storage_add_snap(
     ticks: &mut [i32; 2],
@@ -156,7 +157,8 @@ pub extern "C" fn cef_storage_add_snap(
     clash: &mut i32,
 ) -> u32
     ensures { λ r. ⌜ ToldAdded (addSnapCall (heldStore (now (ticks .entry)) (now (counts .entry))) (now (area .entry)) tick (now (table .entry)) (now (delta .entry))) (record { ticks = now (ticks .entry); counts = now (counts .entry); base = now (base .entry); count = now (count .entry) }) (record { ticks = now (ticks .exit); counts = now (counts .exit); base = now (base .exit); count = now (count .exit) }) (now (area .exit)) (now (delta .exit)) r ⌝ }
-    ensures { λ r. ⌜ Names (heldStore (now (ticks .entry)) (now (counts .entry))) (now (area .entry)) tick (now (table .entry)) (now (clash .entry)) (now (clash .exit)) r ⌝ }
+    ensures { λ _. ⌜ now (clash .exit) ≡ keyOr (now (clash .entry))
+        (addSnapClash (heldStore (now (ticks .entry)) (now (counts .entry))) (now (area .entry)) tick (now (table .entry)) (now (delta .entry))) ⌝ }
 {
     let s = load_storage(ticks, counts);
     let added = s.add_snap(tick, table, delta, area);

@@ -1,20 +1,21 @@
 -- The calls on delta areas, and on the differences of single items. Assumes nothing.
-use mathlib.Core.Bool.{Bool, true, _&&_}
+use mathlib.Core.Bool.{Bool, true, cond, _&&_}
 use mathlib.Core.List.{List, [], _∷_}
 use mathlib.Core.Option.{Option, some, none}
 use Prim.Native.Nat.{ℕ, _/_}
 use lib.Dec.{leb, eqb}
 use lib.IntN.{ℤ}
 use lib.ListN.{length}
-use Rattle.definitions.specs.Refusals.{capacityError, scratchTooShort, inputTooLong, knownSizeDiffers}
+use Rattle.definitions.specs.Ints.{fromBits}
+use Rattle.definitions.specs.Refusals.{deltaDifferingSizes, capacityError, scratchTooShort, inputTooLong, knownSizeDiffers}
 use Rattle.definitions.specs.Outcome.{Outcome, ok, err, return, require, _>>=_, _>>_, Wrote}
 use Rattle.definitions.specs.Packed.{packInts}
 use Rattle.definitions.specs.Stored.{stored}
 use Rattle.definitions.specs.Stream.{Stream, stream}
-use Rattle.definitions.specs.Tables.{Item}
+use Rattle.definitions.specs.Tables.{Item, Table, items}
 use Rattle.definitions.specs.TableCalls.{orNotInForm, held}
 use Rattle.definitions.specs.Deltas.{Delta, knownSize, deltaInts, writtenDelta, deltaOf}
-use Rattle.definitions.specs.DeltaMaking.{createDelta, createItemDelta, applyItemDelta}
+use Rattle.definitions.specs.DeltaMaking.{firstClash, createDelta, createItemDelta, applyItemDelta}
 use Rattle.definitions.specs.DeltaReading.{DeltaRead, intStream, readDelta}
 
 -- the delta that an area holds
@@ -47,6 +48,19 @@ storedDelta out o =
       require (leb (r .room) (length out)) capacityError
       return (writtenDelta (r .delta))
 
+-- ---- the key that clashes
+
+-- a key as an int
+abbrev pub keyInt : Option ℕ → Option ℤ
+keyInt (some k) = some (fromBits k)
+keyInt none = none
+
+-- the key beside an answer: 10 comes with the first that clashes, every other answer with none
+module _ {A : Type 0} where
+  abbrev pub clashOf : Outcome A → Table → Table → Option ℤ
+  clashOf (ok a w) b t = none
+  clashOf (err n w) b t = cond (eqb n deltaDifferingSizes) (keyInt (firstClash b t)) none
+
 -- ---- the calls
 
 abbrev pub clearCall : List ℤ → Wrote ℕ ℤ
@@ -59,6 +73,10 @@ createCall base target out =
       t ← held target
       d ← createDelta b t
       return (writtenDelta d)
+
+-- the key beside the answer; areas that hold no table have none
+abbrev pub createClash : List ℤ → List ℤ → List ℤ → Option ℤ
+createClash base target out = clashOf (createCall base target out .answer) (items base) (items target)
 
 abbrev pub writeToIntsCall : List ℤ → List ℤ → List ℤ → Wrote ℕ ℤ
 writeToIntsCall area sizes out = stored out (writing area sizes)

@@ -59,6 +59,11 @@ unfoldable pub alike : Table → Table → Bool
 alike b [] = true
 alike b (x ∷ t) = agree (find (x .key) b) (x .values) && alike b t
 
+-- the first key, in the order of keys read as unsigned, that both tables have with data of different lengths
+unfoldable pub firstClash : Table → Table → Option ℕ
+firstClash b [] = none
+firstClash b (x ∷ t) = cond (agree (find (x .key) b) (x .values)) (firstClash b t) (some (x .key))
+
 -- the delta from a base to a target: the keys deleted, and every item of the target
 unfoldable pub deltaFrom : Table → Table → Delta
 deltaFrom b t = record { deleted = keys (walk (lacking t b)); updated = walk (changes b t) }

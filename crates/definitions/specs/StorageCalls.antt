@@ -8,11 +8,11 @@ use lib.ListN.{length, replicate}
 use Rattle.definitions.specs.Areas.{lay}
 use Rattle.definitions.specs.Refusals.{scratchTooShort}
 use Rattle.definitions.specs.Outcome.{Outcome, ok, err, return, require, _>>=_, _>>_}
-use Rattle.definitions.specs.Tables.{Table, written}
+use Rattle.definitions.specs.Tables.{Table, written, items}
 use Rattle.definitions.specs.TableCalls.{orNotInForm, held}
 use Rattle.definitions.specs.Deltas.{Delta, writtenDelta}
-use Rattle.definitions.specs.DeltaCalls.{heldDelta}
-use Rattle.definitions.specs.Storage.{StoredSnap, Storage, Store, beside, storeArea, storageOf, Keeps, AddedSnap, addDelta, addSnap, setDeltaTick}
+use Rattle.definitions.specs.DeltaCalls.{heldDelta, clashOf}
+use Rattle.definitions.specs.Storage.{StoredSnap, Storage, Store, beside, storeArea, storageOf, Keeps, chosenBase, AddedSnap, addDelta, addSnap, setDeltaTick}
 
 -- what a store and its area hold
 unfoldable pub heldStorage : Store → List ℤ → Outcome Storage
@@ -97,6 +97,17 @@ addStep k (err n w) delta = record { answer = err n w; store = k .store; area = 
 abbrev pub addSnapCall : Store → List ℤ → ℤ → List ℤ → List ℤ → AddStep
 addSnapCall s area tick table delta =
     addStep (addSnapStep s area tick table (length delta)) (addSnapStep s area tick table (length delta) .answer) delta
+
+-- the key beside an answer for a table at a tick, from what the store holds
+module _ {A : Type 0} where
+  abbrev pub clashWith : Outcome A → StoredSnap → Option Storage → Option ℤ
+  clashWith o x (some h) = clashOf o (chosenBase (h .deltaTick) x (h .snaps) .snap) (x .snap)
+  clashWith o x none = none
+
+-- the key beside the answer: the first that clashes with the base
+abbrev pub addSnapClash : Store → List ℤ → ℤ → List ℤ → List ℤ → Option ℤ
+addSnapClash s area tick table delta =
+    clashWith (addSnapCall s area tick table delta .answer) (record { tick = tick; snap = items table }) (storageOf s area)
 
 -- ---- the others
 

@@ -1,6 +1,6 @@
 -- The result of each call on deltas, by what was found in the areas. Assumes nothing.
 use Prim.Native.Nat.{ℕ, _<_, _≤_}
-use mathlib.Core.Path.{_≡_, ap, _∙_}
+use mathlib.Core.Path.{_≡_, sym, ap, _∙_}
 use mathlib.Core.Bool.{true, false}
 use mathlib.Core.List.{List, [], _∷_}
 use native.Mathlib.Omega.{arith}
@@ -9,17 +9,18 @@ use lib.ListN.{length, set}
 use borrow.Author.Tests.{le-leb, lt-leb}
 use Rattle.definitions.specs.Refusals.{capacityError, knownSizeDiffers, notInForm}
 use Rattle.definitions.specs.Warnings.{none}
-use Rattle.definitions.specs.Outcome.{return, refuse, after}
+use Rattle.definitions.specs.Outcome.{return, refuse, after, Wrote}
 use Rattle.definitions.specs.Packed.{packInts}
 use Rattle.definitions.specs.Stored.{stored}
 use Rattle.definitions.specs.Deltas.{updatesInts, deltaInts, deltaIn}
-use Rattle.definitions.specs.DeltaCalls.{sizesMatch, writing, clearCall, createCall, writeToIntsCall, writeCall}
+use Rattle.definitions.specs.DeltaCalls.{sizesMatch, writing, clashOf, clearCall, createCall, createClash, writeToIntsCall, writeCall}
 use Rattle.definitions.specs.Tables.{tableOf, items}
 use Rattle.laws.specs.OutcomeLaws.{after-none}
 use Rattle.table.specs.Held.{formOf as tableForm}
 use Rattle.table.specs.declared.checked.TableForm.the-variants as table
 use Rattle.table.specs.Writing.{not-held as no-table, is-held as is-table}
-use Rattle.delta_making.specs.Answers.{createdInts}
+use Rattle.delta_making.specs.Answers.{createdInts, madeInts, madeClash}
+use Rattle.delta_making.specs.declared.Made.{Made}
 use Rattle.delta_form.specs.Held.{HeldDelta, formOf}
 use Rattle.delta_form.specs.Forms.{formed, not-held, is-held}
 use Rattle.delta_form.specs.declared.checked.DeltaForm.the-variants as form
@@ -102,3 +103,10 @@ module _ (b : List ℤ) {nb kb : ℕ} (e : table.Table nb kb ≡ tableForm (tabl
   create-call t out f =
       let o = createdInts (items b) (items t) in
       rw (is-table b e, is-table t f) (ap (stored out) (after-none (after none o) ∙ after-none o))
+
+-- the key beside an answer
+pub with-key : (base target out : List ℤ) (m : Made) {left : List ℤ} → createCall base target out ≡ record { answer = madeInts m; out = left }
+    → madeClash m ≡ clashOf (madeInts m) (items base) (items target)
+    → (createCall base target out ≡ record { answer = madeInts m; out = left }) × (madeClash m ≡ createClash base target out)
+with-key base target out m e c =
+    (e, c ∙ sym (ap (λ (w : Wrote ℕ ℤ). clashOf (w .answer) (items base) (items target)) e))

@@ -2,9 +2,8 @@
 ghost use mathlib.Core.Path.{_≡_};
 ghost use lib.ListN.{length};
 ghost use Rattle.definitions.specs.Areas.{cleared};
-ghost use Rattle.definitions.specs.Tables.{items};
-ghost use Rattle.definitions.specs.DeltaCalls.{clearCall, createCall, writeToIntsCall, writeCall, readFromIntsCall, readCall};
-ghost use Rattle.delta_making.specs.Answers.{madeInts, Clash};
+ghost use Rattle.definitions.specs.DeltaCalls.{clearCall, createCall, createClash, writeToIntsCall, writeCall, readFromIntsCall, readCall};
+ghost use Rattle.delta_making.specs.Answers.{madeInts, madeClash};
 ghost use Rattle.format.specs.Totals.{counts};
 ghost use Rattle.format.specs.Answers.{storedInts, storedWith};
 ghost use Rattle.packer.specs.Answers.{intWrite};
@@ -35,11 +34,11 @@ pub fn clear(out: &mut [i32]) -> Stored
     Stored::Ints(3)
 }
 
-// Writes the delta from a base table to a target table into the front of out; if two items of one key differ in length, returns such a key.
-// A refused call leaves out unchanged.
+// Writes the delta from a base table to a target table into the front of out; if items of one key differ in length, returns the least such
+// key, read as unsigned. A refused call leaves out unchanged.
 pub fn create(base: &[i32], target: &[i32], out: &mut [i32]) -> Made
     ensures { λ r. ⌜ createCall (now (base .entry)) (now (target .entry)) (now (out .entry)) ≡ record { answer = madeInts r; out = now (out .exit) } ⌝ }
-    ensures { λ r. ⌜ Clash (items (now (base .entry))) (items (now (target .entry))) r ⌝ }
+    ensures { λ r. ⌜ madeClash r ≡ createClash (now (base .entry)) (now (target .entry)) (now (out .entry)) ⌝ }
 {
     let TableForm::Table { items: nb, ints: _ } = table::checked::form(base) else {
         return Made::Refused(Error::NotInForm);

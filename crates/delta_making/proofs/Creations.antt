@@ -1,28 +1,34 @@
 -- The result of making a delta, case by case. Assumes nothing.
 use Prim.Native.Nat.{ℕ, _+_, _-_, _/_, _<_, _≤_}
-use mathlib.Core.Path.{_≡_, refl, sym, ap, _∙_, subst}
-use mathlib.Core.Bool.{true, false, true≢false}
+use mathlib.Core.Path.{_≡_, sym, ap, _∙_}
+use mathlib.Core.Bool.{true, false}
 use mathlib.Core.List.{List}
-use mathlib.Core.Option.{Option, some, none}
+use mathlib.Core.Option.{some}
 use native.Mathlib.Omega.{arith}
 use lib.IntN.{ℤ}
 use lib.ListN.{length}
-use borrow.Author.Tests.{le-leb, lt-leb, eqb-false}
+use borrow.Author.Tests.{le-leb, lt-leb}
+use mir.Syntax.{w32}
+use mir.Val.{SFits}
+use Rattle.definitions.specs.Ints.{bits, fromBits}
 use Rattle.definitions.specs.Areas.{layAt}
 use Rattle.definitions.specs.Refusals.{deltaDifferingSizes, capacityError}
 use Rattle.definitions.specs.Outcome.{Outcome, return, refuse}
 use Rattle.definitions.specs.Stored.{stored}
-use Rattle.definitions.specs.Tables.{Table, items, keyAt, valuesAt, size, start, find}
+use Rattle.definitions.specs.Tables.{Table, items, keyAt, size, start}
 use Rattle.definitions.specs.Deltas.{writtenDelta}
-use Rattle.definitions.specs.DeltaMaking.{agree, alike, lacking, deltaFrom, createDelta}
-use Rattle.laws.specs.TableShape.{fails, keys-rise, keys-le, start-end}
+use Rattle.definitions.specs.DeltaMaking.{alike, firstClash, lacking, deltaFrom, createDelta}
+use Rattle.definitions.specs.DeltaCalls.{clashOf}
+use Rattle.laws.specs.IntLaws.{fromBits-bits}
+use Rattle.laws.specs.TableShape.{start-end}
 use Rattle.laws.specs.TableForm.{length-items, length-items-body}
-use Rattle.laws.specs.TableFind.{Place, present}
 use Rattle.laws.specs.DeltaSize.{length-deltaFrom}
 use Rattle.table.specs.Held.{Held}
-use Rattle.delta_making.specs.Answers.{createdInts, Differing}
-use Rattle.delta_making.specs.Parts.{DifferingAt}
-use Rattle.delta_making.proofs.Parts.{alike-at}
+use Rattle.laws.specs.ClashLaws.{clash-alike, clash-unlike}
+use Rattle.delta_making.specs.Answers.{createdInts, madeInts, madeClash}
+use Rattle.delta_making.specs.Parts.{keyBelow}
+use Rattle.delta_making.specs.declared.Made.the-variants as made
+use Rattle.delta_making.proofs.Parts.{below-is, below-none}
 
 -- ---- the answers
 
@@ -44,38 +50,23 @@ module _ (b t : Table) (out : List ℤ) where
     unfolding stored createDelta
     done n l k h q = rw (e, le-leb (length (writtenDelta (deltaFrom b t))) (length out) (omega arith), k, q)
 
--- ---- items of different lengths
+-- ---- the key beside them
 
--- an item is found by its own key
-own-place : (a : List ℤ) (n i : ℕ) → Held a n → i < n → Place a (keyAt a i) i
-own-place a n i h l =
-    record {
-      within = omega (arith, h .count-is);
-      below = λ j m. keys-rise a (h .shape) j i m (omega (arith, h .count-is));
-      above = λ j m o. keys-le a (h .shape) i j m o;
-    }
+module _ (b : Table) (t : List ℤ) (n r : ℕ) (e : firstClash b (items t) ≡ keyBelow t n r) where
+  -- items with the same key have the same length
+  pub likes : n ≤ r → alike b (items t) ≡ true
+  likes l = clash-alike b (items t) (e ∙ below-none t n r l)
 
-disagrees : (o : Option (List ℤ)) (v : List ℤ) → agree o v ≡ false → (w : List ℤ) × (o ≡ some w) × (length w ≡ length v → ⊥)
-disagrees none v e = absurd (true≢false e)
-disagrees (some w) v e = (w, refl, eqb-false (length w) (length v) e)
+  module _ (l : r < n) where
+    clash-is : firstClash b (items t) ≡ some (keyAt t r)
+    clash-is = e ∙ below-is t n r l
 
-module _ (b t : List ℤ) (n r : ℕ) (h : Held t n) (d : DifferingAt b t n r) (l : r < n) where
-  pub unlike : alike (items b) (items t) ≡ false
-  unlike =
-      fails (alike (items b) (items t)) (λ e. true≢false (sym (alike-at (items b) t n h r l e) ∙ d .differs l))
+    pub unlike : alike b (items t) ≡ false
+    unlike = clash-unlike b (items t) (keyAt t r) clash-is
 
-  -- the key of such an item is in both tables
-  pub differing : (k : ℕ) → k ≡ keyAt t r → Differing (items b) (items t) k
-  differing k e =
-      let w = disagrees (find (keyAt t r) (items b)) (valuesAt t r) (d .differs l) in
-      subst (Differing (items b) (items t)) (sym e)
-      (record {
-        from = w .0;
-        to = valuesAt t r;
-        from-is = w .1;
-        to-is = present t (h .shape) (keyAt t r) r (own-place t n r h l) (omega (arith, h .count-is)) refl;
-        lengths = w .2;
-      })
+    -- the key that is told with 10
+    pub told : (k j : ℤ) → SFits w32 k → bits k ≡ keyAt t r → j ≡ k → madeClash (made.DifferingSizes j) ≡ clashOf (madeInts (made.DifferingSizes j)) b (items t)
+    told k j f q p = rw clash-is (ap some (p ∙ (sym (fromBits-bits f) ∙ ap fromBits q)))
 
 -- ---- how many ints the delta has
 

@@ -3,15 +3,17 @@ use Prim.Native.Nat.{ℕ, zero, suc, _+_, _-_, _<_, _≤_, _^_}
 use mathlib.Core.Path.{_≡_, refl, sym, ap, ap₂, _∙_}
 use mathlib.Core.Bool.{Bool, true, false, cond, not}
 use mathlib.Core.List.{List, [], _∷_, _++_, map, append-assoc}
+use mathlib.Core.Option.{some, none}
 use native.Mathlib.Numerals.{add-one}
 use native.Mathlib.Omega.{arith}
 use lib.IntN.{ℤ, pos}
 use lib.ListN.{length, take, drop}
 use lib.Seq.{take-all, drop-cons, take-at, drop-at}
+use borrow.Author.Tests.{le-ltb, lt-ltb}
 use Rattle.definitions.specs.Ints.{fromBits}
 use Rattle.definitions.specs.Tables.{Item, Table, list, items, itemAt, keyAt, valuesAt, count, find, isSome, walk}
 use Rattle.definitions.specs.Deltas.{keys, updatesInts, deltaInts, writtenDelta}
-use Rattle.definitions.specs.DeltaMaking.{agree, lacking, changes, alike, deltaFrom}
+use Rattle.definitions.specs.DeltaMaking.{agree, lacking, changes, alike, firstClash, deltaFrom}
 use Rattle.laws.specs.ListLaws.{getD-list}
 use Rattle.laws.specs.TableShape.{both}
 use Rattle.laws.specs.TableForm.{length-list, length-items}
@@ -20,7 +22,7 @@ use Rattle.laws.specs.TableWalk.{list-add, walk-list, length-walk}
 use Rattle.laws.specs.DeltaMakingLaws.{lacking-append, walk-lacking, changes-append, walk-changes}
 use Rattle.laws.specs.DeltaSize.{updatesInts-append, length-changes, length-keys-of}
 use Rattle.table.specs.Held.{Held}
-use Rattle.delta_making.specs.Parts.{part, deletedInts, changeInts, changesInts}
+use Rattle.delta_making.specs.Parts.{part, deletedInts, changeInts, changesInts, keyBelow}
 
 -- ---- the items
 
@@ -105,15 +107,20 @@ module _ (b : Table) where
   pub changes-end : (i to : ℕ) (t : Table) → to ≤ i → changesInts b (part i to t) ≡ []
   changes-end i to t l = rw (part-end i to t l) (unfold changesInts changes updatesInts in refl)
 
-  pub alike-end : (i to : ℕ) (t : Table) → to ≤ i → alike b (part i to t) ≡ true
-  alike-end i to t l = rw (part-end i to t l) (unfold alike in refl)
+  pub clash-end : (i to : ℕ) (t : Table) → to ≤ i → firstClash b (part i to t) ≡ none
+  clash-end i to t l = rw (part-end i to t l) (unfold firstClash in refl)
 
   module _ (a : List ℤ) (n : ℕ) (h : Held a n) (i to : ℕ) (l : i < to) (m : to ≤ n) where
     pub changes-step : changesInts b (part i to (items a)) ≡ changeInts b (itemAt a i) ++ changesInts b (part (i + 1) to (items a))
     changes-step = rw (part-step a n h i to l m) (unfold changesInts changes updatesInts in refl)
 
-    pub alike-step : agree (find (keyAt a i) b) (valuesAt a i) ≡ true → alike b (part i to (items a)) ≡ alike b (part (i + 1) to (items a))
-    alike-step e = rw (part-step a n h i to l m) (unfold alike in rw e)
+    -- an item that agrees with the base's
+    pub clash-step : agree (find (keyAt a i) b) (valuesAt a i) ≡ true → firstClash b (part i to (items a)) ≡ firstClash b (part (i + 1) to (items a))
+    clash-step e = rw (part-step a n h i to l m) (unfold firstClash in rw e)
+
+    -- an item that does not
+    pub clash-here : agree (find (keyAt a i) b) (valuesAt a i) ≡ false → firstClash b (part i to (items a)) ≡ some (keyAt a i)
+    clash-here e = rw (part-step a n h i to l m) (unfold firstClash in rw e)
 
   -- if all items agree in length, each is as long as the base's
   pub alike-at : (a : List ℤ) (n : ℕ) (h : Held a n) (i : ℕ) → i < n → alike b (items a) ≡ true → agree (find (keyAt a i) b) (valuesAt a i) ≡ true
@@ -122,6 +129,14 @@ module _ (b : Table) where
     where
       first : (x : Item) (t : Table) → alike b (x ∷ t) ≡ true → agree (find (x .key) b) (x .values) ≡ true
       first x t q = unfold alike in both (agree (find (x .key) b) (x .values)) (alike b t) q .0
+
+-- ---- the key of an item
+
+pub below-is : (t : List ℤ) (n r : ℕ) → r < n → keyBelow t n r ≡ some (keyAt t r)
+below-is t n r l = rw (lt-ltb r n l)
+
+pub below-none : (t : List ℤ) (n r : ℕ) → n ≤ r → keyBelow t n r ≡ none
+below-none t n r l = rw (le-ltb r n l)
 
 -- ---- the whole delta
 

@@ -1,14 +1,11 @@
 -- What the answers of making a delta mean. Assumes nothing.
 use Prim.Native.Nat.{ℕ}
-use mathlib.Core.Path.{_≡_}
 use mathlib.Core.List.{List}
-use mathlib.Core.Option.{some}
+use mathlib.Core.Option.{Option, some, none}
 use lib.IntN.{ℤ}
-use lib.ListN.{length}
-use Rattle.definitions.specs.Ints.{bits}
 use Rattle.definitions.specs.Refusals.{deltaDifferingSizes}
 use Rattle.definitions.specs.Outcome.{Outcome, return, refuse, _>>=_}
-use Rattle.definitions.specs.Tables.{Table, find}
+use Rattle.definitions.specs.Tables.{Table}
 use Rattle.definitions.specs.Deltas.{writtenDelta}
 use Rattle.definitions.specs.DeltaMaking.{createDelta}
 use Rattle.format.specs.Numbers.{number}
@@ -25,16 +22,8 @@ madeInts (made.Ints n) = return n
 madeInts (made.DifferingSizes k) = refuse deltaDifferingSizes
 madeInts (made.Refused e) = refuse (number e)
 
--- both tables have the key, with data of different lengths
-pub record Differing (b t : Table) (k : ℕ) : Type 0 where
-  pub from : List ℤ
-  pub to : List ℤ
-  pub from-is : find k b ≡ some from
-  pub to-is : find k t ≡ some to
-  pub lengths : length from ≡ length to → ⊥
-
--- a named key's items differ in length; 10 always names a key
-abbrev pub Clash : Table → Table → Made → Type 0
-Clash b t (made.Ints n) = Unit {0}
-Clash b t (made.DifferingSizes k) = Differing b t (bits k)
-Clash b t (made.Refused e) = number e ≡ deltaDifferingSizes → ⊥
+-- the key that clashes, if it is that
+abbrev pub madeClash : Made → Option ℤ
+madeClash (made.Ints n) = none
+madeClash (made.DifferingSizes k) = some k
+madeClash (made.Refused e) = none

@@ -1,14 +1,15 @@
 -- The parts of a delta, in the order of writing. Assumes nothing.
-use Prim.Native.Nat.{ℕ, _-_, _<_, _≤_}
-use mathlib.Core.Path.{_≡_}
-use mathlib.Core.Bool.{true, false}
+use Prim.Native.Nat.{ℕ, _-_}
+use mathlib.Core.Bool.{cond}
 use mathlib.Core.List.{List, [], map}
+use mathlib.Core.Option.{Option, some, none}
+use lib.Dec.{ltb}
 use lib.IntN.{ℤ}
 use lib.ListN.{take, drop}
 use Rattle.definitions.specs.Ints.{fromBits}
-use Rattle.definitions.specs.Tables.{Item, Table, find, items, keyAt, valuesAt}
+use Rattle.definitions.specs.Tables.{Item, Table, find, keyAt}
 use Rattle.definitions.specs.Deltas.{keys, updateInts, updatesInts}
-use Rattle.definitions.specs.DeltaMaking.{agree, differences, lacking, changes, alike}
+use Rattle.definitions.specs.DeltaMaking.{differences, lacking, changes}
 
 -- the items of a table from one place to another
 unfoldable pub part : ℕ → ℕ → Table → Table
@@ -29,7 +30,6 @@ changeInts b x = updateInts [] (changed b x)
 unfoldable pub changesInts : Table → Table → List ℤ
 changesInts b t = updatesInts [] (changes b t)
 
--- r is an item of the target that is not as long as the base's item with its key, or n if there is none
-pub record DifferingAt (b t : List ℤ) (n r : ℕ) : Type 0 where
-  pub differs : r < n → agree (find (keyAt t r) (items b)) (valuesAt t r) ≡ false
-  pub none-differs : n ≤ r → alike (items b) (items t) ≡ true
+-- the key of item r, if r is below n
+abbrev pub keyBelow : List ℤ → ℕ → ℕ → Option ℕ
+keyBelow t n r = cond (ltb r n) (some (keyAt t r)) none

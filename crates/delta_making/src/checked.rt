@@ -3,20 +3,18 @@ use super::Made;
 use format::Error;
 ghost use mathlib.Core.Path.{_≡_};
 ghost use mathlib.Core.Bool.{true};
-ghost use mathlib.Core.List.{_∷_, []};
-ghost use Prim.Native.Nat.{ℕ, _+_, _/_, _%_, _<_, _≤_, _^_};
-ghost use lib.IntN.{pos};
+ghost use Prim.Native.Nat.{_+_, _<_, _≤_};
 ghost use lib.ListN.{length};
-ghost use Rattle.definitions.specs.Ints.{bits};
 ghost use Rattle.definitions.specs.Areas.{layAt};
 ghost use Rattle.definitions.specs.Stored.{stored};
-ghost use Rattle.definitions.specs.Tables.{items, itemAt, keyAt, valuesAt, find, isSome};
+ghost use Rattle.definitions.specs.Tables.{items, itemAt, keyAt, valuesAt, find};
 ghost use Rattle.definitions.specs.Deltas.{writtenDelta};
-ghost use Rattle.definitions.specs.DeltaMaking.{agree, alike, lacking, deltaFrom};
+ghost use Rattle.definitions.specs.DeltaCalls.{clashOf};
+ghost use Rattle.definitions.specs.DeltaMaking.{agree, alike, firstClash, lacking, deltaFrom};
 ghost use Rattle.laws.specs.TableFind.{Place};
 ghost use Rattle.table.specs.Held.{Held};
-ghost use Rattle.delta_making.specs.Answers.{createdInts, madeInts, Clash};
-ghost use Rattle.delta_making.specs.Parts.{part, deletedInts, changeInts, changesInts, DifferingAt};
+ghost use Rattle.delta_making.specs.Answers.{createdInts, madeInts, madeClash};
+ghost use Rattle.delta_making.specs.Parts.{part, deletedInts, changeInts, changesInts, keyBelow};
 
 // Whether item i of the target is as long as the base's item with its key, if there is one; p is the key's place in the base.
 pub fn is_as_long(base: &[i32], nb: usize, p: usize, target: &[i32], nt: usize, i: usize) -> bool
@@ -31,10 +29,10 @@ pub fn is_as_long(base: &[i32], nb: usize, p: usize, target: &[i32], nt: usize, 
     true
 }
 
-// An item of the target that is not as long as the base's item with its key, or nt if there is none.
+// The first item of the target that is not as long as the base's item with its key, or nt if there is none.
 pub fn find_differing(base: &[i32], nb: usize, target: &[i32], nt: usize) -> usize
     requires { ⌜ Held (now base) nb × Held (now target) nt ⌝ }
-    ensures { λ r. ⌜ DifferingAt (now (base .entry)) (now (target .entry)) nt r ⌝ }
+    ensures { λ r. ⌜ firstClash (items (now (base .entry))) (items (now (target .entry))) ≡ keyBelow (now (target .entry)) nt r ⌝ }
 {
     let mut i = 0;
     let mut p = 0;
@@ -178,11 +176,12 @@ pub fn write_delta(
     write_updates(base, nb, target, nt, 0, t, out, w3);
 }
 
-// Writes the delta from a base of nb items to a target of nt items to the front of out. A refused call leaves out as it was.
+// Writes the delta from a base of nb items to a target of nt items to the front of out, or tells the first key that clashes. A refused call
+// leaves out as it was.
 pub fn create(base: &[i32], nb: usize, target: &[i32], nt: usize, out: &mut [i32]) -> Made
     requires { ⌜ Held (now base) nb × Held (now target) nt ⌝ }
     ensures { λ r. ⌜ stored (now (out .entry)) (createdInts (items (now (base .entry))) (items (now (target .entry)))) ≡ record { answer = madeInts r; out = now (out .exit) } ⌝ }
-    ensures { λ r. ⌜ Clash (items (now (base .entry))) (items (now (target .entry))) r ⌝ }
+    ensures { λ r. ⌜ madeClash r ≡ clashOf (madeInts r) (items (now (base .entry))) (items (now (target .entry))) ⌝ }
 {
     let i = find_differing(base, nb, target, nt);
     if i < nt {

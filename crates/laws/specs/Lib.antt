@@ -48,6 +48,9 @@ pub mod DeltaWhole
 pub mod BuilderForm
 pub mod BuilderCalls
 pub mod BuildAll
+pub mod ClashLaws
+pub mod AddingLaws
+pub mod ClashCalls
 pub mod Clean
 pub mod SessionLaws
 pub mod CutLaws

@@ -26,6 +26,8 @@ use Rattle.laws.specs.TableReadBack.{holds}
 use Rattle.laws.specs.DeltaMade.{made-short, made-held}
 use Rattle.laws.specs.StoreForm.{storeRoom}
 use Rattle.laws.specs.StoreForm as StoreForm
+use Rattle.laws.specs.AddingLaws.{baseOf, hasRoom, Adds, full, clashes, fits, made-not, made-is, adding-is}
+use Rattle.laws.specs.AddingLaws as AddingLaws
 use Rattle.session.specs.Runs.{ControllerCall, addSnap, setDeltaTick, Controller, ControllerStep, controllerCall, afterCalls, Accepted, acceptedAs, acceptedFrom, packed, chunksOf}
 use Rattle.session.specs.ControllerList.{Told, toldFrom}
 use Rattle.session.specs.SendingCalls.{sendCalls}
@@ -37,7 +39,7 @@ use Rattle.session.specs.HeldTicks.{oldest-among}
 use Rattle.session.specs.Dropping.{among-drop, held-found}
 use Rattle.session.specs.SendingGives.{send-gives, empty-cut}
 use Rattle.session.specs.AreaLengths.{ControllerLong, call-long}
-use Rattle.session.specs.ControllerSteps.{base-left, baseOf, hasRoom, Adds, full, clashes, fits, made-not, made-is, adding-is, addedStep, call-adds, call-unformed, Sets, unsets, sets, setting-is, setStep, call-sets}
+use Rattle.session.specs.ControllerSteps.{base-left, addedStep, call-adds, call-unformed, Sets, unsets, sets, setting-is, setStep, call-sets}
 use Rattle.session.specs.ControllerSteps as ControllerSteps
 use Rattle.session.specs.ControllerState.{Based, unset, set, Chain, none, more, Keeping, Controls, delta-there, base-sound, base-tick, at-more}
 use Rattle.session.specs.ControllerRun.{not-negative, set-based, calls-control, accepted-append, fresh-controls, rises-from}
@@ -87,7 +89,7 @@ module _ (c : Controller) (tick : ℤ) (table : List ℤ) (t : Table) (s : Stora
   unfolding addStep
   adds-answered o (full n) r = Statement.full e n
   adds-answered o (clashes n a) r = Statement.clash e n (base-in s x (s .deltaTick) (s .snaps) refl refl (k .based)) (made-not b t a)
-  adds-answered o (ControllerSteps.lacks n a q) r = absurd (not-lacking n a q r)
+  adds-answered o (AddingLaws.lacks n a q) r = absurd (not-lacking n a q r)
   adds-answered o (fits n a h) r =
       subst (λ (z : ℤ). Answered s (addSnap tick table) (return (some (record { base = z; ints = length (writtenDelta (deltaFrom b t)) }))))
       (sym (base-tick (s .deltaTick) x (s .snaps) (k .based)))
@@ -177,7 +179,7 @@ adds-sent : (sizes : List ℤ) (c : Controller) (tick : ℤ) (table : List ℤ) 
 unfolding addStep
 adds-sent sizes c tick table t s l e k o (full n) a w q = absurd (not-refused q)
 adds-sent sizes c tick table t s l e k o (clashes n i) a w q = absurd (not-refused q)
-adds-sent sizes c tick table t s l e k o (ControllerSteps.lacks n i j) a w q = absurd (not-refused q)
+adds-sent sizes c tick table t s l e k o (AddingLaws.lacks n i j) a w q = absurd (not-refused q)
 adds-sent sizes c tick table t s l e k o (fits n i h) a w q =
     let x : StoredSnap = record { tick = tick; snap = t } in
     let b = baseOf x s .snap in

@@ -20,6 +20,7 @@ use Rattle.definitions.specs.StorageCalls.{Added}
 use Rattle.laws.specs.TableReadBack.{holds}
 use Rattle.laws.specs.StoreForm.{nothing, fresh-found}
 use Rattle.laws.specs.StoreRoom.{sounds-older, length-older}
+use Rattle.laws.specs.AddingLaws.{adding-is}
 use Rattle.session.specs.Runs.{ControllerCall, addSnap, setDeltaTick, Controller, ControllerStep, controllerCall, freshController, afterCalls, Accepted, acceptedBy, acceptedFrom}
 use Rattle.session.specs.ControllerList.{Told, toldBy, toldFrom, lastBase, notOlder, tablesLeft, storageTold}
 use Rattle.session.specs.Statement.{Rising}
@@ -27,7 +28,7 @@ use Rattle.session.specs.Statement as Statement
 use Rattle.session.specs.Lists.{contra, either}
 use Rattle.session.specs.HeldTicks.{snapAt, Falls, end, next, falls-drop, all-drop}
 use Rattle.session.specs.Dropping.{Oldest, oldest-found}
-use Rattle.session.specs.ControllerSteps.{drops, base-left, adding-is, call-adds, call-unformed, Sets, unsets, sets, setting-is, setStep, call-sets}
+use Rattle.session.specs.ControllerSteps.{drops, base-left, call-adds, call-unformed, Sets, unsets, sets, setting-is, setStep, call-sets}
 use Rattle.session.specs.ControllerSteps as ControllerSteps
 use Rattle.session.specs.ControllerState.{Based, unset, set, none, more, Keeping, Controls, laid-out, told-refused, told-adding, adds-controls}
 

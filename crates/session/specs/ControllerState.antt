@@ -23,6 +23,7 @@ use Rattle.laws.specs.TableReadBack.{holds}
 use Rattle.laws.specs.DeltaMade.{made-held}
 use Rattle.laws.specs.StoreForm.{Sounds, LaidIn, storage-found}
 use Rattle.laws.specs.StoreForm as StoreForm
+use Rattle.laws.specs.AddingLaws.{baseOf, Adds, full, clashes, lacks, fits, made-is}
 use Rattle.session.specs.Runs.{Controller, Accepted, acceptedBy}
 use Rattle.session.specs.Runs as Runs
 use Rattle.session.specs.ControllerList.{Told, toldBy, lastBase, tablesLeft, storageTold}
@@ -31,8 +32,7 @@ use Rattle.session.specs.Statement as Statement
 use Rattle.session.specs.Lists.{either, all-among, all-map}
 use Rattle.session.specs.HeldTicks.{Falls, end, next, oldest-among}
 use Rattle.session.specs.Dropping.{falls-next}
-use Rattle.session.specs.ControllerSteps.{baseOf, Adds, full, clashes, fits, made-is, addedStep}
-use Rattle.session.specs.ControllerSteps as ControllerSteps
+use Rattle.session.specs.ControllerSteps.{addedStep}
 
 -- ---- what is kept
 
@@ -211,7 +211,7 @@ pub adds-controls : (c : Controller) (tick : ℤ) (table : List ℤ) (t : Table)
 unfolding addStep
 adds-controls c tick table t s l k e h o q (full n) r = laid-out (length (c .area)) (c .delta) s l _ refl h q
 adds-controls c tick table t s l k e h o q (clashes n a) r = laid-out (length (c .area)) (c .delta) s l _ refl h q
-adds-controls c tick table t s l k e h o q (ControllerSteps.lacks n a f) r = laid-out (length (c .area)) (c .delta) s l _ refl h q
+adds-controls c tick table t s l k e h o q (lacks n a f) r = laid-out (length (c .area)) (c .delta) s l _ refl h q
 adds-controls c tick table t s l k e h o q (fits n a f) r =
     let x : StoredSnap = record { tick = tick; snap = t } in
     let t-is : items table ≡ t = holds table t e .1 in

@@ -1,76 +1,26 @@
 -- A controller's call on a store in form, by its outcome. Assumes nothing.
 use mathlib.Core.Path.{_≡_, refl}
-use mathlib.Core.Bool.{Bool, true, false, cond, _&&_}
-use mathlib.Core.List.{List, [], _∷_}
+use mathlib.Core.Bool.{Bool, true, false, cond}
+use mathlib.Core.List.{List, []}
 use mathlib.Core.Option.{some, none}
-use Prim.Native.Nat.{ℕ, _≤_, _<_}
-use borrow.Author.Tests.{ltb-true, ltb-false, leb-true}
-use lib.Dec.{ltb, leb}
 use lib.IntN.{ℤ, pos, negsuc}
 use lib.ListN.{length}
 use Rattle.definitions.specs.Ints.{signedLess}
-use Rattle.definitions.specs.Refusals.{deltaDifferingSizes, capacityError, storeFull, unknownSnap, notInForm}
+use Rattle.definitions.specs.Refusals.{unknownSnap, notInForm}
 use Rattle.definitions.specs.Warnings.{Counts, WeirdNegativeDeltaTick}
 use Rattle.definitions.specs.Warnings as Warnings
-use Rattle.definitions.specs.Outcome.{Outcome, ok, return, refuse, require, _>>_}
+use Rattle.definitions.specs.Outcome.{Outcome, ok, return, refuse}
 use Rattle.definitions.specs.Tables.{Table, tableOf}
 use Rattle.definitions.specs.TableCalls.{held}
-use Rattle.definitions.specs.Deltas.{writtenDelta}
-use Rattle.definitions.specs.DeltaMaking.{alike, deltaFrom, createDelta}
 use Rattle.definitions.specs.Receiver.{same}
-use Rattle.definitions.specs.Storage.{StoredSnap, Storage, storageOf, dropOlder, oldestAt, baseFor, dropFor, isNegative, warnWeird, isHeld, Keeps, withSnaps, withDeltaTick, chosenBase, AddedSnap, adding, addedTo, addSnap, setDeltaTick}
+use Rattle.definitions.specs.Storage.{StoredSnap, Storage, storageOf, dropOlder, oldestAt, baseFor, dropFor, isNegative, warnWeird, isHeld, Keeps, withSnaps, withDeltaTick, AddedSnap, adding, addedTo, addSnap, setDeltaTick}
 use Rattle.definitions.specs.StorageCalls.{laidOut, afterJudging, heldStorage, judgeTable, addSnapStep, addStep}
-use Rattle.laws.specs.TableShape.{both}
-use Rattle.laws.specs.StoreForm.{storeRoom}
 use Rattle.session.specs.Runs.{Controller, ControllerStep, added, baseSet, controllerCall}
 use Rattle.session.specs.Runs as Runs
 use Rattle.session.specs.Statement.{Weird, minusOne, other}
 use Rattle.session.specs.Lists.{contra, either}
 
 -- ---- a table is added
-
--- the base that a table is measured against
-abbrev pub baseOf : StoredSnap → Storage → StoredSnap
-baseOf x s = chosenBase (s .deltaTick) x (s .snaps)
-
--- whether the table and its delta have room
-abbrev pub hasRoom : ℕ → ℕ → StoredSnap → Storage → Bool
-hasRoom n m x s =
-    leb (storeRoom (x ∷ s .snaps)) n
-    && leb (length (writtenDelta (deltaFrom (baseOf x s .snap) (x .snap)))) m
-
--- the outcome of adding a table, for a store area of n ints and a delta area of m
-pub data Adds (n m : ℕ) (x : StoredSnap) (s : Storage) : Outcome AddedSnap → Type 0 where
-  full : 100 ≤ length (s .snaps) → Adds n m x s (refuse storeFull)
-  clashes : length (s .snaps) < 100 → alike (baseOf x s .snap) (x .snap) ≡ false → Adds n m x s (refuse deltaDifferingSizes)
-  lacks : length (s .snaps) < 100 → alike (baseOf x s .snap) (x .snap) ≡ true → hasRoom n m x s ≡ false → Adds n m x s (refuse capacityError)
-  fits : length (s .snaps) < 100 → alike (baseOf x s .snap) (x .snap) ≡ true → length (writtenDelta (deltaFrom (baseOf x s .snap) (x .snap))) ≤ m → Adds n m x s (return (record { base = baseOf x s .tick; delta = deltaFrom (baseOf x s .snap) (x .snap) }))
-
--- tables of which one item clashes make no delta
-pub made-not : (b t : Table) → alike b t ≡ false → createDelta b t ≡ refuse deltaDifferingSizes
-unfolding createDelta
-made-not b t e = rw e
-
--- others make theirs
-pub made-is : (b t : Table) → alike b t ≡ true → createDelta b t ≡ return (deltaFrom b t)
-unfolding createDelta
-made-is b t e = rw e
-
--- the outcome of the three tests: fewer than 100 tables, no clash, room
-tests-are : (n m : ℕ) (x : StoredSnap) (s : Storage) (few same room : Bool) → ltb (length (s .snaps)) 100 ≡ few → alike (baseOf x s .snap) (x .snap) ≡ same → hasRoom n m x s ≡ room → Adds n m x s (require few storeFull >> (require same deltaDifferingSizes >> (require room capacityError >> return (record { base = baseOf x s .tick; delta = deltaFrom (baseOf x s .snap) (x .snap) }))))
-tests-are n m x s false same room f a r = full (ltb-false (length (s .snaps)) 100 f)
-tests-are n m x s true false room f a r = clashes (ltb-true (length (s .snaps)) 100 f) a
-tests-are n m x s true true false f a r = lacks (ltb-true (length (s .snaps)) 100 f) a r
-tests-are n m x s true true true f a r =
-    fits (ltb-true (length (s .snaps)) 100 f) a (leb-true _ m (both (leb (storeRoom (x ∷ s .snaps)) n) _ r .1))
-
--- adding a table has one of these outcomes
-pub adding-is : (n m : ℕ) (x : StoredSnap) (s : Storage) → Adds n m x s (adding n m x s)
-unfolding adding createDelta
-adding-is n m x s =
-    either (alike (baseOf x s .snap) (x .snap))
-    (λ a. rw a (tests-are n m x s (ltb (length (s .snaps)) 100) true (hasRoom n m x s) refl a refl))
-    (λ a. rw a (tests-are n m x s (ltb (length (s .snaps)) 100) false (hasRoom n m x s) refl a refl))
 
 -- the step of a controller from the outcome of adding
 abbrev pub addedStep : Controller → StoredSnap → Storage → Outcome AddedSnap → ControllerStep

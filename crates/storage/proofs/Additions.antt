@@ -10,6 +10,7 @@ use borrow.Author.Tests.{lt-ltb, lt-leb}
 use lib.Dec.{leb}
 use lib.IntN.{ℤ, pos}
 use lib.ListN.{length}
+use Rattle.definitions.specs.Ints.{fromBits}
 use Rattle.definitions.specs.Areas.{lay}
 use Rattle.definitions.specs.Refusals.{capacityError, deltaDifferingSizes}
 use Rattle.definitions.specs.Warnings as Warnings
@@ -17,7 +18,8 @@ use Rattle.definitions.specs.Outcome.{Outcome, ok, err, return, refuse, Wrote}
 use Rattle.definitions.specs.Stored.{stored}
 use Rattle.definitions.specs.Tables.{Table, items, count, nat, num, written, sound, tableOf, body, offsets, rising}
 use Rattle.definitions.specs.Deltas.{writtenDelta}
-use Rattle.definitions.specs.DeltaMaking.{alike, deltaFrom, createDelta}
+use Rattle.definitions.specs.DeltaMaking.{alike, firstClash, deltaFrom, createDelta}
+use Rattle.definitions.specs.DeltaCalls.{keyInt, clashOf}
 use Rattle.definitions.specs.Storage as Store
 use Rattle.definitions.specs.StorageCalls as Calls
 use Rattle.laws.specs.AreaLaws.{lay-nowhere}
@@ -25,11 +27,12 @@ use Rattle.laws.specs.TableShape.{some-is}
 use Rattle.laws.specs.TableRoundTrip.{back}
 use Rattle.laws.specs.StoreForm.{storeRoom, LaidIn}
 use Rattle.laws.specs.DeltaSize.{length-deltaFrom}
+use Rattle.laws.specs.ClashLaws.{unlike-clash}
 use Rattle.format.specs.Numbers.{number}
 use Rattle.format.specs.declared.Error.{Error}
 use Rattle.table.specs.Held.{Held, formOf}
 use Rattle.table.specs.Forms.{formed}
-use Rattle.delta_making.specs.Answers.{createdInts, madeInts, Clash}
+use Rattle.delta_making.specs.Answers.{createdInts, madeInts, madeClash}
 use Rattle.delta_making.specs.declared.Made.{Made}
 use Rattle.delta_making.specs.declared.Made.the-variants as made
 use Rattle.storage.specs.Answers.{addedIn}
@@ -205,8 +208,8 @@ module _ (room : Bool) (r : room ≡ false) (delta out : List ℤ) (b t : Table)
           let g : refuse deltaDifferingSizes ≡ return n = rw f at (judged-unlike q) in
           let z : _≡_ {A = ℕ} 0 1 = cc in absurd (omega arith)
 
-  -- it is refused, and no key clashes
-  pub judged-40 : (k : Error) → m ≡ made.Refused k → Clash b t m
+  -- it is refused, and no key is told
+  pub judged-40 : (k : Error) → m ≡ made.Refused k → madeClash m ≡ clashOf (madeInts m) b t
       → making room delta (createdInts b t) ≡ record { answer = refuse capacityError; out = out ++ delta }
   judged-40 k f h = go (alike b t) refl
     where
@@ -215,8 +218,11 @@ module _ (room : Bool) (r : room ≡ false) (delta out : List ℤ) (b t : Table)
       go false q =
           let g : refuse deltaDifferingSizes ≡ refuse (number k) = rw f at (judged-unlike q) in
           let d : number k ≡ deltaDifferingSizes = cc in
-          let n : number k ≡ deltaDifferingSizes → ⊥ = rw f at h in
-          absurd (n d)
+          let n : none ≡ clashOf {A = ℕ} (refuse (number k)) b t = rw f at h in
+          let n′ : none ≡ keyInt (firstClash b t) = rw d at n in
+          let j = unlike-clash b t q in
+          let i : none ≡ some (fromBits (j .0)) = n′ ∙ ap keyInt (j .1) in
+          let z : _≡_ {A = ℕ} 0 1 = cc in absurd (omega arith)
 
 -- ---- the base
 
@@ -236,10 +242,10 @@ empty-table = whole-table (pos 0 ∷ pos 0 ∷ []) [] refl refl
 
 -- a delta from a base is one from an equal table
 pub by-base : (room : Bool) (delta out : List ℤ) (b c t : Table) (m : Made) → b ≡ c
-    → (making room delta (createdInts b t) ≡ record { answer = madeInts m; out = out }) × Clash b t m
-    → (making room delta (createdInts c t) ≡ record { answer = madeInts m; out = out }) × Clash c t m
+    → (making room delta (createdInts b t) ≡ record { answer = madeInts m; out = out }) × (madeClash m ≡ clashOf (madeInts m) b t)
+    → (making room delta (createdInts c t) ≡ record { answer = madeInts m; out = out }) × (madeClash m ≡ clashOf (madeInts m) c t)
 by-base room delta out b c t m e h =
-    subst (λ (y : Table). (making room delta (createdInts y t) ≡ record { answer = madeInts m; out = out }) × Clash y t m) e h
+    subst (λ (y : Table). (making room delta (createdInts y t) ≡ record { answer = madeInts m; out = out }) × (madeClash m ≡ clashOf (madeInts m) y t)) e h
 
 -- the empty table has no items
 pub empty-held : Held (pos 0 ∷ pos 0 ∷ []) 0

@@ -1,28 +1,29 @@
 -- The call that adds a table: refusals before anything is made, and the results of its steps. Assumes nothing.
-use mathlib.Core.Path.{_≡_, sym, ap, _∙_, subst}
+use mathlib.Core.Path.{_≡_, refl, sym, ap, _∙_}
 use mathlib.Core.Bool.{Bool}
 use mathlib.Core.List.{List, _∷_}
-use mathlib.Core.Option.{some, none}
+use mathlib.Core.Option.{Option, some, none}
 use Prim.Native.Nat.{ℕ, _+_, _<_}
 use native.Mathlib.Omega.{arith}
-use borrow.Author.Tests.{le-ltb}
+use borrow.Author.Tests.{le-ltb, ne-eqb}
 use lib.Dec.{leb}
 use lib.IntN.{ℤ}
 use lib.ListN.{length}
 use Rattle.definitions.specs.Refusals.{notInForm, storeFull, deltaDifferingSizes}
 use Rattle.definitions.specs.Outcome.{refuse}
-use Rattle.definitions.specs.Tables.{Table, tableOf, written}
+use Rattle.definitions.specs.Tables.{Table, tableOf, written, items}
+use Rattle.definitions.specs.DeltaCalls.{clashOf}
 use Rattle.definitions.specs.TableCalls as TableCalls
 use Rattle.definitions.specs.Storage as Store
 use Rattle.definitions.specs.StorageCalls as Calls
 use Rattle.laws.specs.StoreForm.{storeRoom, room-cons, LaidIn}
 use Rattle.store_area.specs.Held.{snapsIn}
 use Rattle.store_area.specs.Stores.{holdsIn, Holds, beside-is}
-use Rattle.delta_making.specs.Answers.{createdInts, madeInts, Clash}
+use Rattle.delta_making.specs.Answers.{createdInts, madeInts, madeClash}
 use Rattle.delta_making.specs.declared.Made.{Made}
 use Rattle.delta_making.specs.declared.Made.the-variants as made
 use Rattle.storage.specs.States.{storeOf}
-use Rattle.storage.specs.Answers.{addings, Clashing}
+use Rattle.storage.specs.Answers.{addings, addedIn, addedClash}
 use Rattle.format.specs.Numbers.{number}
 use Rattle.format.specs.declared.Error.{Error}
 use Rattle.storage.specs.declared.Added.{Added}
@@ -70,14 +71,29 @@ room-is x l n k m e f =
     let d : storeRoom (x ∷ l) ≡ k + (m + 2) = omega (arith, room-cons x l) in
     ap (λ (i : ℕ). leb i n) (sym d)
 
--- the key that is named clashes
-pub clashes : (s : Store.Store) (a : List ℤ) (tick : ℤ) (table : List ℤ) (t : Table) (h : Store.Storage) (base : ℤ) (m : Made)
-    → Store.storageOf s a ≡ some h → tableOf table ≡ some t
-    → Clash (Store.chosenBase (h .deltaTick) (record { tick = tick; snap = t }) (h .snaps) .snap) t m → Clashing s a tick table (addedOf base m)
-clashes s a tick table t h base (made.Ints n) e f c = tt
-clashes s a tick table t h base (made.DifferingSizes k) e f c =
-    record { storage = h; new = t; storage-is = e; new-is = f; differing = c }
-clashes s a tick table t h base (made.Refused n) e f c = c
+-- ---- the key beside the answer
+
+-- it is that of the delta
+pub made-key : (base : ℤ) (m : Made) (b t : Table) → madeClash m ≡ clashOf (madeInts m) b t
+    → addedClash (addedOf base m) ≡ clashOf (addedIn (addedOf base m)) b t
+made-key base (made.Ints n) b t c = refl
+made-key base (made.DifferingSizes k) b t c = c
+made-key base (made.Refused e) b t c = c
+
+-- no key comes with another number than 10
+no-key : (n : ℕ) → (n ≡ deltaDifferingSizes → ⊥) → (x : Store.StoredSnap) (o : Option Store.Storage) → none ≡ Calls.clashWith {A = Calls.Added} (refuse n) x o
+no-key n d x none = refl
+no-key n d x (some h) = rw (ne-eqb n deltaDifferingSizes d)
+
+-- the key beside the call's answer
+pub with-key : (s : Store.Store) (a : List ℤ) (tick : ℤ) (table delta : List ℤ) (r : Adding) {area out : List ℤ}
+    → Calls.addSnapCall s a tick table delta ≡ addings r area out
+    → addedClash (r .answer) ≡ Calls.clashWith (addedIn (r .answer)) (record { tick = tick; snap = items table }) (Store.storageOf s a)
+    → (Calls.addSnapCall s a tick table delta ≡ addings r area out) × (addedClash (r .answer) ≡ Calls.addSnapClash s a tick table delta)
+with-key s a tick table delta r e c =
+    (e, c ∙ sym (ap (λ (k : Calls.AddStep). Calls.clashWith (k .answer) (record { tick = tick; snap = items table }) (Store.storageOf s a)) e))
+
+-- ---- the steps of adding
 
 module _ (s : Store.Store) (a : List ℤ) (l : List Store.StoredSnap) (tick base : ℤ) where
   -- what is promised of a call that ends
@@ -121,6 +137,6 @@ module _ (s : Store.Store) (a delta : List ℤ) (k : ℕ) (h : Holds s a k) (x :
 -- a call that adds nothing
 pub not-added-by : (s : Store.Store) (a : List ℤ) (tick : ℤ) (table delta : List ℤ) (r : Adding) (e : Error) → r .answer ≡ added.Refused e
     → storeOf (r .storage) ≡ s → (number e ≡ deltaDifferingSizes → ⊥) → Refused s a tick table delta (number e)
-    → (Calls.addSnapCall s a tick table delta ≡ addings r a delta) × Clashing s a tick table (r .answer)
+    → (Calls.addSnapCall s a tick table delta ≡ addings r a delta) × (addedClash (r .answer) ≡ Calls.addSnapClash s a tick table delta)
 not-added-by s a tick table delta r e f g n q =
-    (q ∙ rw (f, g), subst (Clashing s a tick table) (sym f) n)
+    with-key s a tick table delta r (q ∙ rw (f, g)) (rw f (no-key (number e) n (record { tick = tick; snap = items table }) (Store.storageOf s a)))

@@ -1,19 +1,13 @@
 -- What the answers of `storage` mean: the refusal's number and the values of each case. Assumes nothing.
-use mathlib.Core.Path.{_≡_}
 use mathlib.Core.List.{List}
 use mathlib.Core.Option.{Option, some, none}
-use Prim.Native.Nat.{ℕ}
 use lib.IntN.{ℤ}
-use Rattle.definitions.specs.Ints.{bits}
 use Rattle.definitions.specs.Refusals.{deltaDifferingSizes}
 use Rattle.definitions.specs.Warnings.{Counts}
 use Rattle.definitions.specs.Outcome.{Outcome, ok, err, return, refuse}
-use Rattle.definitions.specs.Tables.{Table, tableOf}
-use Rattle.definitions.specs.Storage as Store
 use Rattle.definitions.specs.StorageCalls as Calls
 use Rattle.format.specs.Numbers.{number}
 use Rattle.format.specs.Totals.{counts}
-use Rattle.delta_making.specs.Answers.{Differing}
 use Rattle.storage.specs.States.{storeOf}
 use Rattle.storage.specs.declared.HeldTick.{HeldTick}
 use Rattle.storage.specs.declared.HeldTick.the-variants as heldAt
@@ -50,21 +44,13 @@ addedIn (added.Delta base ints) = return (record { base = base; ints = ints })
 addedIn (added.DifferingSizes k) = refuse deltaDifferingSizes
 addedIn (added.Refused e) = refuse (number e)
 
+-- the key that clashes, if it is that
+abbrev pub addedClash : Added → Option ℤ
+addedClash (added.Delta base ints) = none
+addedClash (added.DifferingSizes k) = some k
+addedClash (added.Refused e) = none
+
 -- the result of the call, with both areas afterwards
 abbrev pub addings : Adding → List ℤ → List ℤ → Calls.AddStep
 addings r area delta =
     record { answer = addedIn (r .answer); store = storeOf (r .storage); area = area; delta = delta }
-
--- the base and the table both have the key, with data of different lengths
-pub record Clash (s : Store.Store) (area : List ℤ) (at : ℤ) (table : List ℤ) (k : ℕ) : Type 0 where
-  pub storage : Store.Storage
-  pub new : Table
-  pub storage-is : Store.storageOf s area ≡ some storage
-  pub new-is : tableOf table ≡ some new
-  pub differing : Differing (Store.chosenBase (storage .deltaTick) (record { tick = at; snap = new }) (storage .snaps) .snap) new k
-
--- the key that is returned differs in length; 10 always comes with a key
-abbrev pub Clashing : Store.Store → List ℤ → ℤ → List ℤ → Added → Type 0
-Clashing s area at table (added.Delta base ints) = Unit {0}
-Clashing s area at table (added.DifferingSizes k) = Clash s area at table (bits k)
-Clashing s area at table (added.Refused e) = number e ≡ deltaDifferingSizes → ⊥

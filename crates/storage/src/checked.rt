@@ -13,7 +13,8 @@ ghost use Rattle.definitions.specs.Tables.{written, count, tableOf};
 ghost use Rattle.definitions.specs.Tables as Tables;
 ghost use Rattle.definitions.specs.Receiver as Receiver;
 ghost use Rattle.definitions.specs.Storage as Store;
-ghost use Rattle.definitions.specs.StorageCalls.{laidOut, addDeltaCall};
+ghost use Rattle.definitions.specs.DeltaCalls.{clashOf};
+ghost use Rattle.definitions.specs.StorageCalls.{laidOut, addDeltaCall, clashWith};
 ghost use Rattle.format.specs.Numbers.{number};
 ghost use Rattle.format.specs.Totals.{counts};
 ghost use Rattle.table.specs.Held.{Held, formOf};
@@ -21,13 +22,13 @@ ghost use Rattle.table.specs.declared.checked.TableForm.the-variants as tableFo
 ghost use Rattle.laws.specs.StoreForm.{storeRoom, LaidIn};
 ghost use Rattle.store_area.specs.Held.{snapsIn, HeldStore, Leaves};
 ghost use Rattle.store_area.specs.Stores.{storageForm, holdsIn, Holds};
-ghost use Rattle.delta_making.specs.Answers.{createdInts, madeInts, Clash};
+ghost use Rattle.delta_making.specs.Answers.{createdInts, madeInts, madeClash};
 ghost use Rattle.delta_making.specs.declared.Made.the-variants as made;
 ghost use Rattle.delta_form.specs.Held.{HeldDelta};
 ghost use Rattle.typed_applying.specs.Answers.{typedTable, tableWith, Stands};
 ghost use Rattle.storage.specs.Taking.{sumOf, takings, refusing, warned, baseIn, Applies, addingOn};
 ghost use Rattle.storage.specs.States.{storeOf, ackOf, deltaOf};
-ghost use Rattle.storage.specs.Answers.{settings, addings, Clashing};
+ghost use Rattle.storage.specs.Answers.{settings, addings, addedIn, addedClash};
 ghost use Rattle.storage.specs.Steps.{making, addedOf, storeAfter, tablesAfter, addingTo};
 ghost use Rattle.storage.specs.declared.Added.the-variants as added;
 use super::Added;
@@ -173,7 +174,7 @@ pub fn not_added(s: Storage, error: Error) -> Adding
 pub fn make(base: &[i32], target: &[i32], nt: usize, room: bool, delta: &mut [i32]) -> Made
     requires { ⌜ Held (now base) (count (now base)) × Held (now target) nt ⌝ }
     ensures { λ r. ⌜ making room (now (delta .entry)) (createdInts (Tables.items (now (base .entry))) (Tables.items (now (target .entry)))) ≡ record { answer = madeInts r; out = now (delta .exit) } ⌝ }
-    ensures { λ r. ⌜ Clash (Tables.items (now (base .entry))) (Tables.items (now (target .entry))) r ⌝ }
+    ensures { λ r. ⌜ madeClash r ≡ clashOf (madeInts r) (Tables.items (now (base .entry))) (Tables.items (now (target .entry))) ⌝ }
 {
     let nb = table::checked::nat_at(base, 1);
     if room {
@@ -197,7 +198,9 @@ pub fn make_delta(
 ) -> Made
     requires { ⌜ HeldStore (now area) (s .count) × Held (now table) nt ⌝ }
     ensures { λ r. ⌜ ((tick : ℤ) → making room (now (delta .entry)) (createdInts (Store.chosenBase (deltaOf s) (record { tick = tick; snap = Tables.items (now (table .entry)) }) (snapsIn (s .count) (now (area .entry))) .snap) (Tables.items (now (table .entry)))) ≡ record { answer = madeInts r; out = now (delta .exit) }) ⌝ }
-    ensures { λ r. ⌜ ((tick : ℤ) → Clash (Store.chosenBase (deltaOf s) (record { tick = tick; snap = Tables.items (now (table .entry)) }) (snapsIn (s .count) (now (area .entry))) .snap) (Tables.items (now (table .entry))) r) ⌝ }
+    ensures { λ r. ⌜ ((tick : ℤ) → madeClash r ≡ clashOf (madeInts r)
+        (Store.chosenBase (deltaOf s) (record { tick = tick; snap = Tables.items (now (table .entry)) }) (snapsIn (s .count) (now (area .entry))) .snap)
+        (Tables.items (now (table .entry)))) ⌝ }
 {
     let delta_tick = s.delta_tick;
     let OptionTick::Some(_) = delta_tick else {
@@ -290,7 +293,8 @@ pub fn add(
 ) -> Adding
     requires { ⌜ Holds (storeOf s) (now area) ints × (s .count < 100) × (tableForm.Table items size ≡ formOf (tableOf (now table))) ⌝ }
     ensures { λ r. ⌜ addingTo (holdsIn (storeOf s) (now (area .entry))) (record { tick = tick; snap = Tables.items (now (table .entry)) }) (now (area .entry)) (now (delta .entry)) ≡ addings r (now (area .exit)) (now (delta .exit)) ⌝ }
-    ensures { λ r. ⌜ Clashing (storeOf s) (now (area .entry)) tick (now (table .entry)) (r .answer) ⌝ }
+    ensures { λ r. ⌜ addedClash (r .answer) ≡ clashWith (addedIn (r .answer)) (record { tick = tick; snap = Tables.items (now (table .entry)) })
+        (some (holdsIn (storeOf s) (now (area .entry)))) ⌝ }
 {
     let room = ints + (size + 2) <= area.len();
     let result = make_delta(s, area, table, items, room, delta);

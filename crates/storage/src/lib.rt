@@ -6,11 +6,11 @@ ghost use lib.ListN.{length};
 ghost use Rattle.definitions.specs.Areas.{cleared};
 ghost use Rattle.definitions.specs.Outcome.{return};
 ghost use Rattle.definitions.specs.Storage as Store;
-ghost use Rattle.definitions.specs.StorageCalls.{addDeltaCall, resetCall, setDeltaTickCall, addSnapCall, tickCall, tableCall};
+ghost use Rattle.definitions.specs.StorageCalls.{addDeltaCall, resetCall, setDeltaTickCall, addSnapCall, addSnapClash, tickCall, tableCall};
 ghost use Rattle.storage.specs.States.{storeOf};
 ghost use Rattle.storage.specs.Taking.{takings};
 ghost use Rattle.format.specs.Ticks.{tickOf};
-ghost use Rattle.storage.specs.Answers.{heldTick, settings, addings, Clashing};
+ghost use Rattle.storage.specs.Answers.{heldTick, settings, addings, addedClash};
 use checked::Sent;
 use format::Error;
 use format::OptionTick;
@@ -47,7 +47,8 @@ pub struct Setting {
     pub storage: Storage,
 }
 
-// The base of an added table and how many ints its delta takes; or a key whose two items differ in length; or why it is refused.
+// The base of an added table and how many ints its delta takes; or the least key, read as unsigned, whose two items differ in length; or why it is
+// refused.
 pub enum Added {
     Delta { base: i32, ints: usize },
     DifferingSizes(i32),
@@ -185,10 +186,10 @@ impl Storage {
     }
 
     // Adds a table, and makes its delta: against the oldest table then held if a base tick is set, else against the empty table.
-    // If two items of one key differ in length, returns such a key. A refused call leaves both areas unchanged.
+    // If items of one key differ in length, returns the least such key, read as unsigned. A refused call leaves both areas unchanged.
     pub fn add_snap(self, tick: i32, table: &[i32], delta: &mut [i32], area: &mut [i32]) -> Adding
         ensures { λ r. ⌜ addSnapCall (storeOf self) (now (area .entry)) tick (now (table .entry)) (now (delta .entry)) ≡ addings r (now (area .exit)) (now (delta .exit)) ⌝ }
-        ensures { λ r. ⌜ Clashing (storeOf self) (now (area .entry)) tick (now (table .entry)) (r .answer) ⌝ }
+        ensures { λ r. ⌜ addedClash (r .answer) ≡ addSnapClash (storeOf self) (now (area .entry)) tick (now (table .entry)) (now (delta .entry)) ⌝ }
     {
         let StoreForm::Tables(ints) = checked::form(self, area) else {
             return checked::not_added(self, Error::NotInForm);

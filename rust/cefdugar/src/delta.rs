@@ -20,8 +20,9 @@ pub const PACKED_BYTES: usize = 28_800;
 #[derive(Clone, Copy, Debug, Eq, Hash, PartialEq)]
 pub enum NoDelta {
     /// Both tables have an item with this key, with data of different lengths.
+    /// Of all such keys it is the least one, read as unsigned.
     Clash(i32),
-    /// `NOT_IN_FORM` or `CAPACITY_ERROR`.
+    /// `NOT_IN_FORM` or `CAPACITY_ERROR`; for a store also `STORE_FULL`.
     Refused(Refusal),
 }
 

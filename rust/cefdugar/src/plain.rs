@@ -254,7 +254,8 @@ pub fn delta_clear(out: &mut [i32], count: &mut usize) -> u32 {
 }
 
 /// Makes the delta from one table to another in the front of `out`. Refused
-/// (47, 10, 40): `out` and `count` are left. `clash` is set at 10, and else
+/// (47, 10, 40): `out` and `count` are left. At 10 `clash` is the least key,
+/// read as unsigned, that both have with data of different lengths; else it is
 /// left.
 pub fn delta_create(
     base: &[i32],

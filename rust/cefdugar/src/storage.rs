@@ -27,8 +27,8 @@ pub struct Storage {
 pub struct Outputs {
     pub base: i32,
     pub count: usize,
-    /// A key that both tables have with data of different lengths, where they
-    /// have one.
+    /// Where the call is refused with 10: of the keys that base and table have
+    /// with data of different lengths, the least one, read as unsigned.
     pub clash: i32,
 }
 

@@ -29,7 +29,7 @@ same-length c = search needs
 returns : tie.Need-returns
 returns c =
     let m = c .before .before .before .before .create in
-    created _ _ _ _ (m .ensures .0) (m .ensures .1) (c .before .m .given .1) _ _
+    created _ _ _ (m .ensures .0) (m .ensures .1) (c .before .m .given .1) _ _
 
 same-length-2 : tie.Need-same-length-2
 same-length-2 c = search needs
@@ -37,7 +37,8 @@ same-length-2 c = search needs
 returns-2 : tie.Need-returns-2
 returns-2 c =
     let m = c .before .before .before .before .before .create in
-    clashed _ _ _ _ (m .ensures .0) (m .ensures .1) (c .before .before .m2 .given .1) _ _ _ _ (c .error-number .ensures) (toZ-ofZ (record { sfits = c .before .known-told2 .given .0 .1 }))
+    let k = toZ-ofZ (record { sfits = c .before .known-told2 .given .0 .1 }) in
+    clashed _ _ _ (m .ensures .0) (m .ensures .1) (c .before .before .m2 .given .1) _ _ _ _ (c .error-number .ensures) k
 
 same-length-3 : tie.Need-same-length-3
 same-length-3 c = search needs
@@ -45,7 +46,7 @@ same-length-3 c = search needs
 returns-3 : tie.Need-returns-3
 returns-3 c =
     let m = c .before .before .before .before .before .create in
-    not-created _ _ _ _ (m .ensures .0) (m .ensures .1) (c .before .before .m3 .given .1) _ _ _ (c .error-number2 .ensures)
+    not-created _ _ _ (m .ensures .0) (m .ensures .1) (c .before .before .m3 .given .1) _ _ _ (c .error-number2 .ensures)
 
 pub cef-delta-create-spec : {M : Type 1} → statement M
 cef-delta-create-spec =

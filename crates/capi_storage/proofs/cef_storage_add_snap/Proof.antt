@@ -1,11 +1,13 @@
 -- `capi_storage::cef_storage_add_snap` meets its contract: by what `add_snap` answered. Assumes nothing.
+use mathlib.Core.Path.{ap, _∙_}
 use mir.Facts.{toZ-ofZ}
 use denote.Ref.{now}
 use Rattle.definitions.specs.StorageCalls.{addSnapCall}
+use Rattle.boundary.specs.Boundary.{keyOr}
 use Rattle.boundary_states.specs.Rows.{heldStore}
 use Rattle.boundary_states.specs.Few.{snap-fits}
 use Rattle.boundary_states.specs.Emptied.{fits-before}
-use Rattle.capi_storage.proofs.Calls.{snap-moved, clashing-moved, fits-added, added-told, named}
+use Rattle.capi_storage.proofs.Calls.{snap-moved, clash-moved, fits-added, added-told}
 use borrow.Author.Needs.{needs}
 use Rattle.capi_storage.proofs.cef_storage_add_snap.Statement.{statement}
 use Rattle.capi_storage.proofs.cef_storage_add_snap.Tie as tie
@@ -41,8 +43,11 @@ returns c =
     let t = toZ-ofZ (c .before .before .before .before .before .before .before .before .before .before .before .before .before .before .before .fits .tick) in
     let s = c .before .before .before .before .before .before .before .before .before .add-snap in
     let e = snap-moved (now (a .area)) (now (a .table)) (now (a .delta)) (l .ensures .0) t (s .ensures .0) in
-    let d = clashing-moved (now (a .area)) (now (a .table)) (s .result .answer) (l .ensures .0) t (s .ensures .1) in
-    (added-told (addSnapCall (heldStore (now (a .ticks)) (now (a .counts))) (now (a .area)) (a .tick) (now (a .table)) (now (a .delta))) (s .result .answer) e _ _ _ _ _ (c .before .before .before .before .save-storage .ensures) (c .tell .ensures), named (heldStore (now (a .ticks)) (now (a .counts))) (now (a .area)) (a .tick) (now (a .table)) (s .result .answer) d _ _ _ (c .tell .ensures .0) (c .tell .ensures .1 .1 .1))
+    let d = clash-moved (now (a .area)) (now (a .table)) (now (a .delta)) (l .ensures .0) t (s .ensures .1) in
+    let step = addSnapCall (heldStore (now (a .ticks)) (now (a .counts))) (now (a .area)) (a .tick) (now (a .table)) (now (a .delta)) in (
+      added-told step (s .result .answer) e _ _ _ _ _ (c .before .before .before .before .save-storage .ensures) (c .tell .ensures),
+      c .tell .ensures .1 .1 .1 ∙ ap (keyOr _) d,
+    )
 
 pub cef-storage-add-snap-spec : {M : Type 1} → statement M
 cef-storage-add-snap-spec =

@@ -1,11 +1,12 @@
 -- `delta::create` meets its contract: by the checks of both tables' forms. Assumes nothing.
-use mathlib.Core.Path.{_≡_, sym, _∙_}
-use native.Mathlib.Omega.{arith}
+use mathlib.Core.Path.{_≡_, refl, sym, _∙_}
 use Rattle.definitions.specs.Tables.{tableOf}
 use Rattle.table.specs.Held.{formOf}
 use Rattle.table.specs.Forms.{formed}
 use Rattle.table.specs.declared.checked.TableForm.the-variants as form
-use Rattle.delta.proofs.Calls.{base-47, target-47, create-call}
+use Rattle.format.specs.declared.Error.the-variants as error
+use Rattle.delta_making.specs.declared.Made.the-variants as made
+use Rattle.delta.proofs.Calls.{base-47, target-47, create-call, with-key}
 use borrow.Author.Needs.{needs}
 use Rattle.delta.proofs.create.Statement.{statement}
 use Rattle.delta.proofs.create.Tie as tie
@@ -30,7 +31,8 @@ enum-told c = search needs
 returns : tie.Need-returns
 returns c =
     let s = c .before .before .before .args in
-    (base-47 (s .base .now) (s .target .now) (s .out .now) (sym (c .enum-told .given .1) ∙ c .before .before .form .ensures), λ e. omega (arith, e))
+    with-key (s .base .now) (s .target .now) (s .out .now) (made.Refused error.NotInForm)
+    (base-47 (s .base .now) (s .target .now) (s .out .now) (sym (c .enum-told .given .1) ∙ c .before .before .form .ensures)) refl
 
 form-requires-2 : tie.Need-form-requires-2
 form-requires-2 c κs = search needs
@@ -44,7 +46,9 @@ enum-told-2 c = search needs
 returns-2 : tie.Need-returns-2
 returns-2 c =
     let s = c .before .before .before .before .before .before .before .args in
-    (target-47 (s .base .now) (base-told (c .before .before .before)) (s .target .now) (s .out .now) (sym (c .enum-told2 .given .1) ∙ c .before .before .form2 .ensures), λ e. omega (arith, e))
+    with-key (s .base .now) (s .target .now) (s .out .now) (made.Refused error.NotInForm)
+    (target-47 (s .base .now) (base-told (c .before .before .before)) (s .target .now) (s .out .now)
+    (sym (c .enum-told2 .given .1) ∙ c .before .before .form2 .ensures)) refl
 
 create-requires : tie.Need-create-requires
 create-requires c κs =
@@ -58,7 +62,10 @@ same-length c = search needs
 returns-3 : tie.Need-returns-3
 returns-3 c =
     let s = c .before .before .before .before .before .before .before .before .before .before .before .args in
-    (create-call (s .base .now) (base-told (c .before .before .before .before .before .before .before)) (s .target .now) (s .out .now) (target-told (c .before .before .before)) ∙ c .before .create .ensures .0, c .before .create .ensures .1)
+    with-key (s .base .now) (s .target .now) (s .out .now) (c .before .create .result)
+    (create-call (s .base .now) (base-told (c .before .before .before .before .before .before .before)) (s .target .now) (s .out .now)
+    (target-told (c .before .before .before)) ∙ c .before .create .ensures .0)
+    (c .before .create .ensures .1)
 
 pub create-spec : {M : Type 1} → statement M
 create-spec =

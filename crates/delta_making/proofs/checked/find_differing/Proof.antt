@@ -1,4 +1,4 @@
--- `checked::find_differing` meets its contract. The loop's invariant: all items agree in length if the remaining ones do. Assumes nothing.
+-- `checked::find_differing` meets its contract. The loop's invariant: the first clash is that of the remaining items. Assumes nothing.
 use Prim.Native.Nat.{ℕ, _-_, _≤_}
 use mathlib.Core.Path.{_≡_, sym, ap, _∙_, subst}
 use native.Mathlib.Omega.{arith}
@@ -9,17 +9,17 @@ use mir.Facts.{toZ-ofZ}
 use Rattle.definitions.specs.Ints.{bits}
 use Rattle.laws.specs.TableFind.{Place}
 use Rattle.definitions.specs.Tables.{items, keyAt}
-use Rattle.definitions.specs.DeltaMaking.{alike}
+use Rattle.definitions.specs.DeltaMaking.{firstClash}
 use Rattle.delta_making.specs.Parts.{part}
 use Rattle.delta_making.proofs.Places.{Along, along-start, along-asks, along-next}
-use Rattle.delta_making.proofs.Parts.{part-all, alike-step, alike-end}
+use Rattle.delta_making.proofs.Parts.{part-all, clash-step, clash-here, clash-end, below-is, below-none}
 use borrow.Author.Needs.{needs}
 use Rattle.delta_making.proofs.checked.find_differing.Statement.{statement}
 use Rattle.delta_making.proofs.checked.find_differing.Tie as tie
 
 abbrev Inv-loop : tie.InvT-loop
 Inv-loop base nb target nt i₀ p₀ i p =
-    (i ≤ nt) × Along base nb p target i × (alike (items base) (part i nt (items target)) ≡ alike (items base) (items target))
+    (i ≤ nt) × Along base nb p target i × (firstClash (items base) (part i nt (items target)) ≡ firstClash (items base) (items target))
 
 abbrev μ-loop : tie.MeasureT-loop
 μ-loop base nb target nt i₀ p₀ i p = nt - i
@@ -35,7 +35,7 @@ placed c =
 
 loop-holds : tie.Need-loop-holds Inv-loop μ-loop
 loop-holds c =
-    (search needs, along-start _ _ _ 0, ap (alike (items (now (c .args .base)))) (part-all (now (c .args .target)) (c .args .nt) (c .pre .1)))
+    (search needs, along-start _ _ _ 0, ap (firstClash (items (now (c .args .base)))) (part-all (now (c .args .target)) (c .args .nt) (c .pre .1)))
 
 key-at-requires : tie.Need-key-at-requires Inv-loop μ-loop
 key-at-requires c κs = (c .before .before .pre .1, search needs)
@@ -64,21 +64,25 @@ loop-again c =
     let s = l .before in (
       omega arith,
       along-next (now (s .args .base)) (s .args .nb) (s .pre .0) (now (s .args .target)) (s .args .nt) (s .pre .1) (n .next-place .result) (l .loop .i) (n .before .before .loop-test .taken) (placed n),
-      sym (alike-step (items (now (s .args .base))) (now (s .args .target)) (s .args .nt) (s .pre .1) (l .loop .i) (s .args .nt) (n .before .before .loop-test .taken) (omega arith) (sym (c .before .is-as-long .ensures) ∙ c .if1 .taken)) ∙ l .loop .inv .2,
+      sym (clash-step _ _ _ (s .pre .1) _ _ (n .before .before .loop-test .taken) (omega arith) (sym (c .before .is-as-long .ensures) ∙ c .if1 .taken)) ∙ l .loop .inv .2,
     )
 
 returns : tie.Need-returns Inv-loop μ-loop
 returns c =
-    record { differs = λ l. sym (c .before .is-as-long .ensures) ∙ c .if1 .left; none-differs = λ l. absurd (omega arith) }
+    let n = c .before .before in
+    let l = n .before .before .before in
+    let s = l .before in
+    sym (l .loop .inv .2)
+    ∙ (clash-here _ _ _ (s .pre .1) _ _ (n .before .before .loop-test .taken) (omega arith) (sym (c .before .is-as-long .ensures) ∙ c .if1 .left)
+    ∙ sym (below-is (now (s .args .target)) (s .args .nt) (l .loop .i) (n .before .before .loop-test .taken)))
 
 returns-2 : tie.Need-returns-2 Inv-loop μ-loop
 returns-2 c =
     let l = c .before in
     let s = l .before in
-    record {
-      differs = λ m. absurd (omega arith);
-      none-differs = λ m. sym (l .loop .inv .2) ∙ alike-end (items (now (s .args .base))) (l .loop .i) (s .args .nt) (items (now (s .args .target))) (c .loop-test .left);
-    }
+    sym (l .loop .inv .2)
+    ∙ (clash-end (items (now (s .args .base))) (l .loop .i) (s .args .nt) (items (now (s .args .target))) (c .loop-test .left)
+    ∙ sym (below-none (now (s .args .target)) (s .args .nt) (l .loop .i) (c .loop-test .left)))
 
 pub find-differing-spec : {M : Type 1} → statement M
 find-differing-spec =

@@ -2,7 +2,7 @@
 use Rattle.definitions.specs.Tables.{items, tableOf}
 use Rattle.format.specs.declared.Error.the-variants as error
 use Rattle.laws.specs.TableShape.{some-is}
-use Rattle.storage.proofs.Calls.{store-47, new-47, both-held, full-44, not-added-by}
+use Rattle.storage.proofs.Calls.{store-47, new-47, both-held, full-44, with-key, not-added-by}
 use Rattle.store_area.specs.Stores.{not-held, told, Told}
 use Rattle.storage.specs.States.{storeOf}
 use Rattle.table.specs.Forms.{formed, unformed}
@@ -111,7 +111,9 @@ returns-4 c =
     let x = s .args in
     let e = rw (toZ-ofZ (s .fits .tick)) at (c .before .before .add .ensures) in
     let h = in-form (d .before .before .before .before) in
-    (both-held (storeOf (x .self)) (now (x .area)) (x .tick) (now (x .table)) (now (x .delta)) _ (h .is) _ (table-is d) ∙ e .0, e .1)
+    with-key (storeOf (x .self)) (now (x .area)) (x .tick) (now (x .table)) (now (x .delta)) (c .before .before .add .result)
+    (both-held (storeOf (x .self)) (now (x .area)) (x .tick) (now (x .table)) (now (x .delta)) _ (h .is) _ (table-is d) ∙ e .0)
+    (rw (h .is) (e .1))
 
 pub add-snap-spec : {M : Type 1} → statement M
 add-snap-spec =

@@ -2,11 +2,8 @@
 use Prim.Native.Nat.{_+_, _≤_}
 use Rattle.definitions.specs.Storage as Store
 use Rattle.definitions.specs.Tables.{items}
-use Rattle.laws.specs.TableShape.{some-is}
 use Rattle.storage.proofs.Additions.{made-room}
-use Rattle.storage.proofs.Calls.{room-is, adding-ends, clashes}
-use Rattle.store_area.specs.Stores.{holds-is, holdsIn}
-use Rattle.storage.specs.Answers.{Clashing}
+use Rattle.storage.proofs.Calls.{room-is, adding-ends, made-key}
 use Rattle.storage.specs.States.{storeOf, deltaOf}
 use Rattle.storage.specs.Steps.{addedOf}
 use Rattle.store_area.specs.Held.{snapsIn}
@@ -19,7 +16,6 @@ use lib.IntN.{ℤ}
 use lib.ListN.{length}
 use mathlib.Core.Bool.{true}
 use mathlib.Core.Path.{_≡_, sym, ap, _∙_}
-use mathlib.Core.Path.{subst}
 use mir.Facts.{toZ-ofZ}
 use mir.Syntax.{w32}
 use native.Mathlib.Omega.{arith}
@@ -99,11 +95,10 @@ returns c =
     let front = sym (form-front t (s .pre .2)) in
     let room = room-is (new s) (snapsIn (s .args .s .count) a) (length a) (s .args .ints) (s .args .size) (h .ints-are)
     (form-length t (s .pre .2) ∙ ap length front) in
-    let clash = clashes (storeOf (s .args .s)) a (s .args .tick) t (items t) (holdsIn (storeOf (s .args .s)) a) (b .base-tick .result) (m .result)
-    (holds-is (storeOf (s .args .s)) a (s .args .ints) h) (some-is t (formed t _ _ (s .pre .2) .0 .shape)) (m .ensures .1 (s .args .tick)) in (
+    let key = made-key (b .base-tick .result) (m .result) _ (items t) (m .ensures .1 (s .args .tick)) in (
       adding-ends (storeOf (s .args .s)) a (now (s .args .delta)) (s .args .ints) h (new s) _ (m .result) _ (s .pre .1) room
           (m .ensures .0 (s .args .tick)) (r .result) _ (answered c ∙ ap (λ (i : ℤ). addedOf i (m .result)) (based b)) (f .1) (rw z at (f .2 (items t) front)),
-      subst (Clashing (storeOf (s .args .s)) a (s .args .tick) t) (sym (answered c)) clash,
+      rw (answered c) key,
     )
 
 pub add-spec : {M : Type 1} → statement M

@@ -4,7 +4,8 @@ use Rattle.storage.proofs.Additions.{with-room, judged-10, judged-none,
 use denote.Ref.{now}
 use mir.Facts.{toZ-ofZ}
 use mir.Syntax.{w32}
-use native.Mathlib.Omega.{arith}
+use mathlib.Core.Path.{refl, ap, _∙_}
+use mathlib.Core.Option.{some}
 use borrow.Author.Needs.{needs}
 use Rattle.storage.proofs.checked.make.Statement.{statement}
 use Rattle.storage.proofs.checked.make.Tie as tie
@@ -51,7 +52,7 @@ returns-2 c =
     let b = items (now (s .base)) in
     let t = items (now (s .target)) in
     let q = judged-none (s .room) (c .before .before .before .before .before .if1 .left) (now (s .delta)) _ b t (m .result) (m .ensures .0) _ (c .enum-told .given .1) in
-    (q, λ e. omega (arith, e))
+    (q, refl)
 
 same-length-3 : tie.Need-same-length-3
 same-length-3 c = search needs
@@ -64,7 +65,7 @@ returns-3 c =
     let b = items (now (s .base)) in
     let t = items (now (s .target)) in
     let q = judged-10 (s .room) (c .before .before .before .before .before .before .if1 .left) (now (s .delta)) _ b t (m .result) (m .ensures .0) _ (k .1) in
-    (q, rw (toZ-ofZ {w = w32} {z = k .0 .0} (record { sfits = c .known-told .given .0 .1 })) (rw (k .1) at (m .ensures .1)))
+    (q, ap some (toZ-ofZ {w = w32} {z = k .0 .0} (record { sfits = c .known-told .given .0 .1 })) ∙ (rw (k .1) at (m .ensures .1)))
 
 same-length-4 : tie.Need-same-length-4
 same-length-4 c = search needs
@@ -76,7 +77,7 @@ returns-4 c =
     let b = items (now (s .base)) in
     let t = items (now (s .target)) in
     let q = judged-40 (s .room) (c .before .before .before .before .before .if1 .left) (now (s .delta)) _ b t (m .result) (m .ensures .0) _ (c .enum-told2 .given .1) (m .ensures .1) in
-    (q, λ e. omega (arith, e))
+    (q, refl)
 
 pub make-spec : {M : Type 1} → statement M
 make-spec =

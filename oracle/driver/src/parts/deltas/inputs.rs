@@ -23,6 +23,21 @@ pub fn listed(deleted: &[i32], updated: &[Item]) -> Vec<i32> {
     ints
 }
 
+/// All tables that have each of the keys at the ends of both orders, with no
+/// data or with one int.
+pub fn clashing() -> Vec<Vec<i32>> {
+    let keys = tables::inputs::KEYS;
+    (0..1 << keys.len())
+        .map(|set: usize| {
+            let len = |i: usize| set >> i & 1;
+            let items: Vec<Item> = (0..keys.len())
+                .map(|i| (keys[i], vec![keys[i] ^ 5; len(i)]))
+                .collect();
+            tables::inputs::listed(&tables::sorted(&items))
+        })
+        .collect()
+}
+
 /// A table that has much in common with another: some items are removed, some
 /// changed, some added. At times one of them gets longer or shorter.
 pub fn related(items: &[Item], random: &mut Random) -> Vec<Item> {

@@ -47,6 +47,7 @@ fn compare(run: &mut Run) -> Result {
     }
     item_deltas(run, &mut calls)?;
     few_items(run, &mut calls)?;
+    clashes(run, &mut calls)?;
     short_lists(run, &mut calls)?;
     few_updates(run, &mut calls)?;
     limits(run, &mut calls)?;
@@ -107,6 +108,18 @@ fn few_tables() -> Vec<Vec<i32>> {
 /// All pairs of those tables.
 fn few_items(run: &mut Run, calls: &mut Calls) -> Result {
     let tables = few_tables();
+    for base in &tables {
+        for target in &tables {
+            calls.create(run, base, target)?;
+        }
+    }
+    Ok(())
+}
+
+/// Every pair of tables with all those keys, each with no data or one int:
+/// every set of them clashes, on both sides of 8000 0000 hex at once.
+fn clashes(run: &mut Run, calls: &mut Calls) -> Result {
+    let tables = inputs::clashing();
     for base in &tables {
         for target in &tables {
             calls.create(run, base, target)?;

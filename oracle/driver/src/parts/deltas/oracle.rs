@@ -67,9 +67,9 @@ pub fn created(base: &[i32], target: &[i32]) -> Told<Vec<i32>> {
     }
 }
 
-/// The keys that the tables of two areas share, with data of different
-/// lengths.
-pub fn clashes(base: &[i32], target: &[i32]) -> Vec<i32> {
+/// The keys that the tables of two areas share with data of different
+/// lengths: the least of them, read as unsigned.
+pub fn first_clash(base: &[i32], target: &[i32]) -> Option<i32> {
     let held = tables::oracle::held;
     let base = held(base).unwrap_or_else(RawSnap::empty);
     let target = held(target).unwrap_or_else(RawSnap::empty);
@@ -82,7 +82,7 @@ pub fn clashes(base: &[i32], target: &[i32]) -> Vec<i32> {
         .items()
         .map(|item| item.key())
         .filter(differs)
-        .collect()
+        .min_by_key(|key| *key as u32)
 }
 
 /// How many ints the delta at the front of an area takes by its counts and

@@ -72,13 +72,11 @@ fn clear(record: &mut Record, spare: isize) {
     record.case(&format!("e {room}"), &answer);
 }
 
-/// If several keys clash, the answer is not determined, and is not recorded.
 fn create(record: &mut Record, base: &[i32], target: &[i32], spare: isize) {
     let said = oracle::created(base, target);
-    let panicked = match (&said, &oracle::clashes(base, target)[..]) {
-        (Told::Panicked, [key]) => format!("10 {key}"),
-        (Told::Panicked, _) => return,
-        _ => String::new(),
+    let panicked = match oracle::first_clash(base, target) {
+        Some(key) => format!("10 {key}"),
+        None => String::new(),
     };
     let (room, answer) = stored(&said, &panicked, spare, ints);
     let question = format!("c {room} {}{}{}", base.len(), ints(base), ints(target));
@@ -213,6 +211,7 @@ fn tables_of_few(record: &mut Record) {
             create(record, base, target, 0);
         }
     }
+    clashes(record);
     let (base, target) = (&tables[2], &tables[4]);
     for spare in [1, 5, -1, -2, -20] {
         create(record, base, target, spare);
@@ -221,6 +220,16 @@ fn tables_of_few(record: &mut Record) {
     create(record, base, &target[..target.len() - 1], 0);
     create(record, &[], &[], 0);
     create(record, &[0, 0, 9], &[0, 0], 0);
+}
+
+/// Every set of keys that clashes with a table that has none of them longer,
+/// and with its complement.
+fn clashes(record: &mut Record) {
+    let tables = inputs::clashing();
+    for (set, target) in tables.iter().enumerate() {
+        create(record, &tables[0], target, 0);
+        create(record, target, &tables[tables.len() - 1 - set], 0);
+    }
 }
 
 /// Areas in form, and with damage in one place.

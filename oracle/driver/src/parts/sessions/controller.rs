@@ -160,11 +160,15 @@ impl Controller {
             .port
             .add_snap(tick, &table, &mut self.delta, &mut self.area);
         let answer = match port {
-            Ok(added) => (0, Some((added.base, self.delta[..added.ints].to_vec()))),
-            Err(NoDelta::Clash(key)) if said.clashes.contains(&key) => (10, None),
-            Err(no_delta) => (no_delta.refusal().0, None),
+            Ok(added) => (
+                0,
+                Some((added.base, self.delta[..added.ints].to_vec())),
+                None,
+            ),
+            Err(NoDelta::Clash(key)) => (10, None, Some(key)),
+            Err(NoDelta::Refused(refusal)) => (refusal.0, None, None),
         };
-        Shown::compare(&(said.number, said.added.clone()), &answer)?;
+        Shown::compare(&(said.number, said.added.clone(), said.clash), &answer)?;
         self.same()?;
         match said.added {
             // A full store, or tables that clash: a new start.

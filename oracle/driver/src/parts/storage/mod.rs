@@ -43,6 +43,7 @@ fn compare(run: &mut Run) -> Result {
     forms(run, &mut areas)?;
     limits(run, &mut areas)?;
     ends(run, &mut areas)?;
+    clashes(run, &mut areas)?;
     for round in 0..run.rounds {
         let mut random = run.random(round);
         let steps = inputs::steps(&mut random);
@@ -254,6 +255,45 @@ fn limits(run: &mut Run, areas: &mut Areas) -> Result {
         }
     }
     Ok(())
+}
+
+/// Tables of which every set of keys clashes with the base, while the store
+/// has room; then the same with the most tables held, and with too little room.
+fn clashes(run: &mut Run, areas: &mut Areas) -> Result {
+    let tables = super::deltas::inputs::clashing();
+    let snap = |tick, table: &[i32]| Step {
+        call: Call::AddSnap {
+            tick,
+            table: table.to_vec(),
+            spare: 0,
+        },
+        spare: 0,
+    };
+    for base in &tables {
+        let mut steps = vec![
+            snap(0, base),
+            Step {
+                call: Call::SetDeltaTick(0),
+                spare: 0,
+            },
+        ];
+        for table in &tables {
+            steps.push(snap(1, table));
+            steps.push(Step {
+                spare: -1,
+                ..snap(1, table)
+            });
+        }
+        all(run, areas, steps)?;
+    }
+    let mut steps = vec![snap(0, &tables[0])];
+    steps.extend((1..100).map(|tick| snap(tick, &[0, 0])));
+    for tick in [0, 1] {
+        let call = Call::SetDeltaTick(tick);
+        steps.push(Step { call, spare: 0 });
+        steps.push(snap(100, &tables[9]));
+    }
+    all(run, areas, steps).map(|_| ())
 }
 
 /// Every pair of ticks at the ends of the range, as tick and as base.

@@ -47,8 +47,9 @@ pub struct Said {
     pub warnings: Warnings,
     /// For a table that was added: the tick of its base, and its delta.
     pub added: Option<(i32, Vec<i32>)>,
-    /// If a table is refused with 10: the keys that clash.
-    pub clashes: Vec<i32>,
+    /// If a table is refused with 10: the least key that clashes, read as
+    /// unsigned.
+    pub clash: Option<i32>,
 }
 
 /// A table in its written form, and its tick.
@@ -252,7 +253,7 @@ impl Store {
         let Told::Value(made) = told else {
             self.rust = before;
             return Said {
-                clashes: deltas::oracle::clashes(&base_table, &new.1),
+                clash: deltas::oracle::first_clash(&base_table, &new.1),
                 ..refused(10)
             };
         };

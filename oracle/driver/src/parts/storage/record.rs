@@ -71,8 +71,8 @@ fn question(call: &Call, delta: usize) -> String {
 }
 
 fn what(call: &Call, said: &Said) -> String {
-    match (said.number, call, &said.added, &said.clashes[..]) {
-        (10, Call::AddSnap { .. }, _, [key, ..]) => format!("refused 10 {key}"),
+    match (said.number, call, &said.added, said.clash) {
+        (10, _, _, Some(key)) => format!("refused 10 {key}"),
         (0, _, Some((base, delta)), _) => format!("delta {base} {}{}", delta.len(), ints(delta)),
         (0, Call::AddDelta { tick, .. }, ..) => format!("tick {tick}"),
         (0, ..) => "done".to_string(),
@@ -102,8 +102,7 @@ impl List {
         record.case(&format!("n {room}"), &answer);
         List { store, room }
     }
-    /// If several keys clash, the answer is not determined, and is not
-    /// recorded; neither is one that is too long.
+    /// An answer that is too long is not recorded.
     fn call(&mut self, record: &mut Record, call: &Call) {
         let [_, delta] = self.store.needs(call);
         let delta = match call {
@@ -114,7 +113,7 @@ impl List {
         let said = after.call(call, self.room);
         let question = question(call, delta);
         let too_long = question.split(' ').count() > MOST_INTS || delta > MOST_INTS;
-        if said.clashes.len() > 1 || too_long {
+        if too_long {
             return;
         }
         self.store = after;
@@ -177,6 +176,7 @@ pub fn fill(record: &mut Record, random: &mut Random) {
         look(record, &list.store, 2);
     }
     hundred(record);
+    clashes(record);
     for _ in 0..18 {
         random_list(record, random);
     }
@@ -195,6 +195,24 @@ fn hundred(record: &mut Record) {
     for place in [0, 99, 100] {
         look(record, &list.store, place);
     }
+}
+
+/// Several keys clash with the base: on both sides of 8000 0000 hex, then on
+/// one; then 44 comes first.
+fn clashes(record: &mut Record) {
+    let tables = crate::parts::deltas::inputs::clashing();
+    let mut list = List::new(record, 1_000);
+    list.call(record, &snap(0, &tables[0], 0));
+    list.call(record, &Call::SetDeltaTick(0));
+    for table in &tables {
+        list.call(record, &snap(1, table, -1));
+    }
+    for tick in 1..100 {
+        list.call(record, &snap(tick, &[0, 0], 0));
+    }
+    list.call(record, &snap(100, &tables[63], 0));
+    list.call(record, &Call::SetDeltaTick(1));
+    list.call(record, &snap(100, &tables[63], 0));
 }
 
 fn random_list(record: &mut Record, random: &mut Random) {

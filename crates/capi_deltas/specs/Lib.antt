@@ -1,2 +1,0 @@
--- How the key that clashes looks from C. Assumes nothing.
-pub mod Clashes
