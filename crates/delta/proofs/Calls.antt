@@ -8,18 +8,13 @@ use lib.IntN.{ℤ, pos}
 use lib.ListN.{length, set}
 use borrow.Author.Tests.{le-leb, lt-leb}
 use Rattle.definitions.specs.Refusals.{capacityError, knownSizeDiffers, notInForm}
-use Rattle.definitions.specs.Warnings.{none}
-use Rattle.definitions.specs.Outcome.{return, refuse, after, Wrote}
+use Rattle.definitions.specs.Outcome.{return, refuse, Wrote}
 use Rattle.definitions.specs.Packed.{packInts}
 use Rattle.definitions.specs.Stored.{stored}
 use Rattle.definitions.specs.Deltas.{updatesInts, deltaInts, deltaIn}
 use Rattle.definitions.specs.DeltaCalls.{sizesMatch, writing, clashOf, clearCall, createCall, createClash, writeToIntsCall, writeCall}
-use Rattle.definitions.specs.Tables.{tableOf, items}
-use Rattle.laws.specs.OutcomeLaws.{after-none}
-use Rattle.table.specs.Held.{formOf as tableForm}
-use Rattle.table.specs.declared.checked.TableForm.the-variants as table
-use Rattle.table.specs.Writing.{not-held as no-table, is-held as is-table}
-use Rattle.delta_making.specs.Answers.{createdInts, madeInts, madeClash}
+use Rattle.definitions.specs.Tables.{items}
+use Rattle.delta_making.specs.Answers.{madeInts, madeClash}
 use Rattle.delta_making.specs.declared.Made.{Made}
 use Rattle.delta_form.specs.Held.{HeldDelta, formOf}
 use Rattle.delta_form.specs.Forms.{formed, not-held, is-held}
@@ -87,22 +82,6 @@ module _ (a sizes : List ℤ) where
       bytes-call out = rw written-is
 
 -- ---- two tables
-
--- one of the areas holds no table
-pub base-47 : (b t out : List ℤ) → table.Bad ≡ tableForm (tableOf b) → createCall b t out ≡ record { answer = refuse notInForm; out = out }
-unfolding stored
-base-47 b t out e = rw (no-table b e)
-
-module _ (b : List ℤ) {nb kb : ℕ} (e : table.Table nb kb ≡ tableForm (tableOf b)) where
-  pub target-47 : (t out : List ℤ) → table.Bad ≡ tableForm (tableOf t) → createCall b t out ≡ record { answer = refuse notInForm; out = out }
-  unfolding stored
-  target-47 t out f = rw (is-table b e, no-table t f)
-
-  -- both hold one
-  pub create-call : (t out : List ℤ) {nt kt : ℕ} → table.Table nt kt ≡ tableForm (tableOf t) → createCall b t out ≡ stored out (createdInts (items b) (items t))
-  create-call t out f =
-      let o = createdInts (items b) (items t) in
-      rw (is-table b e, is-table t f) (ap (stored out) (after-none (after none o) ∙ after-none o))
 
 -- the key beside an answer
 pub with-key : (base target out : List ℤ) (m : Made) {left : List ℤ} → createCall base target out ≡ record { answer = madeInts m; out = left }

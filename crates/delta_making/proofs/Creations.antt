@@ -25,7 +25,8 @@ use Rattle.laws.specs.TableForm.{length-items, length-items-body}
 use Rattle.laws.specs.DeltaSize.{length-deltaFrom}
 use Rattle.table.specs.Held.{Held}
 use Rattle.laws.specs.ClashLaws.{clash-alike, clash-unlike}
-use Rattle.delta_making.specs.Answers.{createdInts, madeInts, madeClash}
+use Rattle.laws.specs.CreateLaws.{createdInts}
+use Rattle.delta_making.specs.Answers.{madeInts, madeClash}
 use Rattle.delta_making.specs.Parts.{keyBelow}
 use Rattle.delta_making.specs.declared.Made.the-variants as made
 use Rattle.delta_making.proofs.Parts.{below-is, below-none}

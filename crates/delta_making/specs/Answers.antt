@@ -1,20 +1,12 @@
 -- What the answers of making a delta mean. Assumes nothing.
 use Prim.Native.Nat.{ℕ}
-use mathlib.Core.List.{List}
 use mathlib.Core.Option.{Option, some, none}
 use lib.IntN.{ℤ}
 use Rattle.definitions.specs.Refusals.{deltaDifferingSizes}
-use Rattle.definitions.specs.Outcome.{Outcome, return, refuse, _>>=_}
-use Rattle.definitions.specs.Tables.{Table}
-use Rattle.definitions.specs.Deltas.{writtenDelta}
-use Rattle.definitions.specs.DeltaMaking.{createDelta}
+use Rattle.definitions.specs.Outcome.{Outcome, return, refuse}
 use Rattle.format.specs.Numbers.{number}
 use Rattle.delta_making.specs.declared.Made.{Made}
 use Rattle.delta_making.specs.declared.Made.the-variants as made
-
--- the written form of the delta from a base to a target
-abbrev pub createdInts : Table → Table → Outcome (List ℤ)
-createdInts b t = createDelta b t >>= λ d. return (writtenDelta d)
 
 -- the refusal's number or the value of each case
 abbrev pub madeInts : Made → Outcome ℕ

@@ -13,7 +13,8 @@ ghost use Rattle.definitions.specs.DeltaCalls.{clashOf};
 ghost use Rattle.definitions.specs.DeltaMaking.{agree, alike, firstClash, lacking, deltaFrom};
 ghost use Rattle.laws.specs.TableFind.{Place};
 ghost use Rattle.table.specs.Held.{Held};
-ghost use Rattle.delta_making.specs.Answers.{createdInts, madeInts, madeClash};
+ghost use Rattle.laws.specs.CreateLaws.{createdInts};
+ghost use Rattle.delta_making.specs.Answers.{madeInts, madeClash};
 ghost use Rattle.delta_making.specs.Parts.{part, deletedInts, changeInts, changesInts, keyBelow};
 
 // Whether item i of the target is as long as the base's item with its key, if there is one; p is the key's place in the base.

@@ -1,17 +1,22 @@
--- The outcome of adding a table to a store, case by case. Assumes nothing.
+-- Adding a table to a store: the outcome case by case, and the call. Assumes nothing.
 use mathlib.Core.Path.{_≡_, refl}
 use mathlib.Core.Bool.{Bool, true, false, _&&_}
-use mathlib.Core.List.{_∷_}
+use mathlib.Core.Logic.{_⊎_, ⊎-elim}
+use mathlib.Core.List.{List, _∷_}
+use mathlib.Core.Option.{Option, some, none}
 use Prim.Native.Nat.{ℕ, _≤_, _<_}
 use borrow.Author.Tests.{ltb-true, ltb-false, leb-true}
 use lib.Dec.{ltb, leb}
+use lib.IntN.{ℤ}
 use lib.ListN.{length}
-use Rattle.definitions.specs.Refusals.{deltaDifferingSizes, capacityError, storeFull}
+use Rattle.definitions.specs.Refusals.{deltaDifferingSizes, capacityError, storeFull, notInForm}
 use Rattle.definitions.specs.Outcome.{Outcome, return, refuse, require, _>>_}
-use Rattle.definitions.specs.Tables.{Table}
+use Rattle.definitions.specs.Tables.{Table, tableOf}
+use Rattle.definitions.specs.TableCalls.{held}
 use Rattle.definitions.specs.Deltas.{writtenDelta}
 use Rattle.definitions.specs.DeltaMaking.{alike, deltaFrom, createDelta}
-use Rattle.definitions.specs.Storage.{StoredSnap, Storage, chosenBase, AddedSnap, adding}
+use Rattle.definitions.specs.Storage.{StoredSnap, Storage, Store, storageOf, chosenBase, AddedSnap, adding, addSnap}
+use Rattle.definitions.specs.StorageCalls.{heldStorage, judgeTable, laidOut, afterJudging, addSnapStep, AddStep, addStep, addSnapCall}
 use Rattle.laws.specs.TableShape.{both}
 use Rattle.laws.specs.StoreForm.{storeRoom}
 
@@ -62,3 +67,28 @@ adding-is n m x s = go (alike (baseOf x s .snap) (x .snap)) refl
     go : (p : Bool) → alike (baseOf x s .snap) (x .snap) ≡ p → Adds n m x s (adding n m x s)
     go true a = rw a (tests-are n m x s (ltb (length (s .snaps)) 100) true (hasRoom n m x s) refl a refl)
     go false a = rw a (tests-are n m x s (ltb (length (s .snaps)) 100) false (hasRoom n m x s) refl a refl)
+
+-- ---- the call
+
+-- adding a table to what a store holds, with the areas of the store and of the delta
+unfoldable pub addingTo : Storage → StoredSnap → List ℤ → List ℤ → AddStep
+addingTo h x area delta =
+    addStep (laidOut area (addSnap (length area) (length delta) x h)) (addSnap (length area) (length delta) x h .answer) delta
+
+module _ (s : Store) (area : List ℤ) (tick : ℤ) (table delta : List ℤ) where
+  -- without a store and a table in form all is left
+  pub add-47 : (storageOf s area ≡ none) ⊎ (tableOf table ≡ none)
+      → addSnapCall s area tick table delta ≡ record { answer = refuse notInForm; store = s; area = area; delta = delta }
+  unfolding heldStorage held judgeTable addSnapStep afterJudging addStep
+  add-47 = ⊎-elim (λ (e : storageOf s area ≡ none). rw e) (λ (e : tableOf table ≡ none). go e (storageOf s area) refl)
+    where
+      go : tableOf table ≡ none → (o : Option Storage) → storageOf s area ≡ o
+          → addSnapCall s area tick table delta ≡ record { answer = refuse notInForm; store = s; area = area; delta = delta }
+      go e none f = rw f
+      go e (some h) f = rw (f, e)
+
+  -- with both it adds the table
+  pub add-held : (h : Storage) (t : Table) → storageOf s area ≡ some h → tableOf table ≡ some t
+      → addSnapCall s area tick table delta ≡ addingTo h (record { tick = tick; snap = t }) area delta
+  unfolding heldStorage held judgeTable addSnapStep afterJudging addingTo
+  add-held h t e f = rw (e, f)

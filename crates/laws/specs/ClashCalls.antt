@@ -14,15 +14,14 @@ use Rattle.definitions.specs.Ints.{bits, fromBits}
 use Rattle.definitions.specs.Areas.{lay}
 use Rattle.definitions.specs.Refusals.{deltaDifferingSizes, capacityError, storeFull, notInForm}
 use Rattle.definitions.specs.Warnings.{Counts}
-use Rattle.definitions.specs.Outcome.{Outcome, ok, err, return, refuse, _>>=_, Wrote}
+use Rattle.definitions.specs.Outcome.{Outcome, ok, err, return, refuse, Wrote}
 use Rattle.definitions.specs.Stored.{stored}
 use Rattle.definitions.specs.Tables.{Table, items, tableOf, rising}
-use Rattle.definitions.specs.TableCalls.{held}
 use Rattle.definitions.specs.Deltas.{writtenDelta}
 use Rattle.definitions.specs.DeltaMaking.{alike, firstClash, deltaFrom, createDelta}
 use Rattle.definitions.specs.DeltaCalls.{keyInt, clashOf, createCall, createClash}
 use Rattle.definitions.specs.Storage.{StoredSnap, Storage, Store, storageOf, AddedSnap, adding, addedTo, addSnap}
-use Rattle.definitions.specs.StorageCalls.{StoreStep, heldStorage, judgeTable, afterJudging, addSnapStep, addStep, addSnapCall, clashWith, addSnapClash}
+use Rattle.definitions.specs.StorageCalls.{StoreStep, laidOut, Added, AddStep, addStep, addSnapCall, clashWith, addSnapClash}
 use Rattle.laws.specs.Tests.{below}
 use Rattle.laws.specs.IntLaws.{bits-back}
 use Rattle.laws.specs.OutcomeLaws.{ok-not-err}
@@ -30,7 +29,8 @@ use Rattle.laws.specs.TableShape.{fails}
 use Rattle.laws.specs.TableRoundTrip.{soundly}
 use Rattle.laws.specs.TableReadBack.{holds}
 use Rattle.laws.specs.DeltaMade.{facts}
-use Rattle.laws.specs.AddingLaws.{baseOf, Adds, full, clashes, lacks, fits, adding-is}
+use Rattle.laws.specs.CreateLaws.{createdInts, create-47, create-held}
+use Rattle.laws.specs.AddingLaws.{baseOf, Adds, full, clashes, lacks, fits, adding-is, addingTo, add-47, add-held}
 use Rattle.laws.specs.ClashLaws.{alike-clash, unlike-clash, First, clash-first, clash-same}
 
 -- ---- keys as ints
@@ -77,6 +77,15 @@ module _ {A : Type 0} where
 
 -- ---- making a delta
 
+-- the key of a delta that is made
+made-clash : (b t : Table) → clashOf (createdInts b t) b t ≡ keyInt (firstClash b t)
+unfolding createDelta
+made-clash b t = go (alike b t) refl
+  where
+    go : (p : Bool) → alike b t ≡ p → clashOf (createdInts b t) b t ≡ keyInt (firstClash b t)
+    go true q = rw (q, alike-clash b t q)
+    go false q = rw q
+
 -- laying a delta into an area tells no key of its own
 stored-clash : (out : List ℤ) (o : Outcome (List ℤ)) (b t : Table) → clashOf (stored out o .answer) b t ≡ clashOf o b t
 unfolding stored
@@ -90,47 +99,26 @@ stored-clash out (ok l w) b t = go (leb (length l) (length out))
     go false = refl
 
 module _ (base target out : List ℤ) where
-  -- without two tables the answer is 47
-  create-47 : (tableOf base ≡ none) ⊎ (tableOf target ≡ none) → createCall base target out .answer ≡ refuse notInForm
-  unfolding held stored
-  create-47 = ⊎-elim (λ (e : tableOf base ≡ none). rw e) (λ (e : tableOf target ≡ none). go e (tableOf base) refl)
-    where
-      go : tableOf target ≡ none → (o : Option Table) → tableOf base ≡ o → createCall base target out .answer ≡ refuse notInForm
-      go e none f = rw f
-      go e (some b) f = rw (f, e)
-
-  -- and no key is told
+  -- without two tables no key is told
   pub create-unformed : (tableOf base ≡ none) ⊎ (tableOf target ≡ none) → createClash base target out ≡ none
-  create-unformed e = rw (create-47 e)
-
-  -- the delta before it is laid into the area
-  abbrev made : Outcome (List ℤ)
-  made = held base >>= λ b. held target >>= λ t. createDelta b t >>= λ d. return (writtenDelta d)
+  create-unformed e = rw (create-47 base target out e)
 
   module _ (b t : Table) (e : tableOf base ≡ some b) (f : tableOf target ≡ some t) where
-    made-clash : clashOf made b t ≡ keyInt (firstClash b t)
-    unfolding held createDelta
-    made-clash = go (alike b t) refl
-      where
-        go : (p : Bool) → alike b t ≡ p → clashOf made b t ≡ keyInt (firstClash b t)
-        go true q = rw (e, f, q, alike-clash b t q)
-        go false q = rw (e, f, q)
-
-    -- two tables have the first that clashes
+    -- with both it is the first that clashes
     pub create-is : createClash base target out ≡ keyInt (firstClash b t)
-    create-is = rw (holds base b e .1, holds target t f .1) (stored-clash out made b t ∙ made-clash)
+    create-is = rw (holds base b e .1, holds target t f .1, create-held base target out b t e f) (stored-clash out (createdInts b t) b t ∙ made-clash b t)
 
     -- a delta that is refused with 10 is between tables that clash
     create-unlike : (w : Counts) → createCall base target out .answer ≡ err deltaDifferingSizes w → alike b t ≡ true → ⊥
-    unfolding held createDelta stored
-    create-unlike w a q = go (leb (length (writtenDelta (deltaFrom b t))) (length out)) refl
+    unfolding createDelta stored
+    create-unlike w a q = go (leb (length (writtenDelta (deltaFrom b t))) (length out)) refl (rw (create-held base target out b t e f) at a)
       where
-        go : (p : Bool) → leb (length (writtenDelta (deltaFrom b t))) (length out) ≡ p → ⊥
-        go true r =
-            let d : return (length (writtenDelta (deltaFrom b t))) ≡ err deltaDifferingSizes w = rw (e, f, q, r) at a in
+        go : (p : Bool) → leb (length (writtenDelta (deltaFrom b t))) (length out) ≡ p → stored out (createdInts b t) .answer ≡ err deltaDifferingSizes w → ⊥
+        go true r a =
+            let d : return (length (writtenDelta (deltaFrom b t))) ≡ err deltaDifferingSizes w = rw (q, r) at a in
             ok-not-err d
-        go false r =
-            let d : refuse {A = ℕ} capacityError ≡ err deltaDifferingSizes w = rw (e, f, q, r) at a in
+        go false r a =
+            let d : refuse {A = ℕ} capacityError ≡ err deltaDifferingSizes w = rw (q, r) at a in
             let z : capacityError ≡ deltaDifferingSizes = cc in omega arith
 
 -- what a key that is told says: the answer is 10, and the key is the first that clashes in two tables
@@ -168,8 +156,8 @@ module _ (base target out : List ℤ) where
   create-tells w a = go (tableOf base) (tableOf target) refl refl
     where
       go : (o p : Option Table) → tableOf base ≡ o → tableOf target ≡ p → (k : ℤ) × (createClash base target out ≡ some k)
-      go none p f g = absurd (unformed-10 w a (create-47 base target out (inl f)))
-      go (some b) none f g = absurd (unformed-10 w a (create-47 base target out (inr g)))
+      go none p f g = absurd (unformed-10 w a (ap (λ (r : Wrote ℕ ℤ). r .answer) (create-47 base target out (inl f))))
+      go (some b) none f g = absurd (unformed-10 w a (ap (λ (r : Wrote ℕ ℤ). r .answer) (create-47 base target out (inr g))))
       go (some b) (some t) f g =
           let n = fails (alike b t) (create-unlike base target out b t f g w a) in
           let k = unlike-told b t n in
@@ -244,22 +232,13 @@ module _ (s : Store) (area : List ℤ) (tick : ℤ) (table delta : List ℤ) whe
   abbrev new : Table → StoredSnap
   new t = record { tick = tick; snap = t }
 
-  -- without a store and a table in form the answer is 47
-  add-47 : (storageOf s area ≡ none) ⊎ (tableOf table ≡ none) → addSnapCall s area tick table delta .answer ≡ refuse notInForm
-  unfolding heldStorage held judgeTable addSnapStep afterJudging addStep
-  add-47 = ⊎-elim (λ (e : storageOf s area ≡ none). rw e) (λ (e : tableOf table ≡ none). go e (storageOf s area) refl)
-    where
-      go : tableOf table ≡ none → (o : Option Storage) → storageOf s area ≡ o → addSnapCall s area tick table delta .answer ≡ refuse notInForm
-      go e none f = rw f
-      go e (some h) f = rw (f, e)
-
-  -- and no key is told
+  -- without a store and a table in form no key is told
   pub add-unformed : (storageOf s area ≡ none) ⊎ (tableOf table ≡ none) → addSnapClash s area tick table delta ≡ none
   add-unformed e = go (storageOf s area)
     where
       go : (o : Option Storage) → clashWith (addSnapCall s area tick table delta .answer) (new (items table)) o ≡ none
       go none = refl
-      go (some h) = rw (add-47 e)
+      go (some h) = rw (add-47 s area tick table delta e)
 
   module _ (h : Storage) (t : Table) (e : storageOf s area ≡ some h) (f : tableOf table ≡ some t) where
     -- the outcome of adding
@@ -269,22 +248,27 @@ module _ (s : Store) (area : List ℤ) (tick : ℤ) (table delta : List ℤ) whe
     adds : Adds (length area) (length delta) (new t) h outcome
     adds = adding-is (length area) (length delta) (new t) h
 
-    step-is : addSnapStep s area tick table (length delta) .answer ≡ addedTo (new t) h outcome .answer
-    unfolding heldStorage held judgeTable addSnapStep afterJudging addSnap
-    step-is = rw (e, f)
+    -- the answer to it
+    abbrev answer : Outcome Added
+    answer =
+        addStep (laidOut area (addedTo (new t) h outcome)) (addedTo (new t) h outcome .answer) delta .answer
+
+    answer-is : addSnapCall s area tick table delta .answer ≡ answer
+    unfolding addingTo addSnap
+    answer-is = ap (λ (k : AddStep). k .answer) (add-held s area tick table delta h t e f)
 
     -- a refusal is that of adding
     outcome-is : (w : Counts) (n : ℕ) → addSnapCall s area tick table delta .answer ≡ err n w → outcome ≡ err n w
     outcome-is w n a =
         added-err (new t) h outcome n w
-        (sym step-is ∙ step-err (addSnapStep s area tick table (length delta)) (addSnapStep s area tick table (length delta) .answer) delta n w a)
+        (step-err (laidOut area (addedTo (new t) h outcome)) (addedTo (new t) h outcome .answer) delta n w (sym answer-is ∙ a))
 
     -- the key is that of the outcome
     outcome-clash : addSnapClash s area tick table delta ≡ clashOf outcome (baseOf (new t) h .snap) t
     outcome-clash =
-        rw (e, holds table t f .1)
-        (step-clash (addSnapStep s area tick table (length delta)) (addSnapStep s area tick table (length delta) .answer) delta _ t
-        ∙ rw step-is (added-clash (new t) h outcome _ t))
+        rw (e, holds table t f .1, answer-is)
+        (step-clash (laidOut area (addedTo (new t) h outcome)) (addedTo (new t) h outcome .answer) delta _ t
+        ∙ added-clash (new t) h outcome _ t)
 
     -- with 100 tables held no key is told
     pub add-full : 100 ≤ length (h .snaps) → addSnapClash s area tick table delta ≡ none
@@ -331,8 +315,8 @@ module _ (s : Store) (area : List ℤ) (tick : ℤ) (table delta : List ℤ) whe
   add-tells w a = go (storageOf s area) (tableOf table) refl refl
     where
       go : (o : Option Storage) (p : Option Table) → storageOf s area ≡ o → tableOf table ≡ p → (k : ℤ) × (addSnapClash s area tick table delta ≡ some k)
-      go none p f g = absurd (unformed-10 w a (add-47 (inl f)))
-      go (some h) none f g = absurd (unformed-10 w a (add-47 (inr g)))
+      go none p f g = absurd (unformed-10 w a (ap (λ (k : AddStep). k .answer) (add-47 s area tick table delta (inl f))))
+      go (some h) none f g = absurd (unformed-10 w a (ap (λ (k : AddStep). k .answer) (add-47 s area tick table delta (inr g))))
       go (some h) (some t) f g =
           let n = adds-10 w (adds h t f g) (outcome-is h t f g w deltaDifferingSizes a) in
           let k = unlike-told (baseOf (new t) h .snap) t (n .1) in

@@ -49,6 +49,7 @@ pub mod BuilderForm
 pub mod BuilderCalls
 pub mod BuildAll
 pub mod ClashLaws
+pub mod CreateLaws
 pub mod AddingLaws
 pub mod ClashCalls
 pub mod Clean

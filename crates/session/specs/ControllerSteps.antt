@@ -1,5 +1,6 @@
 -- A controller's call on a store in form, by its outcome. Assumes nothing.
-use mathlib.Core.Path.{_≡_, refl}
+use mathlib.Core.Path.{_≡_, refl, ap}
+use mathlib.Core.Logic.{inr}
 use mathlib.Core.Bool.{Bool, true, false, cond}
 use mathlib.Core.List.{List, []}
 use mathlib.Core.Option.{some, none}
@@ -11,10 +12,10 @@ use Rattle.definitions.specs.Warnings.{Counts, WeirdNegativeDeltaTick}
 use Rattle.definitions.specs.Warnings as Warnings
 use Rattle.definitions.specs.Outcome.{Outcome, ok, return, refuse}
 use Rattle.definitions.specs.Tables.{Table, tableOf}
-use Rattle.definitions.specs.TableCalls.{held}
 use Rattle.definitions.specs.Receiver.{same}
 use Rattle.definitions.specs.Storage.{StoredSnap, Storage, storageOf, dropOlder, oldestAt, baseFor, dropFor, isNegative, warnWeird, isHeld, Keeps, withSnaps, withDeltaTick, AddedSnap, adding, addedTo, addSnap, setDeltaTick}
-use Rattle.definitions.specs.StorageCalls.{laidOut, afterJudging, heldStorage, judgeTable, addSnapStep, addStep}
+use Rattle.definitions.specs.StorageCalls.{laidOut, afterJudging, heldStorage, addStep}
+use Rattle.laws.specs.AddingLaws.{addingTo, add-47, add-held}
 use Rattle.session.specs.Runs.{Controller, ControllerStep, added, baseSet, controllerCall}
 use Rattle.session.specs.Runs as Runs
 use Rattle.session.specs.Statement.{Weird, minusOne, other}
@@ -28,13 +29,13 @@ addedStep c x s o = added (addStep (laidOut (c .area) (addedTo x s o)) (addedTo 
 
 -- a table in form is added to a store in form
 pub call-adds : (c : Controller) (tick : ℤ) (table : List ℤ) (t : Table) (s : Storage) → storageOf (c .store) (c .area) ≡ some s → tableOf table ≡ some t → controllerCall c (Runs.addSnap tick table) ≡ addedStep c (record { tick = tick; snap = t }) s (adding (length (c .area)) (length (c .delta)) (record { tick = tick; snap = t }) s)
-unfolding controllerCall addSnapStep judgeTable heldStorage held afterJudging addSnap
-call-adds c tick table t s e d = rw (e, d)
+unfolding controllerCall addingTo addSnap
+call-adds c tick table t s e d = ap added (add-held (c .store) (c .area) tick table (c .delta) s t e d)
 
 -- an area that holds no table is refused, and nothing changes
 pub call-unformed : (c : Controller) (tick : ℤ) (table : List ℤ) (s : Storage) → storageOf (c .store) (c .area) ≡ some s → tableOf table ≡ none → controllerCall c (Runs.addSnap tick table) ≡ record { answer = refuse notInForm; next = c }
-unfolding controllerCall addSnapStep addStep judgeTable heldStorage held afterJudging
-call-unformed c tick table s e d = rw (e, d) refl
+unfolding controllerCall
+call-unformed c tick table s e d = ap added (add-47 (c .store) (c .area) tick table (c .delta) (inr d))
 
 -- ---- the base tick is set
 

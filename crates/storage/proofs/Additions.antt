@@ -32,11 +32,13 @@ use Rattle.format.specs.Numbers.{number}
 use Rattle.format.specs.declared.Error.{Error}
 use Rattle.table.specs.Held.{Held, formOf}
 use Rattle.table.specs.Forms.{formed}
-use Rattle.delta_making.specs.Answers.{createdInts, madeInts, madeClash}
+use Rattle.laws.specs.CreateLaws.{createdInts}
+use Rattle.laws.specs.AddingLaws.{addingTo}
+use Rattle.delta_making.specs.Answers.{madeInts, madeClash}
 use Rattle.delta_making.specs.declared.Made.{Made}
 use Rattle.delta_making.specs.declared.Made.the-variants as made
 use Rattle.storage.specs.Answers.{addedIn}
-use Rattle.storage.specs.Steps.{making, addedOf, storeAfter, tablesAfter, addingTo}
+use Rattle.storage.specs.Steps.{making, addedOf, storeAfter, tablesAfter}
 
 module _ (s : Store.Store) (l : List Store.StoredSnap) (x : Store.StoredSnap) (base : ℤ) (n : ℕ) where
   -- what a delta that was not made leaves

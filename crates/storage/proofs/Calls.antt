@@ -9,17 +9,18 @@ use borrow.Author.Tests.{le-ltb, ne-eqb}
 use lib.Dec.{leb}
 use lib.IntN.{ℤ}
 use lib.ListN.{length}
-use Rattle.definitions.specs.Refusals.{notInForm, storeFull, deltaDifferingSizes}
+use Rattle.definitions.specs.Refusals.{storeFull, deltaDifferingSizes}
 use Rattle.definitions.specs.Outcome.{refuse}
-use Rattle.definitions.specs.Tables.{Table, tableOf, written, items}
+use Rattle.definitions.specs.Tables.{Table, written, items}
 use Rattle.definitions.specs.DeltaCalls.{clashOf}
-use Rattle.definitions.specs.TableCalls as TableCalls
 use Rattle.definitions.specs.Storage as Store
 use Rattle.definitions.specs.StorageCalls as Calls
 use Rattle.laws.specs.StoreForm.{storeRoom, room-cons, LaidIn}
 use Rattle.store_area.specs.Held.{snapsIn}
 use Rattle.store_area.specs.Stores.{holdsIn, Holds, beside-is}
-use Rattle.delta_making.specs.Answers.{createdInts, madeInts, madeClash}
+use Rattle.laws.specs.CreateLaws.{createdInts}
+use Rattle.laws.specs.AddingLaws.{addingTo}
+use Rattle.delta_making.specs.Answers.{madeInts, madeClash}
 use Rattle.delta_making.specs.declared.Made.{Made}
 use Rattle.delta_making.specs.declared.Made.the-variants as made
 use Rattle.storage.specs.States.{storeOf}
@@ -29,7 +30,7 @@ use Rattle.format.specs.declared.Error.{Error}
 use Rattle.storage.specs.declared.Added.{Added}
 use Rattle.storage.specs.declared.Added.the-variants as added
 use Rattle.storage.specs.declared.Adding.{Adding}
-use Rattle.storage.specs.Steps.{making, addedOf, storeAfter, tablesAfter, addingTo}
+use Rattle.storage.specs.Steps.{making, addedOf, storeAfter, tablesAfter}
 use Rattle.storage.proofs.Additions.{added-by}
 
 -- ---- the call
@@ -38,22 +39,6 @@ module _ (s : Store.Store) (a : List ℤ) (tick : ℤ) (table delta : List ℤ) 
   -- a call that is refused
   abbrev Refused : ℕ → Type 0
   Refused n = Calls.addSnapCall s a tick table delta ≡ record { answer = refuse n; store = s; area = a; delta = delta }
-
-  -- the store is not in form
-  pub store-47 : Store.storageOf s a ≡ none → Refused notInForm
-  unfolding Calls.heldStorage Calls.judgeTable Calls.addSnapStep Calls.afterJudging Calls.addStep
-  store-47 e = rw e
-
-  module _ (h : Store.Storage) (e : Store.storageOf s a ≡ some h) where
-    -- the table is not
-    pub new-47 : tableOf table ≡ none → Refused notInForm
-    unfolding Calls.heldStorage Calls.judgeTable Calls.addSnapStep Calls.afterJudging Calls.addStep TableCalls.held
-    new-47 f = rw (e, f)
-
-    -- both are
-    pub both-held : (t : Table) → tableOf table ≡ some t → Calls.addSnapCall s a tick table delta ≡ addingTo h (record { tick = tick; snap = t }) a delta
-    unfolding Calls.heldStorage Calls.judgeTable Calls.addSnapStep Calls.afterJudging TableCalls.held addingTo
-    both-held t f = rw (e, f)
 
 -- the store is full
 pub full-44 : (s : Store.Store) (a : List ℤ) (k : ℕ) → Holds s a k → s .count ≡ 100 → (x : Store.StoredSnap) (delta : List ℤ)

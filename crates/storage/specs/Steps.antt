@@ -9,7 +9,6 @@ use Rattle.definitions.specs.Areas.{lay}
 use Rattle.definitions.specs.Refusals.{capacityError}
 use Rattle.definitions.specs.Outcome.{Outcome, ok, err, Wrote}
 use Rattle.definitions.specs.Storage as Store
-use Rattle.definitions.specs.StorageCalls as Calls
 use Rattle.delta_making.specs.declared.Made.{Made}
 use Rattle.delta_making.specs.declared.Made.the-variants as made
 use Rattle.storage.specs.declared.Added.{Added}
@@ -40,9 +39,3 @@ abbrev pub tablesAfter : List Store.StoredSnap → Store.StoredSnap → Made →
 tablesAfter l x (made.Ints n) = x ∷ l
 tablesAfter l x (made.DifferingSizes k) = l
 tablesAfter l x (made.Refused e) = l
-
--- adding a table to what a store holds, with the areas of the store and of the delta
-unfoldable pub addingTo : Store.Storage → Store.StoredSnap → List ℤ → List ℤ → Calls.AddStep
-addingTo h x area delta =
-    Calls.addStep (Calls.laidOut area (Store.addSnap (length area) (length delta) x h))
-    (Store.addSnap (length area) (length delta) x h .answer) delta

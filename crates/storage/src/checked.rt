@@ -22,14 +22,16 @@ ghost use Rattle.table.specs.declared.checked.TableForm.the-variants as tableFo
 ghost use Rattle.laws.specs.StoreForm.{storeRoom, LaidIn};
 ghost use Rattle.store_area.specs.Held.{snapsIn, HeldStore, Leaves};
 ghost use Rattle.store_area.specs.Stores.{storageForm, holdsIn, Holds};
-ghost use Rattle.delta_making.specs.Answers.{createdInts, madeInts, madeClash};
+ghost use Rattle.laws.specs.CreateLaws.{createdInts};
+ghost use Rattle.laws.specs.AddingLaws.{addingTo};
+ghost use Rattle.delta_making.specs.Answers.{madeInts, madeClash};
 ghost use Rattle.delta_making.specs.declared.Made.the-variants as made;
 ghost use Rattle.delta_form.specs.Held.{HeldDelta};
 ghost use Rattle.typed_applying.specs.Answers.{typedTable, tableWith, Stands};
 ghost use Rattle.storage.specs.Taking.{sumOf, takings, refusing, warned, baseIn, Applies, addingOn};
 ghost use Rattle.storage.specs.States.{storeOf, ackOf, deltaOf};
 ghost use Rattle.storage.specs.Answers.{settings, addings, addedIn, addedClash};
-ghost use Rattle.storage.specs.Steps.{making, addedOf, storeAfter, tablesAfter, addingTo};
+ghost use Rattle.storage.specs.Steps.{making, addedOf, storeAfter, tablesAfter};
 ghost use Rattle.storage.specs.declared.Added.the-variants as added;
 use super::Added;
 use super::Adding;

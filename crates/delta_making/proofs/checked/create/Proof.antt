@@ -21,7 +21,8 @@ like c = likes _ _ _ _ (c .before .find-differing .ensures) (c .if1 .left)
 takes : (c : tie.After-start-at) → let s = c .before .before .before .before .args in 3 + c .before .count-deleted .result + (s .nt + (c .start-at .result - 2)) ≡ length (writtenDelta (deltaFrom (items (now (s .base))) (items (now (s .target)))))
 takes c =
     let s = c .before .before .before .before in
-    length-is (items (now (s .args .base))) (now (s .args .target)) (s .args .nt) (s .pre .1) _ _ (like (c .before .before)) (c .before .count-deleted .ensures .0) (c .start-at .ensures)
+    length-is (items (now (s .args .base))) (now (s .args .target)) (s .args .nt) (s .pre .1) _ _ (like (c .before .before))
+    (c .before .count-deleted .ensures .0) (c .start-at .ensures)
 
 ends : (c : tie.After-start-at) → let s = c .before .before .before .before .args in (2 ≤ c .start-at .result) × (c .start-at .result ≤ 16384) × (s .nt ≤ 1024) × (s .nb ≤ 1024)
 ends c =
@@ -82,7 +83,9 @@ returns-3 : tie.Need-returns-3
 returns-3 c =
     let m = c .before .before .before .before in
     let s = m .before .before .before .before in
-    (done (items (now (s .args .base))) (items (now (s .args .target))) (now (s .args .out)) (like (m .before .before)) _ _ (takes m) (omega arith) (c .before .write-delta .ensures), refl)
+    let b = items (now (s .args .base)) in
+    let t = items (now (s .args .target)) in
+    (done b t (now (s .args .out)) (like (m .before .before)) _ _ (takes m) (omega arith) (c .before .write-delta .ensures), refl)
 
 pub create-spec : {M : Type 1} → statement M
 create-spec =

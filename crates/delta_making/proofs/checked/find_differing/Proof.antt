@@ -64,7 +64,8 @@ loop-again c =
     let s = l .before in (
       omega arith,
       along-next (now (s .args .base)) (s .args .nb) (s .pre .0) (now (s .args .target)) (s .args .nt) (s .pre .1) (n .next-place .result) (l .loop .i) (n .before .before .loop-test .taken) (placed n),
-      sym (clash-step _ _ _ (s .pre .1) _ _ (n .before .before .loop-test .taken) (omega arith) (sym (c .before .is-as-long .ensures) ∙ c .if1 .taken)) ∙ l .loop .inv .2,
+      sym (clash-step _ _ _ (s .pre .1) _ _ (n .before .before .loop-test .taken) (omega arith) (sym (c .before .is-as-long .ensures) ∙ c .if1 .taken))
+          ∙ l .loop .inv .2,
     )
 
 returns : tie.Need-returns Inv-loop μ-loop

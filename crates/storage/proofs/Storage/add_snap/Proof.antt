@@ -2,13 +2,15 @@
 use Rattle.definitions.specs.Tables.{items, tableOf}
 use Rattle.format.specs.declared.Error.the-variants as error
 use Rattle.laws.specs.TableShape.{some-is}
-use Rattle.storage.proofs.Calls.{store-47, new-47, both-held, full-44, with-key, not-added-by}
+use Rattle.laws.specs.AddingLaws.{add-47, add-held}
+use Rattle.storage.proofs.Calls.{full-44, with-key, not-added-by}
 use Rattle.store_area.specs.Stores.{not-held, told, Told}
 use Rattle.storage.specs.States.{storeOf}
 use Rattle.table.specs.Forms.{formed, unformed}
 use Rattle.table.specs.Held.{formOf}
 use Rattle.table.specs.declared.checked.TableForm.the-variants as tableForm
 use denote.Ref.{now}
+use mathlib.Core.Logic.{inl, inr}
 use mathlib.Core.Option.{some}
 use mathlib.Core.Path.{_≡_, sym, _∙_}
 use mir.Facts.{toZ-ofZ}
@@ -51,7 +53,7 @@ returns c =
     let r = c .not-added in
     let h = not-held _ _ (sym (c .before .enum-told .given .1) ∙ c .before .before .before .form .ensures) in
     not-added-by (storeOf (s .self)) (now (s .area)) (s .tick) (now (s .table)) (now (s .delta)) (r .result) error.NotInForm (r .ensures .0) (r .ensures .1)
-    (λ e. omega (arith, e)) (store-47 (storeOf (s .self)) (now (s .area)) (s .tick) (now (s .table)) (now (s .delta)) h)
+    (λ e. omega (arith, e)) (add-47 (storeOf (s .self)) (now (s .area)) (s .tick) (now (s .table)) (now (s .delta)) (inl h))
 
 form-requires-2 : tie.Need-form-requires-2
 form-requires-2 c κs = search needs
@@ -74,7 +76,7 @@ returns-2 c =
     let r = c .not-added2 in
     let t = unformed (now (s .table)) (sym (c .before .enum-told2 .given .1) ∙ c .before .before .before .form2 .ensures) in
     not-added-by (storeOf (s .self)) (now (s .area)) (s .tick) (now (s .table)) (now (s .delta)) (r .result) error.NotInForm (r .ensures .0) (r .ensures .1)
-    (λ e. omega (arith, e)) (new-47 (storeOf (s .self)) (now (s .area)) (s .tick) (now (s .table)) (now (s .delta)) _ (in-form (c .before .before .before .before .before) .is) t)
+    (λ e. omega (arith, e)) (add-47 (storeOf (s .self)) (now (s .area)) (s .tick) (now (s .table)) (now (s .delta)) (inr t))
 
 not-added-requires-3 : tie.Need-not-added-requires-3
 not-added-requires-3 c κs = search needs
@@ -90,7 +92,7 @@ returns-3 c =
     let h = in-form (d .before .before .before .before) in
     not-added-by (storeOf (s .self)) (now (s .area)) (s .tick) (now (s .table)) (now (s .delta)) (r .result) error.StoreFull (r .ensures .0) (r .ensures .1)
     (λ e. omega (arith, e))
-    (both-held (storeOf (s .self)) (now (s .area)) (s .tick) (now (s .table)) (now (s .delta)) _ (h .is) _ (table-is d)
+    (add-held (storeOf (s .self)) (now (s .area)) (s .tick) (now (s .table)) (now (s .delta)) _ _ (h .is) (table-is d)
     ∙ full-44 (storeOf (s .self)) (now (s .area)) _ (h .holds) (c .before .if1 .taken) _ (now (s .delta)))
 
 add-requires : tie.Need-add-requires
@@ -112,7 +114,7 @@ returns-4 c =
     let e = rw (toZ-ofZ (s .fits .tick)) at (c .before .before .add .ensures) in
     let h = in-form (d .before .before .before .before) in
     with-key (storeOf (x .self)) (now (x .area)) (x .tick) (now (x .table)) (now (x .delta)) (c .before .before .add .result)
-    (both-held (storeOf (x .self)) (now (x .area)) (x .tick) (now (x .table)) (now (x .delta)) _ (h .is) _ (table-is d) ∙ e .0)
+    (add-held (storeOf (x .self)) (now (x .area)) (x .tick) (now (x .table)) (now (x .delta)) _ _ (h .is) (table-is d) ∙ e .0)
     (rw (h .is) (e .1))
 
 pub add-snap-spec : {M : Type 1} → statement M
