@@ -1,5 +1,5 @@
 -- What `put_int` and `write_int` come to, case by case. Assumes nothing.
-use mathlib.Core.Path.{_≡_, refl, sym, ap}
+use mathlib.Core.Path.{_≡_, refl, sym, ap, _∙_}
 use mathlib.Core.List.{List, [], _∷_}
 use Prim.Native.Nat.{ℕ, _+_, _/_, _%_, _≤_, _<_}
 use native.Mathlib.Omega.{arith}
@@ -13,6 +13,8 @@ use Rattle.definitions.specs.Outcome.{return, refuse}
 use Rattle.definitions.specs.Packed.{signBit, writeMore, writeInt}
 use Rattle.definitions.specs.Packer.{writeIntAt}
 use Rattle.laws.specs.AreaLaws.{layAt-set, layAt-nothing}
+use Rattle.packer.specs.Bytes.{extendBit}
+use Rattle.packer.proofs.Writes.{extend-more, short, long}
 
 -- an int of one byte, and one of more
 pub one-byte : (x : ℤ) → mag x < 64 → writeInt x ≡ (signBit x + mag x) ∷ []
@@ -35,23 +37,30 @@ module _ (out : List ℕ) (at : ℕ) (x : ℤ) where
     unfolding writeIntAt
     laid r o p q = rw (le-leb (at + length (writeInt x)) (length out) fits, p, q)
 
-    -- the sign's bit is g and the digits are m
-    module _ (g m : ℕ) (e : g ≡ signBit x) (f : m ≡ mag x) where
-      pub one-written : m < 64 → (at + 1 ≡ at + length (writeInt x)) × (set out at (g + m) ≡ layAt at (writeInt x) out)
-      one-written h =
-          let w = one-byte x (omega arith) in
+    -- what the three steps of the first byte gave
+    module _ (extend sign digits : ℕ) (extend-is : extend ≡ extendBit (mag x)) (sign-is : sign ≡ signBit x) (digits-are : digits ≡ mag x) where
+      pub one-written : extend ≡ 0 → (at + 1 ≡ at + length (writeInt x)) × (set out at (sign + digits) ≡ layAt at (writeInt x) out)
+      one-written none =
+          let w = one-byte x (short (mag x) extend-is none) in
           let i : at < length out = omega (arith, ap length w) in
-          rw (w, e, f, layAt-set at (signBit x + mag x) [] out i)
+          rw (w, sign-is, digits-are, layAt-set at (signBit x + mag x) [] out i)
           (refl, sym (layAt-nothing (at + 1) (set out at (signBit x + mag x))))
 
-      pub room : 64 ≤ m → at + 1 + length (writeMore 3 (m / 64)) ≤ length out
-      room h =
-          let q : length (writeMore 3 (m / 64)) ≡ length (writeMore 3 (mag x / 64)) = ap (λ (k : ℕ). length (writeMore 3 (k / 64))) f in
-          omega (arith, ap length (more-bytes x (omega arith)))
+      pub room : (extend ≡ 0 → ⊥) → at + 1 + length (writeMore 3 (digits / 64)) ≤ length out
+      room some =
+          let q = ap (λ (k : ℕ). length (writeMore 3 (k / 64))) digits-are in
+          omega (arith, q, ap length (more-bytes x (long (mag x) extend-is some)))
 
-      pub more-written : 64 ≤ m → (r : ℕ) (o : List ℕ) → r ≡ at + 1 + length (writeMore 3 (m / 64)) → o ≡ layAt (at + 1) (writeMore 3 (m / 64)) (set out at (128 + g + m % 64)) → (r ≡ at + length (writeInt x)) × (o ≡ layAt at (writeInt x) out)
-      more-written h r o p q =
-          let w = more-bytes x (omega arith) in
+      pub more-written :
+          (extend ≡ 0 → ⊥) →
+          (r : ℕ) (o : List ℕ) →
+          r ≡ at + 1 + length (writeMore 3 (digits / 64)) →
+          o ≡ layAt (at + 1) (writeMore 3 (digits / 64)) (set out at (extend + sign + digits % 64)) →
+          (r ≡ at + length (writeInt x)) × (o ≡ layAt at (writeInt x) out)
+      more-written some r o p q =
+          let many = long (mag x) extend-is some in
+          let w = more-bytes x many in
           let i : at < length out = omega (arith, ap length w) in
-          rw (w, p, q, e, f, layAt-set at (128 + signBit x + mag x % 64) (writeMore 3 (mag x / 64)) out i)
+          let is-set = extend-is ∙ sym (extend-more (mag x) many) in
+          rw (w, p, q, is-set, sign-is, digits-are, layAt-set at (128 + signBit x + mag x % 64) (writeMore 3 (mag x / 64)) out i)
           (omega arith, refl)

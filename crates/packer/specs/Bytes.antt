@@ -1,11 +1,16 @@
--- The bytes of an integer after its first, at a place of a slice. Assumes nothing.
+-- The extend bit of an integer's first byte, and the bytes after it at a place of a slice. Assumes nothing.
 use mathlib.Core.List.{List}
-use mathlib.Core.Bool.{Bool}
+use mathlib.Core.Bool.{Bool, cond}
 use Prim.Native.Nat.{ℕ}
+use lib.Dec.{ltb}
 use lib.ListN.{length, drop}
 use Rattle.definitions.specs.Outcome.{Outcome}
 use Rattle.definitions.specs.Packed.{more}
 use Rattle.definitions.specs.Packer.{IntAt, placed}
+
+-- bit 7 of the first byte, where the digits are m
+abbrev pub extendBit : ℕ → ℕ
+extendBit m = cond (ltb m 64) 0 128
 
 -- at most n + 1 bytes from a place on: d are the digits so far, and w is the weight of the next one
 unfoldable pub moreAt : List ℕ → ℕ → ℕ → ℕ → ℕ → Bool → Outcome IntAt

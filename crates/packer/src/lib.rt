@@ -17,6 +17,7 @@ ghost use Rattle.definitions.specs.Packer.{readIntCall, writeIntAt, unpackStrea
 ghost use Rattle.laws.specs.WarningLaws.{packed};
 ghost use Rattle.format.specs.Totals.{counts};
 ghost use Rattle.packer.specs.Answers.{intRead, intWrite, unpacked};
+ghost use Rattle.packer.specs.Bytes.{extendBit};
 use checked::pack_at;
 use checked::scan;
 use format::Error;
@@ -74,18 +75,25 @@ pub fn read_int(src: &[u8], at: usize) -> IntRead
     checked::read_int(src, at)
 }
 
-// The digits of an int: x, or -1 - x if x is negative.
-fn magnitude(x: i32) -> u32
-    ensures { λ r. ⌜ (r ≡ mag x) × (r < 2 ^ 31) ⌝ }
+// E: the extend bit of the first byte, set if its six digits do not suffice.
+fn extend_bit(digits: u32) -> u32
+    ensures { λ r. ⌜ (r ≡ extendBit digits) × (r ≤ 128) ⌝ }
 {
-    if x < 0 { !x as u32 } else { x as u32 }
+    if digits < 64 { 0 } else { 128 }
 }
 
-// The sign bit of the first byte.
+// S: the sign bit of the first byte.
 fn sign_bit(x: i32) -> u32
     ensures { λ r. ⌜ (r ≡ signBit x) × (r ≤ 64) ⌝ }
 {
     if x < 0 { 64 } else { 0 }
+}
+
+// D: the digits of an int: x, or -1 - x if x is negative.
+fn magnitude(x: i32) -> u32
+    ensures { λ r. ⌜ (r ≡ mag x) × (r < 2 ^ 31) ⌝ }
+{
+    if x < 0 { !x as u32 } else { x as u32 }
 }
 
 // How many bytes the shortest form of an int takes.
@@ -121,19 +129,21 @@ pub fn write_int(out: &mut [u8], at: usize, int: i32) -> IntWrite
     IntWrite::Next(put_int(out, at, int))
 }
 
-// Writes the shortest form of an int, which fits, into out at a place; returns the place after it.
+// Writes the shortest form of an int, which fits, into out at a place; returns the place after it. The steps stand in the order of the
+// format line.
 fn put_int(out: &mut [u8], at: usize, int: i32) -> usize
     requires { ⌜ at + length (writeInt int) ≤ length (now out) ⌝ }
     ensures { λ r. ⌜ (r ≡ at + length (writeInt int)) × (now (out .exit) ≡ layAt at (writeInt int) (now (out .entry))) ⌝ }
 {
-    let digits = magnitude(int);
-    let sign = sign_bit(int);
-    if digits < 64 {
-        out[at] = (sign + digits) as u8;
+    let extend = extend_bit(magnitude(int)); // E
+    let sign = sign_bit(int); // S
+    let digits = magnitude(int); // D
+    if extend == 0 {
+        out[at] = (sign + digits) as u8; // ESDD_DDDD, E clear
         return at + 1;
     }
-    out[at] = (128 + sign + digits % 64) as u8;
-    write_more(out, at + 1, digits / 64)
+    out[at] = (extend + sign + digits % 64) as u8; // ESDD_DDDD, E set
+    write_more(out, at + 1, digits / 64) // EDDD_DDDD ..
 }
 
 // Writes the digits above the first six into out from a place on; returns the place after them.
@@ -144,10 +154,11 @@ fn write_more(out: &mut [u8], start: usize, digits: u32) -> usize
     let mut at = start;
     let mut left = digits;
     while 128 <= left {
-        out[at] = (128 + left % 128) as u8;
+        out[at] = (128 + left % 128) as u8; // EDDD_DDDD, E set
         left /= 128;
         at += 1;
     }
+    // EDDD_DDDD, E clear. Of a fifth byte, PPPP_DDDD, P is 0: 27 of the 31 digits are written by then, so left is below 16.
     out[at] = left as u8;
     at + 1
 }

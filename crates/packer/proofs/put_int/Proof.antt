@@ -1,5 +1,5 @@
--- `packer::put_int` meets its contract: by the size of the digits. Assumes nothing.
-use mathlib.Core.Path.{_≡_, _∙_}
+-- `packer::put_int` meets its contract: by the extend bit. Assumes nothing.
+use mathlib.Core.Path.{_≡_, ap, _∙_}
 use mathlib.Core.List.{List}
 use Prim.Native.Nat.{ℕ, _<_}
 use native.Mathlib.Omega.{arith}
@@ -9,15 +9,17 @@ use lib.Signed.{mag}
 use mir.Facts.{toZ-ofZ}
 use Rattle.definitions.specs.Packed.{signBit}
 use Rattle.laws.specs.Shortest.{length-writeInt}
+use Rattle.packer.specs.Bytes.{extendBit}
 use Rattle.packer.proofs.Answers.{one-written, room, more-written}
+use Rattle.packer.proofs.Writes.{short}
 use borrow.Author.Needs.{needs}
 use Rattle.packer.proofs.put_int.Statement.{statement}
 use Rattle.packer.proofs.put_int.Tie as tie
 
--- the sign's bit and the digits are known
-module _ (c : tie.After-sign-bit) where
+-- the first byte's bits and digits are known
+module _ (c : tie.After-magnitude2) where
   abbrev start : tie.Start
-  start = c .before .before .before
+  start = c .before .before .before .before .before
 
   abbrev out : List ℕ
   out = start .args .out .now
@@ -28,11 +30,19 @@ module _ (c : tie.After-sign-bit) where
   abbrev int : ℤ
   int = start .args .int
 
-  sign-is : c .sign-bit .result ≡ signBit int
-  sign-is = rw (toZ-ofZ (start .fits .int)) at (c .sign-bit .ensures .0)
+  extend-is : c .before .before .extend-bit .result ≡ extendBit (mag int)
+  extend-is =
+      let digits = c .before .before .before .magnitude .ensures .0 in
+      c .before .before .extend-bit .ensures .0 ∙ ap extendBit (rw (toZ-ofZ (start .fits .int)) at digits)
 
-  digits-are : c .before .magnitude .result ≡ mag int
-  digits-are = rw (toZ-ofZ (start .fits .int)) at (c .before .magnitude .ensures .0)
+  sign-is : c .before .sign-bit .result ≡ signBit int
+  sign-is = rw (toZ-ofZ (start .fits .int)) at (c .before .sign-bit .ensures .0)
+
+  digits-are : c .magnitude2 .result ≡ mag int
+  digits-are = rw (toZ-ofZ (start .fits .int)) at (c .magnitude2 .ensures .0)
+
+  at-most-six : c .before .before .extend-bit .result ≡ 0 → c .magnitude2 .result < 64
+  at-most-six none = omega (arith, digits-are, short (mag int) extend-is none)
 
   inside : at < length out
   inside = omega (arith, start .pre, length-writeInt int)
@@ -40,14 +50,22 @@ module _ (c : tie.After-sign-bit) where
 magnitude-requires : tie.Need-magnitude-requires
 magnitude-requires c κs = search needs
 
+extend-bit-requires : tie.Need-extend-bit-requires
+extend-bit-requires c κs = search needs
+
 sign-bit-requires : tie.Need-sign-bit-requires
 sign-bit-requires c κs = search needs
+
+magnitude-requires-2 : tie.Need-magnitude-requires-2
+magnitude-requires-2 c κs = search needs
 
 add-out : tie.Need-add-out
 add-out c = search needs
 
 cast-out : tie.Need-cast-out
-cast-out c = search needs
+cast-out c =
+    let few = at-most-six (c .before) (c .if1 .taken) in
+    search needs
 
 slice-write-out : tie.Need-slice-write-out
 slice-write-out c = inside (c .before)
@@ -61,7 +79,7 @@ same-length c = search needs
 returns : tie.Need-returns
 returns c =
     let b = c .before in
-    one-written (out b) (at b) (int b) (start b .pre) _ _ (sign-is b) (digits-are b) (c .if1 .taken)
+    one-written (out b) (at b) (int b) (start b .pre) _ _ _ (extend-is b) (sign-is b) (digits-are b) (c .if1 .taken)
 
 add-out-2 : tie.Need-add-out-2
 add-out-2 c = search needs
@@ -81,7 +99,7 @@ add-write-more c = search needs
 write-more-requires : tie.Need-write-more-requires
 write-more-requires c κs =
     let b = c .before .before in
-    let r = room (out b) (at b) (int b) (start b .pre) _ _ (sign-is b) (digits-are b) (c .before .if1 .left) in
+    let r = room (out b) (at b) (int b) (start b .pre) _ _ _ (extend-is b) (sign-is b) (digits-are b) (c .before .if1 .left) in
     (omega arith, simp length-set r)
 
 same-length-2 : tie.Need-same-length-2
@@ -90,15 +108,18 @@ same-length-2 c = c .before .before .write-more .kept .0 ∙ simp length-set
 returns-2 : tie.Need-returns-2
 returns-2 c =
     let b = c .before .before .before .before .before in
+    let some = c .before .before .before .before .if1 .left in
     let w = c .before .before .write-more .ensures in
-    more-written (out b) (at b) (int b) (start b .pre) _ _ (sign-is b) (digits-are b) (c .before .before .before .before .if1 .left) _ _ (w .0) (w .1)
+    more-written (out b) (at b) (int b) (start b .pre) _ _ _ (extend-is b) (sign-is b) (digits-are b) some _ _ (w .0) (w .1)
 
 pub put-int-spec : {M : Type 1} → statement M
 put-int-spec =
     tie.close
     (tie.spec
     magnitude-requires
+    extend-bit-requires
     sign-bit-requires
+    magnitude-requires-2
     add-out
     cast-out
     slice-write-out
