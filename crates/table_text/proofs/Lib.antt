@@ -1,3 +1,3 @@
 -- Lemmas of `table_text`'s proofs. Assumes nothing.
-mod Texts
-mod Listings
+pub mod Texts
+mod Readings

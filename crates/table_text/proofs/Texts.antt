@@ -8,7 +8,7 @@ use native.Mathlib.Omega.{arith}
 use borrow.Author.Tests.{lt-ltb, le-ltb}
 use lib.IntN.{ℤ}
 use lib.ListN.{length, length-set}
-use Rattle.definitions.specs.Outcome.{Outcome}
+use Rattle.definitions.specs.Outcome.{Outcome, ok, err}
 use Rattle.definitions.specs.Tables.{Item, Table, list, items, itemAt, keyAt, valuesAt, crc}
 use Rattle.io.specs.Counts.{Counts}
 use Rattle.io.proofs.Counting.{counts}
@@ -19,7 +19,8 @@ use Rattle.replay_text.specs.Buffer.{Put, putByte, puts}
 use Rattle.replay_text.specs.Numbers.{decimal, signed}
 use Rattle.replay_text.specs.Answers.{next}
 use Rattle.replay_text.proofs.BufferLaws.{then}
-use Rattle.table_text.specs.Listing.{line, itemLine, itemLines, heading, tableText, answerText}
+use Rattle.table_text.specs.Reading.{tabled, unwarned}
+use Rattle.table_text.specs.Listing.{line, itemLine, itemLines, heading, tableText, answerText, listingText}
 
 -- a text, and then another
 pub both-put : (a b : List ℕ) (p : Put) {q w : Put} → puts a p ≡ q → puts b q ≡ w → puts (a ++ b) p ≡ w
@@ -90,6 +91,16 @@ module _ (a : List ℤ) where
 -- the text of what an area holds
 pub held-text : {o v : Outcome Table} (p : Put) {w : Put} → o ≡ v → puts (answerText v) p ≡ w → puts (answerText o) p ≡ w
 held-text p e f = ap (λ (u : Outcome Table). puts (answerText u) p) e ∙ f
+
+-- no text shows warnings
+text-unwarned : (o : Outcome Table) → answerText (unwarned o) ≡ answerText o
+text-unwarned (ok t w) = refl
+text-unwarned (err n w) = refl
+
+-- the text of what was read
+pub listed : (src : List ℕ) {o : Outcome Table} → unwarned (tabled src) ≡ o → listingText src ≡ answerText o
+unfolding listingText
+listed src e = sym (text-unwarned (tabled src)) ∙ ap answerText e
 
 -- ---- a buffer's place stays within it
 

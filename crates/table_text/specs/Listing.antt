@@ -1,15 +1,13 @@
 -- The text that `tablelist` writes, as docs/FORMAT.md describes it. Assumes nothing.
 use mathlib.Core.List.{List, [], _∷_, _++_}
 use Prim.Native.Nat.{ℕ, _/_, _%_}
-use lib.Dec.{leb}
 use lib.IntN.{ℤ}
 use lib.ListN.{length}
-use Rattle.definitions.specs.Refusals.{inputTooLong}
-use Rattle.definitions.specs.Outcome.{Outcome, ok, err, require, _>>_}
+use Rattle.definitions.specs.Outcome.{Outcome, ok, err}
 use Rattle.definitions.specs.Tables.{Item, Table, crc}
-use Rattle.definitions.specs.TableReading.{readPacked}
 use Rattle.replay_text.specs.Numbers.{decimal, signed}
 use Rattle.replay_text.specs.Answers.{next, refused}
+use Rattle.table_text.specs.Reading.{tabled}
 
 -- a text, ended by a newline
 abbrev pub ended : List ℕ → List ℕ
@@ -41,9 +39,6 @@ abbrev pub answerText : Outcome Table → List ℕ
 answerText (ok t w) = tableText t
 answerText (err n w) = ended (refused n)
 
--- the text of a packed table of at most 8,192 bytes; more are refused with 42
+-- the text of at most 8,192 packed bytes; more are refused with 42
 unfoldable pub listingText : List ℕ → List ℕ
-listingText bytes =
-    answerText do
-      require (leb (length bytes) 8192) inputTooLong
-      readPacked bytes
+listingText bytes = answerText (tabled bytes)

@@ -2,14 +2,14 @@
 ghost use mathlib.Core.Path.{_≡_};
 ghost use Prim.Native.Nat.{_/_, _%_};
 ghost use Rattle.definitions.specs.Ints.{bits};
-ghost use Rattle.definitions.specs.Outcome.{refuse};
 ghost use Rattle.definitions.specs.Tables.{items};
 ghost use Rattle.definitions.specs.TableCalls.{held};
 ghost use Rattle.io.specs.Counts.{Counts};
 ghost use Rattle.format.specs.Numbers.{number};
+ghost use Rattle.replay_text.specs.Answers.{refused};
 ghost use Rattle.replay_text.specs.Buffer.{puts};
 ghost use Rattle.table.specs.Held.{Held};
-ghost use Rattle.table_text.specs.Listing.{line, itemLines, heading, answerText, listingText};
+ghost use Rattle.table_text.specs.Listing.{ended, line, itemLines, heading, answerText, listingText};
 use format::Error;
 use format::Stored;
 use replay_text::put;
@@ -19,6 +19,8 @@ use replay_text::put_next;
 use replay_text::put_number;
 use replay_text::put_refused;
 use table::checked::TableForm;
+
+pub mod checked;
 
 // Writes the line of a table at the front of a buffer: how many items, and the sum of their ints.
 fn put_heading(out: &mut [u8], items: usize, sum: i32) -> usize
@@ -60,8 +62,8 @@ fn put_items(out: &mut [u8], at: usize, area: &[i32], n: usize) -> usize
 }
 
 // Writes the line of a refusal at the front of a buffer.
-fn put_refusal(out: &mut [u8], e: Error) -> usize
-    ensures { λ r. ⌜ puts (answerText (refuse (number e))) (record { next = 0; out = now (out .entry) }) ≡ record { next = r; out = now (out .exit) } ⌝ }
+pub fn put_refusal(out: &mut [u8], e: Error) -> usize
+    ensures { λ r. ⌜ puts (ended (refused (number e))) (record { next = 0; out = now (out .entry) }) ≡ record { next = r; out = now (out .exit) } ⌝ }
 {
     let end = put_refused(out, e);
     put_byte(out, end, b'\n')
@@ -83,14 +85,9 @@ pub fn listing(src: &[u8], out: &mut [u8]) -> usize
     ensures { λ r. ⌜ puts (listingText (now (src .entry))) (record { next = 0; out = now (out .entry) }) ≡ record { next = r; out = now (out .exit) } ⌝ }
     ensures { λ r. ⌜ Counts r (now (out .exit)) ⌝ }
 {
-    if 8192 < src.len() {
-        return put_refusal(out, Error::InputTooLong);
-    }
     let mut area = [0i32; 16384];
-    let mut scratch = [0i32; 16384];
-    let read = raw_snap::read(src, &mut area, &mut scratch);
-    let answer = read.answer;
-    match answer {
+    let read = checked::read_table(src, &mut area);
+    match read {
         Stored::Ints(_) => put_table(out, &area),
         Stored::Refused(e) => put_refusal(out, e),
     }

@@ -1,4 +1,4 @@
--- What a listing says, by the result of reading the bytes. Assumes nothing.
+-- What reading a packed table of limited length leaves in an area. Assumes nothing.
 use mathlib.Core.Path.{_≡_, refl, sym, ap, _∙_}
 use mathlib.Core.Bool.{true}
 use mathlib.Core.List.{List}
@@ -18,7 +18,6 @@ use Rattle.definitions.specs.TableReading.{readPacked}
 use Rattle.definitions.specs.TableCalls.{held, storedTable, readCall}
 use Rattle.format.specs.Numbers.{number}
 use Rattle.format.specs.Answers.{storedWith}
-use Rattle.format.specs.declared.Error.{Error}
 use Rattle.format.specs.declared.Stored.{Stored}
 use Rattle.format.specs.declared.Stored.the-variants as answer
 use Rattle.laws.specs.AreaLaws.{lay-append}
@@ -26,12 +25,7 @@ use Rattle.laws.specs.OutcomeLaws.{after-none, ok-not-err}
 use Rattle.laws.specs.TableShape.{both}
 use Rattle.laws.specs.TableRoundTrip.{back}
 use Rattle.laws.specs.TableReadSound.{read-sound}
-use Rattle.table_text.specs.Listing.{answerText, listingText}
-
--- earlier warnings are not listed
-unwarned : (w : Counts) (o : Outcome Table) → answerText (after w o) ≡ answerText o
-unwarned w (ok t v) = refl
-unwarned w (err n v) = refl
+use Rattle.table_text.specs.Reading.{tabled, unwarned, readInto}
 
 -- a sound table that is stored in an area is what the area holds
 laid-held : (t : Table) (out : List ℤ) → sound t ≡ true → length (written t) ≤ length out → held (lay (written t) out) ≡ return t
@@ -61,48 +55,44 @@ err-number e = cc
 
 module _ (src : List ℕ) where
   -- too many bytes
-  pub long-text : 8192 < length src → listingText src ≡ answerText (refuse inputTooLong)
-  unfolding listingText
-  long-text h = rw (lt-leb (length src) 8192 h)
+  pub long-read : 8192 < length src → unwarned (tabled src) ≡ refuse inputTooLong
+  unfolding tabled
+  long-read h = rw (lt-leb (length src) 8192 h)
 
   module _ (few : length src ≤ 8192) where
     -- no more bytes than allowed
-    short-text : listingText src ≡ answerText (readPacked src)
-    unfolding listingText
-    short-text = rw (le-leb (length src) 8192 few) (unwarned none (readPacked src))
+    short-read : tabled src ≡ readPacked src
+    unfolding tabled
+    short-read = rw (le-leb (length src) 8192 few) (after-none (readPacked src))
 
-    module _ (out a : List ℤ) (n : ℕ) (w : Counts) (room : length out ≡ 16384) (more : n ≡ 16384) where
+    module _ (out a : List ℤ) (n : ℕ) (w : Counts) (room : 16384 ≤ length out) (more : n ≡ 16384) where
       -- neither scratch nor the input is judged
       call-is : readCall src out n ≡ storedTable out (readPacked src)
       call-is =
           rw (le-leb 16384 n (omega arith), le-leb (length src) n (omega arith), le-leb (length src) 1048576 (omega arith))
           (ap (storedTable out) (after-none _ ∙ after-none (readPacked src)))
 
-      -- what was stored is the table that was read
-      pub stored-text : (s : Stored) (k : ℕ) → s ≡ answer.Ints k → readCall src out n ≡ record { answer = storedWith s w; out = a } → listingText src ≡ answerText (held a)
-      stored-text s k q e = short-text ∙ go (readPacked src) refl (sym call-is ∙ e ∙ rw q)
+      -- what was stored is the table that was read, and what was refused is what reading refuses
+      pub all-read : (s : Stored) → readCall src out n ≡ record { answer = storedWith s w; out = a } → unwarned (tabled src) ≡ readInto s a
+      all-read s e = ap unwarned short-read ∙ go s (readPacked src) refl (sym call-is ∙ e)
         where
-          go : (o : Outcome Table) → readPacked src ≡ o → storedTable out o ≡ record { answer = ok k w; out = a } → answerText o ≡ answerText (held a)
-          go (ok t v) r d =
+          go :
+              (s : Stored) (o : Outcome Table) → readPacked src ≡ o →
+              storedTable out o ≡ record { answer = storedWith s w; out = a } → unwarned o ≡ readInto s a
+          go (answer.Ints k) (ok t v) r d =
               let s = read-sound src r in
               let l : length (written t) ≤ length out = omega (arith, short t s) in
               let f = stored-is t v out l in
               let g : lay (written t) out ≡ a = ap (λ (x : Wrote ℕ ℤ). x .out) (sym f ∙ d) in
-              sym (ap answerText (ap held (sym g) ∙ laid-held t out s l))
-          go (err m v) r d =
+              sym (ap held (sym g) ∙ laid-held t out s l)
+          go (answer.Ints k) (err m v) r d =
               let f = not-stored m v out in
               absurd (ok-not-err (sym (ap (λ (x : Wrote ℕ ℤ). x .answer) (sym f ∙ d))))
-
-      -- what was refused is what reading refuses
-      pub refused-text : (s : Stored) (z : Error) → s ≡ answer.Refused z → readCall src out n ≡ record { answer = storedWith s w; out = a } → listingText src ≡ answerText (refuse (number z))
-      refused-text s z q e = short-text ∙ go (readPacked src) refl (sym call-is ∙ e ∙ rw q)
-        where
-          go : (o : Outcome Table) → readPacked src ≡ o → storedTable out o ≡ record { answer = err (number z) w; out = a } → answerText o ≡ answerText (refuse (number z))
-          go (ok t v) r d =
+          go (answer.Refused z) (ok t v) r d =
               let l : length (written t) ≤ length out = omega (arith, short t (read-sound src r)) in
               let f = stored-is t v out l in
               absurd (ok-not-err (ap (λ (x : Wrote ℕ ℤ). x .answer) (sym f ∙ d)))
-          go (err m v) r d =
+          go (answer.Refused z) (err m v) r d =
               let f = not-stored m v out in
               let g : err m v ≡ err (number z) w = ap (λ (x : Wrote ℕ ℤ). x .answer) (sym f ∙ d) in
-              ap (λ (i : ℕ). answerText (refuse i)) (err-number g)
+              ap (λ (i : ℕ). refuse i) (err-number g)
