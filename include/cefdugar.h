@@ -67,6 +67,9 @@ extern "C" {
 #define CEF_KNOWN_SIZE_DIFFERS 46u
 #define CEF_NOT_IN_FORM 47u
 
+/* Rules. */
+#define CEF_SHORT_RULE 55u
+
 /* ---- Warnings: the place of each kind in an array of counts ---- */
 
 #define CEF_WARN_OVERLONG_INT_ENCODING 0
@@ -469,6 +472,37 @@ uint32_t cef_builder_add_item(int32_t *area, size_t area_len, uint32_t is_uuid,
  */
 uint32_t cef_builder_finish(const int32_t *area, size_t area_len,
                             size_t *count);
+
+/* ---- Rules ---- */
+
+/*
+ * The items of the `types_len` raw types at `types` are rules; an item of any
+ * other type is none. The list may be of any length and in any order, may
+ * name a type twice, and may name 0. A caller whose rules have a kind of 16
+ * bytes as their type asks cef_snap_raw_type_id first.
+ *
+ * The first three ints of a rule are ingredient, priority and action; what
+ * follows them does not matter. Of the rules for an ingredient the winner is
+ * the one with the highest priority, read as signed, and among equals the one
+ * with the greatest key, read as unsigned. So equal tables have equal
+ * winners, however they were made or received.
+ */
+
+/*
+ * Finds the winner for `ingredient`.
+ *
+ * CEF_OK: *found is 1, *key the winner's key and *action its action, or
+ * *found is 0 and *key and *action are left where no rule is for this
+ * ingredient.
+ * CEF_NOT_IN_FORM: `area` holds no table.
+ * CEF_SHORT_RULE: an item of one of the types has fewer than three ints, for
+ * whatever ingredient, and also where another rule would win.
+ * Judged in this order. Refused: *found, *key and *action are left.
+ */
+uint32_t cef_rule_winner(const int32_t *area, size_t area_len,
+                         const uint16_t *types, size_t types_len,
+                         int32_t ingredient, uint32_t *found, int32_t *key,
+                         int32_t *action);
 
 /* ---- Deltas ---- */
 

@@ -395,6 +395,68 @@ static void check_table_add(void)
     CHECK(count == CEF_TABLE_INTS);
 }
 
+/*
+ * Two rules for ingredient 5 of equal priority, of the types 1 and 0x8000, and
+ * between them an item of type 2 that is too short for a rule.
+ */
+static const int32_t RULES[] = {44, 3,      0, 16,        24, 65537, 5,  -1,
+                                10, 131072, 5, INT32_MIN, 5,  -1,    20, 9};
+
+/* The short name and the allergen in bold. */
+static const int32_t LABELS[] = {32, 2, 0, 16, 65537, 7, 5, 100, -2147483647, 7, 5, 200};
+
+static void check_rules_refused(void)
+{
+    const uint16_t types[] = {1, 2, 0x8000};
+    uint32_t found = LEFT;
+    int32_t key = LEFT;
+    int32_t action = LEFT;
+
+    CHECK(cef_rule_winner(RULES, 0, types, 0, 5, &found, &key, &action) == CEF_NOT_IN_FORM);
+    CHECK(cef_rule_winner(RULES, 15, types, 1, 5, &found, &key, &action) == CEF_NOT_IN_FORM);
+    CHECK(cef_rule_winner(RULES, 15, types, 3, 5, &found, &key, &action) == CEF_NOT_IN_FORM);
+    CHECK(cef_rule_winner(RULES, 16, types, 3, 5, &found, &key, &action) == CEF_SHORT_RULE);
+    CHECK(cef_rule_winner(RULES, 16, types, 3, 6, &found, &key, &action) == CEF_SHORT_RULE);
+    CHECK(cef_rule_winner(RULES, 16, types + 1, 1, 6, &found, &key, &action) == CEF_SHORT_RULE);
+    CHECK(found == LEFT && key == LEFT && action == LEFT);
+}
+
+static void check_rules(void)
+{
+    const uint16_t types[] = {0x8000, 1, 1, 0, 3};
+    int32_t rules[16];
+    uint32_t found = LEFT;
+    int32_t key = LEFT;
+    int32_t action = LEFT;
+
+    /* None for the ingredient, of these types, or of no type. */
+    CHECK(cef_rule_winner(RULES, 16, types, 5, 6, &found, &key, &action) == CEF_OK && found == 0);
+    found = LEFT;
+    CHECK(cef_rule_winner(RULES, 16, types + 3, 2, 5, &found, &key, &action) == CEF_OK);
+    CHECK(found == 0);
+    found = LEFT;
+    CHECK(cef_rule_winner(RULES, 16, types, 0, 5, &found, &key, &action) == CEF_OK && found == 0);
+    CHECK(key == LEFT && action == LEFT);
+
+    CHECK(cef_rule_winner(RULES, 16, types, 5, 5, &found, &key, &action) == CEF_OK && found == 1);
+    CHECK(key == INT32_MIN && action == 20);
+    CHECK(cef_rule_winner(RULES, 16, types + 1, 2, 5, &found, &key, &action) == CEF_OK);
+    CHECK(found == 1 && key == 65537 && action == 10);
+
+    /* The example of README. */
+    CHECK(cef_rule_winner(LABELS, 12, types, 2, 7, &found, &key, &action) == CEF_OK && found == 1);
+    CHECK(key == -2147483647 && action == 200);
+
+    /* The first with a higher priority, then the last. */
+    memcpy(rules, RULES, sizeof rules);
+    rules[7] = 0;
+    CHECK(cef_rule_winner(rules, 16, types, 5, 5, &found, &key, &action) == CEF_OK && found == 1);
+    CHECK(key == 65537 && action == 10);
+    rules[13] = INT32_MAX;
+    CHECK(cef_rule_winner(rules, 16, types, 5, 5, &found, &key, &action) == CEF_OK && found == 1);
+    CHECK(key == INT32_MIN && action == 20);
+}
+
 static void check_delta_create(void)
 {
     /* Keys 3, 65537 and -1 become 3, 65538 and -1. */
@@ -932,6 +994,8 @@ int main(void)
     check_table_read();
     check_table_calls();
     check_table_add();
+    check_rules_refused();
+    check_rules();
     check_delta_create();
     check_delta_write();
     check_delta_read();

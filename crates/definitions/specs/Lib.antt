@@ -25,3 +25,4 @@ pub mod Storage
 pub mod StorageCalls
 pub mod Manager
 pub mod Logbook
+pub mod Rules

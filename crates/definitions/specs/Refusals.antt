@@ -107,3 +107,7 @@ knownSizeDiffers = 46
 -- a table, delta, store or receiver not in its form
 abbrev pub notInForm : ℕ
 notInForm = 47
+
+-- a rule with fewer than three ints
+abbrev pub shortRule : ℕ
+shortRule = 55

@@ -38,3 +38,4 @@ number error.StoreFull = Refusals.storeFull
 number error.InvalidTypeId = Refusals.invalidTypeId
 number error.KnownSizeDiffers = Refusals.knownSizeDiffers
 number error.NotInForm = Refusals.notInForm
+number error.ShortRule = Refusals.shortRule

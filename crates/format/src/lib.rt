@@ -54,6 +54,7 @@ pub enum Error {
     InvalidTypeId,
     KnownSizeDiffers,
     NotInForm,
+    ShortRule,
 }
 
 // The number of a refusal in docs/FORMAT.md.
@@ -93,6 +94,7 @@ pub fn error_number(e: Error) -> u32
         Error::InvalidTypeId => 45,
         Error::KnownSizeDiffers => 46,
         Error::NotInForm => 47,
+        Error::ShortRule => 55,
     }
 }
 

@@ -69,4 +69,6 @@ pub mod ApplyMerge
 pub mod ApplyHalves
 pub mod ApplyWriting
 pub mod WholeLaws
+pub mod RuleLaws
+pub mod RuleCalls
 pub mod Cases

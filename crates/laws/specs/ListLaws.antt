@@ -1,10 +1,15 @@
--- Lists by index. Assumes nothing.
+-- The entries of a list, and lists by index. Assumes nothing.
 use Prim.Native.Nat.{ℕ, zero, suc, _<_}
 use mathlib.Core.Path.{_≡_, refl, ap, _∙_}
 use mathlib.Core.List.{List, [], _∷_, _++_}
 use native.Mathlib.Omega.{arith}
 use lib.ListN.{length, getD}
 use Rattle.definitions.specs.Tables.{list}
+
+-- one of a list
+pub data Among {A : Type 0} (a : A) : List A → Type 0 where
+  here : {l : List A} → Among a (a ∷ l)
+  there : {b : A} {l : List A} → Among a l → Among a (b ∷ l)
 
 module _ {X : Type 0} where
   -- the first one, and then the others

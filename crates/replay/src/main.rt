@@ -9,6 +9,7 @@ mod fields;
 mod manager_cases;
 mod packer_cases;
 mod receiver_cases;
+mod rule_cases;
 mod snap_cases;
 mod state;
 mod storage_cases;
@@ -26,6 +27,7 @@ use state::State;
 enum Subject {
     Packer,
     Tables,
+    Rules,
     Deltas,
     Snaps,
     Receiver,
@@ -46,6 +48,18 @@ fn snaps_or_storage(name: &[u8]) -> Subject {
     }
 }
 
+// Receiver or rules, by the second letter.
+fn receiver_or_rules(name: &[u8]) -> Subject {
+    if name.len() < 2 {
+        return Subject::None;
+    }
+    match name[1] {
+        b'e' => Subject::Receiver,
+        b'u' => Subject::Rules,
+        _ => Subject::None,
+    }
+}
+
 // The subject with a name, by its first letter.
 fn subject_of(name: &[u8]) -> Subject {
     let letter = letter(name);
@@ -53,7 +67,7 @@ fn subject_of(name: &[u8]) -> Subject {
         b'p' => Subject::Packer,
         b't' => Subject::Tables,
         b'd' => Subject::Deltas,
-        b'r' => Subject::Receiver,
+        b'r' => receiver_or_rules(name),
         b'm' => Subject::Manager,
         b's' => snaps_or_storage(name),
         _ => Subject::None,
@@ -71,6 +85,7 @@ fn answer(
     let line = match subject {
         Subject::Packer => packer_cases::answer(case),
         Subject::Tables => table_cases::answer(case),
+        Subject::Rules => rule_cases::answer(case),
         Subject::Deltas => delta_cases::answer(case),
         Subject::Snaps => snap_cases::answer(case),
         Subject::Receiver => return receiver_cases::answer(state, case, parts),

@@ -32,6 +32,7 @@ pub mod ControllerState
 pub mod ControllerRun
 pub mod ControllerClaims
 pub mod Demand
+pub mod Printing
 pub mod Sufficing
 pub mod Example
 pub mod ExampleKinds

@@ -23,15 +23,11 @@ use Rattle.definitions.specs.Storage.{StoredSnap, Storage, storageOf}
 use Rattle.definitions.specs.StorageCalls.{Added}
 use Rattle.definitions.specs.Logbook.{Logbook, freshLogbook, acknowledges}
 use Rattle.laws.specs.BuilderForm.{Built}
+pub use Rattle.laws.specs.ListLaws.{Among, here, there}
 use Rattle.session.specs.Lengths.{storeAreaInts, deltaAreaInts, packedBytes}
 use Rattle.session.specs.Runs.{ControllerCall, addSnap, setDeltaTick, Controller, ControllerStep, controllerCall, freshController, afterCalls, Accepted, acceptedAs, acceptedFrom, packed, chunksOf, emptyMessage, messagesOf, Printer, freshPrinter, PrinterCall, message, printerCall, afterReceived, messagesIn, answerOf, answers, afterNotes, noted}
 use Rattle.session.specs.ControllerList.{toldFrom, storageTold}
 use Rattle.session.specs.SendingCalls.{cutCalls, sendCalls}
-
--- one of a list
-pub data Among {A : Type 0} (a : A) : List A → Type 0 where
-  here : {l : List A} → Among a (a ∷ l)
-  there : {b : A} {l : List A} → Among a l → Among a (b ∷ l)
 
 -- all of a list
 pub data All {A : Type 0} (P : A → Type 0) : List A → Type 0 where

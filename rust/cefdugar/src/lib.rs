@@ -10,6 +10,7 @@ pub mod manager;
 pub mod messages;
 pub mod plain;
 pub mod receiver;
+pub mod rules;
 pub mod snap;
 pub mod storage;
 mod sys;
@@ -54,6 +55,7 @@ impl Refusal {
     pub const INVALID_TYPE_ID: Refusal = Refusal(45);
     pub const KNOWN_SIZE_DIFFERS: Refusal = Refusal(46);
     pub const NOT_IN_FORM: Refusal = Refusal(47);
+    pub const SHORT_RULE: Refusal = Refusal(55);
 }
 
 impl fmt::Display for Refusal {

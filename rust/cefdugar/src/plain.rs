@@ -247,6 +247,31 @@ pub fn table_add_item(
     }
 }
 
+/// The key and the action of the rule that wins for an ingredient among the
+/// items of the raw types in `types`: `found` is 1, or 0 where there is none,
+/// which leaves `key` and `action`. Refused (47, 55): all three are left.
+pub fn rule_winner(
+    area: &[i32],
+    types: &[u16],
+    ingredient: i32,
+    found: &mut u32,
+    key: &mut i32,
+    action: &mut i32,
+) -> u32 {
+    unsafe {
+        sys::cef_rule_winner(
+            area.as_ptr(),
+            area.len(),
+            types.as_ptr(),
+            types.len(),
+            ingredient,
+            found,
+            key,
+            action,
+        )
+    }
+}
+
 /// Writes the empty delta to the front of `out`. Refused (40): `out` and
 /// `count` are left.
 pub fn delta_clear(out: &mut [i32], count: &mut usize) -> u32 {

@@ -122,6 +122,16 @@ extern "C" {
         values_len: usize,
         count: *mut usize,
     ) -> u32;
+    pub fn cef_rule_winner(
+        area: *const i32,
+        area_len: usize,
+        types: *const u16,
+        types_len: usize,
+        ingredient: i32,
+        found: *mut u32,
+        key: *mut i32,
+        action: *mut i32,
+    ) -> u32;
     pub fn cef_delta_clear(out: *mut i32, out_len: usize, count: *mut usize) -> u32;
     pub fn cef_delta_create(
         base: *const i32,

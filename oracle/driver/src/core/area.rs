@@ -1,7 +1,7 @@
 //! Lent areas: filled with a known pattern, with guards on both sides, so
 //! that every entry that was written can be told from one that was not.
 
-/// The entries of an area: bytes or ints.
+/// The entries of an area: bytes, types or ints.
 pub trait Pattern: Copy + PartialEq + std::fmt::Debug {
     /// The initial value of place `i`.
     fn pattern(i: usize) -> Self;
@@ -10,6 +10,12 @@ pub trait Pattern: Copy + PartialEq + std::fmt::Debug {
 impl Pattern for u8 {
     fn pattern(i: usize) -> u8 {
         (i as u8).wrapping_mul(29) ^ 0xa5
+    }
+}
+
+impl Pattern for u16 {
+    fn pattern(i: usize) -> u16 {
+        (i as u16).wrapping_mul(0x1d35) ^ 0xa53c
     }
 }
 

@@ -62,7 +62,7 @@ macro_rules! shrink_number {
     )*};
 }
 
-shrink_number!(u8, i32, usize, isize);
+shrink_number!(u8, u16, i32, usize, isize);
 
 impl<T: Shrink> Shrink for Vec<T> {
     fn offer(&self, take: &mut dyn FnMut(Vec<T>) -> bool) -> bool {

@@ -9,6 +9,7 @@ mod examples;
 mod manager;
 mod packer;
 mod receiver;
+mod rules;
 mod sessions;
 mod snaps;
 mod storage;
@@ -41,6 +42,7 @@ pub fn all() -> Vec<Part> {
         examples::part(),
         packer::part(),
         tables::part(),
+        rules::part(),
         deltas::part(),
         receiver::part(),
         snaps::part(),

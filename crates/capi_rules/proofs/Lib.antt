@@ -1,0 +1,2 @@
+-- Lemmas of `capi_rules`' proofs. Assumes nothing.
+mod Outputs

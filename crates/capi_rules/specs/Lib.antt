@@ -1,0 +1,2 @@
+-- How the winner looks from C. Assumes nothing.
+pub mod Winners

@@ -1,0 +1,3 @@
+-- Lemmas of `rules`' proofs. Assumes nothing.
+mod Bests
+mod Turns
