@@ -17,7 +17,7 @@ use Rattle.definitions.specs.Warnings.{Counts}
 use Rattle.definitions.specs.Outcome.{Outcome, ok, err, return, refuse, require, _>>=_, _>>_}
 use Rattle.definitions.specs.Packed.{packInts}
 use Rattle.definitions.specs.Stored.{stored}
-use Rattle.definitions.specs.Tables.{Table, body, offsets, written, rising, sound, tableOf}
+use Rattle.definitions.specs.Tables.{Table, body, offsets, written, rising, tableOf}
 use Rattle.definitions.specs.TableReading.{readTable, readPacked}
 use Rattle.definitions.specs.TableCalls.{held, storedTable, readFromIntsCall, readCall, writeToIntsCall, writeCall}
 use Rattle.definitions.specs.DeltaReading.{elem}
@@ -30,13 +30,13 @@ use Rattle.laws.specs.TickLaws.{both-ways}
 use Rattle.laws.specs.OutcomeLaws.{ok-value, ok-not-err, after-none}
 use Rattle.laws.specs.AreaLaws.{lay-append}
 use Rattle.laws.specs.PackLaws.{length-packInts, Whole, nil, cons, read-packed}
-use Rattle.laws.specs.TableShape.{both}
 use Rattle.laws.specs.TableForm.{length-written}
 use Rattle.laws.specs.TableRoundTrip.{soundly}
 use Rattle.laws.specs.TableReadBack.{read-written}
 use Rattle.laws.specs.TableEach.{no-more, one, WholeTable}
 use Rattle.laws.specs.TableWalk.{rises}
 use Rattle.laws.specs.StoreForm.{sound-short}
+use Rattle.laws.specs.DeltaMade.{facts}
 use Rattle.laws.specs.DeltaWhole.{whole-append, whole-number}
 use Rattle.laws.specs.BuilderCalls.{laid-held}
 use Rattle.laws.specs.BuildAll.{Add, AllGiven, callAll, equal-tables}
@@ -56,9 +56,7 @@ winner-none (some r) e = let z : _≡_ {A = ℕ} 0 1 = cc in absurd (omega arith
 
 -- a table in form has rising keys
 held-rises : (area : List ℤ) (t : Table) → tableOf area ≡ some t → rising 0 t ≡ true
-unfolding sound
-held-rises area t e =
-    let p = both (leb (length t) 1024) _ (soundly area t e .1) in both (leb (length (written t)) 16384) _ (p .1) .1
+held-rises area t e = facts t (soundly area t e .1) .rises
 
 -- an area that is not in form is refused as 47
 pub not-in-form : (area : List ℤ) (types : List ℕ) (i : ℤ) → tableOf area ≡ none → winnerCall area types i ≡ refuse notInForm

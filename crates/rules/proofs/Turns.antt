@@ -108,7 +108,7 @@ module _ (types : List ℕ) (i : ℤ) (a : List ℤ) (n : ℕ) (h : Held a n) wh
       go (some r) = refl
       go none = refl
 
-  -- item m, before which k - 1 others are left
+  -- item m, if those from the next one on were looked at
   module _ (m k : ℕ) (l : m < n) (one : k ≡ m + 1) where
     -- it comes before the items that were looked at
     next : drop m (items a) ≡ itemAt a m ∷ drop k (items a)

@@ -4,10 +4,9 @@ use mathlib.Core.Bool.{true}
 use mathlib.Core.List.{List}
 use Prim.Native.Nat.{ℕ, _<_, _≤_}
 use native.Mathlib.Omega.{arith}
-use borrow.Author.Tests.{le-leb, lt-leb, leb-true}
-use lib.Dec.{leb}
+use borrow.Author.Tests.{le-leb, lt-leb}
 use lib.IntN.{ℤ}
-use lib.ListN.{length, drop}
+use lib.ListN.{length}
 use Rattle.definitions.specs.Areas.{lay}
 use Rattle.definitions.specs.Refusals.{inputTooLong}
 use Rattle.definitions.specs.Warnings.{Counts, none, plus}
@@ -20,17 +19,16 @@ use Rattle.format.specs.Numbers.{number}
 use Rattle.format.specs.Answers.{storedWith}
 use Rattle.format.specs.declared.Stored.{Stored}
 use Rattle.format.specs.declared.Stored.the-variants as answer
-use Rattle.laws.specs.AreaLaws.{lay-append}
 use Rattle.laws.specs.OutcomeLaws.{after-none, ok-not-err}
-use Rattle.laws.specs.TableShape.{both}
-use Rattle.laws.specs.TableRoundTrip.{back}
+use Rattle.laws.specs.BuilderCalls.{laid-held as laid}
+use Rattle.laws.specs.StoreForm.{sound-short}
 use Rattle.laws.specs.TableReadSound.{read-sound}
 use Rattle.table_text.specs.Reading.{tabled, unwarned, readInto}
 
 -- a sound table that is stored in an area is what the area holds
 laid-held : (t : Table) (out : List ℤ) → sound t ≡ true → length (written t) ≤ length out → held (lay (written t) out) ≡ return t
 unfolding held
-laid-held t out s l = rw (lay-append (written t) out l, back t (drop (length (written t)) out) s)
+laid-held t out s l = rw (laid t out s l)
 
 -- a table that fits is stored
 stored-is : (t : Table) (v : Counts) (out : List ℤ) → length (written t) ≤ length out → storedTable out (ok t v) ≡ record { answer = ok (length (written t)) (plus v none); out = lay (written t) out }
@@ -41,13 +39,6 @@ stored-is t v out l = rw (le-leb (length (written t)) (length out) l)
 not-stored : (m : ℕ) (v : Counts) (out : List ℤ) → storedTable out (err m v) ≡ record { answer = err m v; out = out }
 unfolding stored
 not-stored m v out = refl
-
--- its written form is not longer than 16,384 ints
-short : (t : Table) → sound t ≡ true → length (written t) ≤ 16384
-unfolding sound
-short t s =
-    let p = both (leb (length t) 1024) _ s in
-    leb-true _ _ (both (leb (length (written t)) 16384) _ (p .1) .0)
 
 -- equal refusals have equal numbers
 err-number : {m n : ℕ} {v w : Counts} → _≡_ {A = Outcome ℕ} (err m v) (err n w) → m ≡ n
@@ -81,7 +72,7 @@ module _ (src : List ℕ) where
               storedTable out o ≡ record { answer = storedWith s w; out = a } → unwarned o ≡ readInto s a
           go (answer.Ints k) (ok t v) r d =
               let s = read-sound src r in
-              let l : length (written t) ≤ length out = omega (arith, short t s) in
+              let l : length (written t) ≤ length out = omega (arith, sound-short t s) in
               let f = stored-is t v out l in
               let g : lay (written t) out ≡ a = ap (λ (x : Wrote ℕ ℤ). x .out) (sym f ∙ d) in
               sym (ap held (sym g) ∙ laid-held t out s l)
@@ -89,7 +80,7 @@ module _ (src : List ℕ) where
               let f = not-stored m v out in
               absurd (ok-not-err (sym (ap (λ (x : Wrote ℕ ℤ). x .answer) (sym f ∙ d))))
           go (answer.Refused z) (ok t v) r d =
-              let l : length (written t) ≤ length out = omega (arith, short t (read-sound src r)) in
+              let l : length (written t) ≤ length out = omega (arith, sound-short t (read-sound src r)) in
               let f = stored-is t v out l in
               absurd (ok-not-err (ap (λ (x : Wrote ℕ ℤ). x .answer) (sym f ∙ d)))
           go (answer.Refused z) (err m v) r d =
