@@ -11,7 +11,8 @@ static const int32_t no_sizes[1], no_kind[CEF_UUID_INTS], rule[] = {42, 7, 1};
 int main(void) {
     /* Controller: build a table with one item of type 1 and id 5, add it at tick 0, pack its delta. */
     cef_storage c;
-    int32_t base, clash, crc;
+    cef_tick base;
+    int32_t clash, crc;
     size_t count, ints, bytes;
     cef_storage_new(c.ticks, c.counts);
     cef_builder_new(table, CEF_TABLE_INTS, &count);
@@ -29,7 +30,7 @@ int main(void) {
     /* Printer: the message goes to the manager, which holds the table and acknowledges its tick. */
     cef_manager p;
     uint32_t taken = 0;
-    int32_t ack;
+    cef_tick ack;
     size_t warnings[CEF_WARNINGS];
     cef_manager_new(p.receiver.ticks, p.receiver.counts, p.receiver.lengths, p.storage.ticks, p.storage.counts);
     uint32_t refusal = cef_manager_snap_single(

@@ -23,6 +23,17 @@
 extern "C" {
 #endif
 
+/* ---- Ticks and distances ---- */
+
+/*
+ * A tick is the number of a table; a distance is how far a table's tick lies
+ * past its base's. They are two sorts of count: comparing a tick with a
+ * distance makes no sense, and only a subtraction relates them, which wraps:
+ * the base's tick is the table's tick minus the distance.
+ */
+typedef int32_t cef_tick;
+typedef int32_t cef_distance;
+
 /* ---- Answers ---- */
 
 #define CEF_OK 0u
@@ -676,8 +687,8 @@ uint32_t cef_num_chunks(const uint8_t *data, size_t data_len, size_t *count);
 
 /*
  * Message `i` of those that carry the `data_len` bytes of a delta from the
- * table of tick `delta_tick` to that of tick `tick`, whose sum is `crc`. The
- * distance of the two ticks wraps.
+ * table of tick `delta_tick` to that of tick `tick`, whose sum is `crc`. In
+ * place of `delta_tick` the message carries the distance, which wraps.
  *
  * CEF_OK: *kind is set. Where it is not CEF_MESSAGE_NONE, `numbers` are those
  * of the message, 0 where it has no such number, and *len is how many bytes
@@ -685,7 +696,7 @@ uint32_t cef_num_chunks(const uint8_t *data, size_t data_len, size_t *count);
  * *len is 0.
  * CEF_INPUT_TOO_LONG: *kind, `numbers` and *len are left.
  */
-uint32_t cef_chunk(int32_t tick, int32_t delta_tick, const uint8_t *data,
+uint32_t cef_chunk(cef_tick tick, cef_tick delta_tick, const uint8_t *data,
                    size_t data_len, int32_t crc, size_t i, uint32_t *kind,
                    int32_t numbers[CEF_MESSAGE_NUMBERS], size_t *len);
 
@@ -738,7 +749,8 @@ void cef_receiver_reset(int32_t ticks[4], uint32_t counts[3],
  * Takes a part of a delta, with the message's five numbers and its bytes.
  * Part p goes to byte CEF_PART_BYTES * p of the `parts_len` bytes at `parts`;
  * the last part missing joins all of them in the front of the `joined_len`
- * bytes at `joined`.
+ * bytes at `joined`. The first part of a tick fixes base, part count and sum
+ * of the delta.
  *
  * CEF_OK: *kind is set. Where it is CEF_RECEIVED_DELTA, `received` are the
  * numbers of the delta, and *len bytes stand in `joined`. Else `received`,
@@ -752,13 +764,16 @@ void cef_receiver_reset(int32_t ticks[4], uint32_t counts[3],
  * `warnings`.
  *
  * `warnings`: all counts of this call are set, refused or not.
+ * CEF_WARN_DIFFERING_ATTRIBUTES is counted once if the part's base, part count
+ * or sum is not the one that the first part of its tick fixed, also if the
+ * part is then refused with CEF_DUPLICATE_PART.
  */
 uint32_t cef_receiver_snap(int32_t ticks[4], uint32_t counts[3],
-                           uint16_t lengths[CEF_PARTS], int32_t tick,
-                           int32_t delta_tick, int32_t num_parts, int32_t part,
-                           int32_t crc, const uint8_t *data, size_t data_len,
-                           uint8_t *parts, size_t parts_len, uint8_t *joined,
-                           size_t joined_len, uint32_t *kind,
+                           uint16_t lengths[CEF_PARTS], cef_tick tick,
+                           cef_distance distance, int32_t num_parts,
+                           int32_t part, int32_t crc, const uint8_t *data,
+                           size_t data_len, uint8_t *parts, size_t parts_len,
+                           uint8_t *joined, size_t joined_len, uint32_t *kind,
                            int32_t received[CEF_RECEIVED_NUMBERS], size_t *len,
                            size_t warnings[CEF_WARNINGS]);
 
@@ -768,8 +783,8 @@ uint32_t cef_receiver_snap(int32_t ticks[4], uint32_t counts[3],
  * CEF_PART_TOO_LONG, CEF_RECEIVER_OLD_DELTA.
  */
 uint32_t cef_receiver_snap_single(int32_t ticks[4], uint32_t counts[3],
-                                  uint16_t lengths[CEF_PARTS], int32_t tick,
-                                  int32_t delta_tick, int32_t crc,
+                                  uint16_t lengths[CEF_PARTS], cef_tick tick,
+                                  cef_distance distance, int32_t crc,
                                   const uint8_t *data, size_t data_len,
                                   uint8_t *joined, size_t joined_len,
                                   uint32_t *kind,
@@ -781,8 +796,8 @@ uint32_t cef_receiver_snap_single(int32_t ticks[4], uint32_t counts[3],
  * Refused: CEF_NOT_IN_FORM, CEF_RECEIVER_OLD_DELTA, as cef_receiver_snap.
  */
 uint32_t cef_receiver_snap_empty(int32_t ticks[4], uint32_t counts[3],
-                                 uint16_t lengths[CEF_PARTS], int32_t tick,
-                                 int32_t delta_tick, uint32_t *kind,
+                                 uint16_t lengths[CEF_PARTS], cef_tick tick,
+                                 cef_distance distance, uint32_t *kind,
                                  int32_t received[CEF_RECEIVED_NUMBERS],
                                  size_t *len, size_t warnings[CEF_WARNINGS]);
 
@@ -838,7 +853,7 @@ void cef_storage_reset(int32_t ticks[2], uint32_t counts[3], int32_t *area,
  */
 uint32_t cef_storage_snap_tick(const int32_t ticks[2],
                                const uint32_t counts[3], const int32_t *area,
-                               size_t area_len, size_t i, int32_t *tick,
+                               size_t area_len, size_t i, cef_tick *tick,
                                uint32_t *end);
 
 /*
@@ -867,7 +882,7 @@ uint32_t cef_storage_snap(const int32_t ticks[2], const uint32_t counts[3],
  * `warnings`: all counts of this call are set, refused or not.
  */
 uint32_t cef_storage_set_delta_tick(int32_t ticks[2], uint32_t counts[3],
-                                    int32_t tick, int32_t *area,
+                                    cef_tick tick, int32_t *area,
                                     size_t area_len,
                                     size_t warnings[CEF_WARNINGS]);
 
@@ -889,10 +904,10 @@ uint32_t cef_storage_set_delta_tick(int32_t ticks[2], uint32_t counts[3],
  * outputs but the key of CEF_DELTA_DIFFERING_SIZES.
  */
 uint32_t cef_storage_add_snap(int32_t ticks[2], uint32_t counts[3],
-                              int32_t tick, const int32_t *table,
+                              cef_tick tick, const int32_t *table,
                               size_t table_len, int32_t *delta,
                               size_t delta_len, int32_t *area,
-                              size_t area_len, int32_t *base, size_t *count,
+                              size_t area_len, cef_tick *base, size_t *count,
                               int32_t *clash);
 
 /*
@@ -921,7 +936,7 @@ uint32_t cef_storage_add_snap(int32_t ticks[2], uint32_t counts[3],
  */
 uint32_t cef_storage_add_delta(int32_t ticks[2], uint32_t counts[3],
                                uint32_t has_crc, int32_t crc,
-                               int32_t delta_tick, int32_t tick,
+                               cef_tick delta_tick, cef_tick tick,
                                const int32_t *delta, size_t delta_len,
                                int32_t *area, size_t area_len,
                                int32_t *scratch, size_t scratch_len,
@@ -995,14 +1010,15 @@ void cef_manager_reset(int32_t receiver_ticks[4], uint32_t receiver_counts[3],
 uint32_t cef_manager_snap(int32_t receiver_ticks[4],
                           uint32_t receiver_counts[3],
                           uint16_t lengths[CEF_PARTS], int32_t ticks[2],
-                          uint32_t counts[3], int32_t tick, int32_t delta_tick,
-                          int32_t num_parts, int32_t part, int32_t crc,
-                          const uint8_t *data, size_t data_len,
-                          const int32_t *sizes, size_t sizes_len,
-                          uint8_t *parts, size_t parts_len, uint8_t *joined,
-                          size_t joined_len, int32_t *delta, size_t delta_len,
-                          int32_t *area, size_t area_len, int32_t *scratch,
-                          size_t scratch_len, uint32_t *taken, int32_t *ack,
+                          uint32_t counts[3], cef_tick tick,
+                          cef_distance distance, int32_t num_parts,
+                          int32_t part, int32_t crc, const uint8_t *data,
+                          size_t data_len, const int32_t *sizes,
+                          size_t sizes_len, uint8_t *parts, size_t parts_len,
+                          uint8_t *joined, size_t joined_len, int32_t *delta,
+                          size_t delta_len, int32_t *area, size_t area_len,
+                          int32_t *scratch, size_t scratch_len,
+                          uint32_t *taken, cef_tick *ack,
                           size_t warnings[CEF_WARNINGS]);
 
 /*
@@ -1012,11 +1028,11 @@ uint32_t cef_manager_snap(int32_t receiver_ticks[4],
 uint32_t cef_manager_snap_single(
     int32_t receiver_ticks[4], uint32_t receiver_counts[3],
     uint16_t lengths[CEF_PARTS], int32_t ticks[2], uint32_t counts[3],
-    int32_t tick, int32_t delta_tick, int32_t crc, const uint8_t *data,
+    cef_tick tick, cef_distance distance, int32_t crc, const uint8_t *data,
     size_t data_len, const int32_t *sizes, size_t sizes_len, uint8_t *parts,
     size_t parts_len, uint8_t *joined, size_t joined_len, int32_t *delta,
     size_t delta_len, int32_t *area, size_t area_len, int32_t *scratch,
-    size_t scratch_len, uint32_t *taken, int32_t *ack,
+    size_t scratch_len, uint32_t *taken, cef_tick *ack,
     size_t warnings[CEF_WARNINGS]);
 
 /*
@@ -1028,10 +1044,10 @@ uint32_t cef_manager_snap_single(
 uint32_t cef_manager_snap_empty(
     int32_t receiver_ticks[4], uint32_t receiver_counts[3],
     uint16_t lengths[CEF_PARTS], int32_t ticks[2], uint32_t counts[3],
-    int32_t tick, int32_t delta_tick, uint8_t *parts, size_t parts_len,
+    cef_tick tick, cef_distance distance, uint8_t *parts, size_t parts_len,
     uint8_t *joined, size_t joined_len, int32_t *delta, size_t delta_len,
     int32_t *area, size_t area_len, int32_t *scratch, size_t scratch_len,
-    uint32_t *taken, int32_t *ack, size_t warnings[CEF_WARNINGS]);
+    uint32_t *taken, cef_tick *ack, size_t warnings[CEF_WARNINGS]);
 
 #ifdef __cplusplus
 }

@@ -961,7 +961,7 @@ static void check_receiver(void)
     CHECK(memcmp(&r, &before, sizeof r) == 0 && kind == LEFT && len == LEFT);
     CHECK(ints_left(got, 0, CEF_RECEIVED_NUMBERS));
     CHECK(SNAP(9, 2, 1, 2, sizeof parts) == CEF_OK && kind == CEF_RECEIVED_NOTHING);
-    CHECK(warnings[CEF_WARN_DIFFERING_ATTRIBUTES] == 1 && parts[900] == 1 && len == LEFT);
+    CHECK(only(warnings, -1) && parts[900] == 1 && len == LEFT);
     CHECK(SNAP(9, 2, 1, 2, sizeof parts) == CEF_DUPLICATE_PART);
     CHECK(SNAP(8, 2, 1, 2, sizeof parts) == CEF_RECEIVER_OLD_DELTA);
     CHECK(SNAP(9, 2, 0, 3, sizeof parts) == CEF_OK && kind == CEF_RECEIVED_DELTA && len == 5);
@@ -982,6 +982,73 @@ static void check_receiver(void)
     r.lengths[0] = 0;
     CHECK(cef_receiver_snap_empty(r.ticks, r.counts, r.lengths, 12, 1, &kind, got, &len,
                                   warnings) == CEF_NOT_IN_FORM);
+}
+
+/* What a part's call sets, beside its receiver. */
+struct taken {
+    uint32_t kind;
+    int32_t got[CEF_RECEIVED_NUMBERS];
+    size_t warnings[CEF_WARNINGS];
+};
+
+/* A part of one byte. */
+static uint32_t take(cef_receiver *r, struct taken *t, cef_tick tick, cef_distance distance,
+                     int32_t count, int32_t part, int32_t sum)
+{
+    static uint8_t parts[CEF_PART_AREA_BYTES];
+    static uint8_t joined[CEF_PART_AREA_BYTES];
+    const uint8_t data[1] = {1};
+    size_t len;
+
+    return cef_receiver_snap(r->ticks, r->counts, r->lengths, tick, distance, count, part, sum,
+                             data, 1, parts, sizeof parts, joined, sizeof joined, &t->kind,
+                             t->got, &len, t->warnings);
+}
+
+/* The two parts of a delta, the second one first, count no warning. */
+static void check_own_parts(void)
+{
+    const uint8_t data[CEF_PART_BYTES + 1] = {1};
+    int32_t n[CEF_MESSAGE_NUMBERS];
+    uint32_t kind;
+    size_t len;
+    cef_receiver r;
+    struct taken t;
+
+    cef_receiver_new(r.ticks, r.counts, r.lengths);
+    for (size_t i = 2; i-- > 0;) {
+        CHECK(cef_chunk(9, 5, data, sizeof data, 6, i, &kind, n, &len) == CEF_OK);
+        CHECK(take(&r, &t, n[CEF_MESSAGE_TICK], n[CEF_MESSAGE_DISTANCE], n[CEF_MESSAGE_NUM_PARTS],
+                   n[CEF_MESSAGE_PART], n[CEF_MESSAGE_CRC]) == CEF_OK);
+        CHECK(only(t.warnings, -1));
+    }
+    CHECK(t.kind == CEF_RECEIVED_DELTA && t.got[CEF_RECEIVED_DELTA_TICK] == 5);
+}
+
+/* The warning of a part whose base, part count or sum is not the first part's. */
+static void check_differing(void)
+{
+    const int differs = CEF_WARN_DIFFERING_ATTRIBUTES;
+    cef_receiver r;
+    struct taken t;
+
+    cef_receiver_new(r.ticks, r.counts, r.lengths);
+    CHECK(take(&r, &t, 10, 5, 5, 0, -6) == CEF_OK && only(t.warnings, -1));
+    CHECK(take(&r, &t, 10, 4, 5, 1, -6) == CEF_OK && only(t.warnings, differs));
+    CHECK(take(&r, &t, 10, 5, 4, 2, -6) == CEF_OK && only(t.warnings, differs));
+    CHECK(take(&r, &t, 10, 5, 5, 3, 6) == CEF_OK && only(t.warnings, differs));
+    /* A part that is refused as a duplicate is still compared, one refused before is not. */
+    CHECK(take(&r, &t, 10, 5, 5, 3, 6) == CEF_DUPLICATE_PART && only(t.warnings, differs));
+    CHECK(take(&r, &t, 10, 5, 5, 3, -6) == CEF_DUPLICATE_PART && only(t.warnings, -1));
+    CHECK(take(&r, &t, 10, 4, 33, 3, 6) == CEF_INVALID_NUM_PARTS && only(t.warnings, -1));
+    CHECK(take(&r, &t, 10, 5, 5, 4, -6) == CEF_OK && only(t.warnings, -1));
+    CHECK(t.kind == CEF_RECEIVED_DELTA && t.got[CEF_RECEIVED_DELTA_TICK] == 5);
+    CHECK(t.got[CEF_RECEIVED_CRC] == -6);
+    /* The first part of a newer tick fixes all three again. The base wraps. */
+    CHECK(take(&r, &t, 11, 1, 3, 0, 7) == CEF_OK && only(t.warnings, -1));
+    CHECK(take(&r, &t, INT32_MAX, -1, 2, 0, 8) == CEF_OK && only(t.warnings, -1));
+    CHECK(take(&r, &t, INT32_MAX, -1, 2, 1, 8) == CEF_OK && only(t.warnings, -1));
+    CHECK(t.kind == CEF_RECEIVED_DELTA && t.got[CEF_RECEIVED_DELTA_TICK] == INT32_MIN);
 }
 
 int main(void)
@@ -1006,6 +1073,8 @@ int main(void)
     check_builder();
     check_chunks();
     check_receiver();
+    check_own_parts();
+    check_differing();
     check_storage();
     check_manager();
     printf("C program: %d checks, %d not so\n", checks, failures);

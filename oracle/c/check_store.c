@@ -23,9 +23,9 @@ void check_storage(void)
     const int32_t held[14] = {3, 5, 8, 1, 0, 65537, 5};
     int32_t delta[8];
     size_t warnings[CEF_WARNINGS];
-    int32_t base = LEFT;
+    cef_tick base = LEFT;
     int32_t clash = LEFT;
-    int32_t tick = LEFT;
+    cef_tick tick = LEFT;
     uint32_t end = LEFT;
     size_t count = LEFT;
 
@@ -95,20 +95,26 @@ void check_manager(void)
     int32_t delta[8];
     size_t warnings[CEF_WARNINGS];
     uint32_t taken = LEFT;
-    int32_t ack = LEFT;
+    cef_tick ack = LEFT;
 
     cef_manager_new(r.ticks, r.counts, r.lengths, ticks, counts);
     fill_ints(delta, 8);
 #define LENT(least)                                                                           \
     parts, sizeof parts, joined, sizeof joined, delta, 8, area, 14, scratch, least, &taken, &ack, \
         warnings
-#define SNAP(part, from, len, least)                                                           \
-    cef_manager_snap(r.ticks, r.counts, r.lengths, ticks, counts, 3, 4, 2, part, 5, PACKED + from, \
-                     len, DELTA, 0, LENT(least))
-    CHECK(SNAP(1, 4, 3, CEF_MANAGER_SCRATCH_INTS - 1) == CEF_SCRATCH_TOO_SHORT && taken == LEFT);
-    CHECK(SNAP(1, 4, 3, CEF_MANAGER_SCRATCH_INTS) == CEF_OK && taken == 0 && ack == LEFT && counts[HELD] == 0);
-    CHECK(SNAP(1, 4, 3, CEF_MANAGER_SCRATCH_INTS) == CEF_DUPLICATE_PART && ints_left(delta, 0, 8));
-    CHECK(SNAP(0, 0, 4, CEF_MANAGER_SCRATCH_INTS) == CEF_OK && taken == 1 && ack == 3 && counts[HELD] == 1);
+#define SNAP(part, sum, from, len, least)                                                    \
+    cef_manager_snap(r.ticks, r.counts, r.lengths, ticks, counts, 3, 4, 2, part, sum,        \
+                     PACKED + from, len, DELTA, 0, LENT(least))
+    CHECK(SNAP(1, 5, 4, 3, CEF_MANAGER_SCRATCH_INTS - 1) == CEF_SCRATCH_TOO_SHORT);
+    CHECK(taken == LEFT);
+    CHECK(SNAP(1, 5, 4, 3, CEF_MANAGER_SCRATCH_INTS) == CEF_OK && only(warnings, -1));
+    CHECK(taken == 0 && ack == LEFT && counts[HELD] == 0);
+    CHECK(SNAP(1, 5, 4, 3, CEF_MANAGER_SCRATCH_INTS) == CEF_DUPLICATE_PART);
+    CHECK(only(warnings, -1) && ints_left(delta, 0, 8));
+    CHECK(SNAP(1, 6, 4, 3, CEF_MANAGER_SCRATCH_INTS) == CEF_DUPLICATE_PART);
+    CHECK(only(warnings, CEF_WARN_DIFFERING_ATTRIBUTES));
+    CHECK(SNAP(0, 5, 0, 4, CEF_MANAGER_SCRATCH_INTS) == CEF_OK && only(warnings, -1));
+    CHECK(taken == 1 && ack == 3 && counts[HELD] == 1);
     CHECK(memcmp(joined, PACKED, 7) == 0 && memcmp(delta, DELTA, sizeof DELTA) == 0);
     CHECK(memcmp(area, held, sizeof area) == 0 && scratch[0] == 0 && delta[7] == LEFT);
 #undef SNAP

@@ -5,18 +5,19 @@ use mathlib.Core.Option.{Option, some, none}
 use Prim.Native.Nat.{ℕ}
 use native.Mathlib.Omega.{arith}
 use borrow.Author.Tests.{eq-eqb, eqb-true}
-use lib.Dec.{eqb}
 use lib.IntN.{ℤ}
 use mir.Syntax.{w32}
-use mir.Val.{SFits, ofZ, toZ}
-use mir.Facts.{toZ-ofZ}
+use mir.Val.{SFits}
+use Rattle.definitions.specs.Ints.{bits}
 use Rattle.definitions.specs.Receiver as Receiver
+use Rattle.definitions.specs.Receiver.{same}
 use Rattle.definitions.specs.Storage as Store
 use Rattle.receiver.specs.States.{receiverOf, currentIn}
 use Rattle.receiver.specs.declared.CurrentDelta.{CurrentDelta}
 use Rattle.receiver.specs.declared.DeltaReceiver.{DeltaReceiver}
 use Rattle.storage.specs.States.{storeOf}
 use Rattle.storage.specs.declared.Storage.{Storage}
+use Rattle.laws.specs.IntLaws.{same-bits}
 use Rattle.boundary_states.specs.Rows.{Ticks, ticksOf, Compares}
 
 -- ---- two ticks
@@ -34,16 +35,17 @@ some-not-none e = let z : _≡_ {A = ℕ} 0 1 = cc in omega arith
 some-same : {A : Type 0} {x y : A} → some x ≡ some y → x ≡ y
 some-same e = cc
 
--- ints of the same bits
-pub same-int : {t u : ℤ} → SFits w32 t → SFits w32 u → ofZ w32 t ≡ ofZ w32 u → t ≡ u
-same-int f g e = sym (toZ-ofZ f) ∙ ap (toZ w32) e ∙ toZ-ofZ g
+-- equal ints have the same bits
+same-told : {t u : ℤ} → t ≡ u → same t u ≡ true
+same-told {t} {u} e = eq-eqb (bits t) (bits u) (ap bits e)
 
-pub same-tick : {t u : ℤ} → SFits w32 t → SFits w32 u → Compares t u (eqb (ofZ w32 t) (ofZ w32 u))
-same-tick {t} {u} f g =
-    record {
-      same = λ e. same-int f g (eqb-true (ofZ w32 t) (ofZ w32 u) e);
-      told = λ e. eq-eqb (ofZ w32 t) (ofZ w32 u) (ap (ofZ w32) e);
-    }
+pub other-bits : {t u : ℤ} {r : Bool} → r ≡ same t u → r ≡ false → t ≡ u → ⊥
+other-bits e f q = not-both f (e ∙ same-told q)
+
+-- ints of 32 bits are compared by their bits
+pub same-int : {t u : ℤ} → SFits w32 t → SFits w32 u → Compares t u (same t u)
+same-int {t} {u} f g =
+    record { same = λ e. same-bits f g (eqb-true (bits t) (bits u) e); told = same-told }
 
 -- ---- two values that may be absent
 
@@ -66,11 +68,11 @@ module _ (a b : CurrentDelta) where
   pub other-opened : {A : Type 0} (f : Receiver.Current → A) → (f (currentIn a) ≡ f (currentIn b) → ⊥) → Compares (currentIn a) (currentIn b) false
   other-opened f n = unlike (λ e. n (ap f e))
 
-  pub by-sum : SFits w32 (a .crc) → SFits w32 (b .crc) → a .tick ≡ b .tick → a .«delta_tick» ≡ b .«delta_tick» → a .«num_parts» ≡ b .«num_parts» → Compares (currentIn a) (currentIn b) (eqb (ofZ w32 (a .crc)) (ofZ w32 (b .crc)))
-  by-sum f g t d n =
+  pub by-sum : {r : Bool} → a .tick .0 ≡ b .tick .0 → a .«delta_tick» .0 ≡ b .«delta_tick» .0 → a .«num_parts» ≡ b .«num_parts» → Compares (a .crc) (b .crc) r → Compares (currentIn a) (currentIn b) r
+  by-sum t d n c =
       record {
-        same = λ e. rw (t, d, n, same-int f g (eqb-true (ofZ w32 (a .crc)) (ofZ w32 (b .crc)) e)) refl;
-        told = λ e. eq-eqb (ofZ w32 (a .crc)) (ofZ w32 (b .crc)) (ap (λ (o : Receiver.Current). ofZ w32 (o .crc)) e);
+        same = λ e. rw (t, d, n, c .same e) refl;
+        told = λ e. c .told (ap (λ (o : Receiver.Current). o .crc) e);
       }
 
 module _ (a b : DeltaReceiver) {r : Bool} (c : Compares (receiverOf a .previousTick) (receiverOf b .previousTick) r) where

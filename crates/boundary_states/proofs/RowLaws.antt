@@ -8,7 +8,7 @@ use lib.IntN.{ℤ, pos}
 use lib.ListN.{getD}
 use borrow.Author.Tests.{eq-eqb, ne-eqb}
 use Rattle.definitions.specs.Receiver.{Receiver, Current}
-use Rattle.format.specs.Ticks.{tickOf}
+use Rattle.ticks.specs.Ticks.{tickOf}
 use Rattle.receiver.specs.States.{receiverOf, receiverWith, currentIn, currentOf}
 use Rattle.receiver.specs.declared.checked.Ticks as ReceiverTicks
 use Rattle.receiver.specs.declared.CurrentDelta.{CurrentDelta}
@@ -38,7 +38,7 @@ storage-loaded s ticks counts n a d p q = rw (n, a, d, p, q) refl
 
 -- ---- rows that are written
 
-pub ticks-written : (r : ReceiverTicks.Ticks) (c : CurrentDelta) {p t d k : ℤ} {a b : ℕ} → currentIn c ≡ currentOrZeros (currentOf (r .current)) → p ≡ tickOrZero (tickOf (r .«previous_tick»)) → t ≡ c .tick → d ≡ c .«delta_tick» → k ≡ c .crc → a ≡ isThere (tickOf (r .«previous_tick»)) → b ≡ isThere (currentOf (r .current)) → ((p ∷ t ∷ d ∷ k ∷ []) ≡ receiverTicks (receiverWith r [])) × ((a ∷ b ∷ c .«num_parts» ∷ []) ≡ receiverCounts (receiverWith r []))
+pub ticks-written : (r : ReceiverTicks.Ticks) (c : CurrentDelta) {p t d k : ℤ} {a b : ℕ} → currentIn c ≡ currentOrZeros (currentOf (r .current)) → p ≡ tickOrZero (tickOf (r .«previous_tick»)) → t ≡ c .tick .0 → d ≡ c .«delta_tick» .0 → k ≡ c .crc → a ≡ isThere (tickOf (r .«previous_tick»)) → b ≡ isThere (currentOf (r .current)) → ((p ∷ t ∷ d ∷ k ∷ []) ≡ receiverTicks (receiverWith r [])) × ((a ∷ b ∷ c .«num_parts» ∷ []) ≡ receiverCounts (receiverWith r []))
 ticks-written r c e p t d k a b = rw (p, t, d, k, a, b, ← e) (refl, refl)
 
 pub storage-written : (s : Storage) {x y : ℤ} {a b : ℕ} → x ≡ tickOrZero (tickOf (s .«ack_tick»)) → y ≡ tickOrZero (tickOf (s .«delta_tick»)) → a ≡ isThere (tickOf (s .«ack_tick»)) → b ≡ isThere (tickOf (s .«delta_tick»)) → ((x ∷ y ∷ []) ≡ storeTicks (storeOf s)) × ((s .count ∷ a ∷ b ∷ []) ≡ storeCounts (storeOf s))

@@ -2,13 +2,12 @@
 ghost use mathlib.Core.Path.{_≡_};
 ghost use mathlib.Core.List.{List, []};
 ghost use Prim.Native.Nat.{ℕ, _<_, _^_};
-ghost use Rattle.format.specs.Ticks.{tickOf};
+ghost use Rattle.ticks.specs.Ticks.{tickOf};
 ghost use Rattle.receiver.specs.States.{receiverOf, receiverWith, currentIn, currentOf};
 ghost use Rattle.storage.specs.States.{storeOf};
 ghost use Rattle.boundary.specs.Boundary.{given};
 ghost use Rattle.boundary_states.specs.Rows.{tickOrZero, currentOrZeros, isThere, receiverTicks, receiverCounts, storeTicks, storeCounts};
 ghost use Rattle.boundary_states.specs.Rows.{heldReceiver, ticksOf, heldStore, SavedReceiver, SavedStore, Compares};
-use format::OptionTick;
 use receiver::Current;
 use receiver::CurrentDelta;
 use receiver::DeltaReceiver;
@@ -16,10 +15,12 @@ use receiver::checked::Ticks;
 use receiver::checked::ticks_of;
 use receiver::checked::with_lengths;
 use storage::Storage;
+use ticks::OptionTick;
+use ticks::Tick;
 
 // A tick that is present if the flag is not 0.
-fn tick_in(flag: u32, tick: i32) -> OptionTick
-    ensures { λ r. ⌜ tickOf r ≡ given flag tick ⌝ }
+fn tick_in(flag: u32, tick: Tick) -> OptionTick
+    ensures { λ r. ⌜ tickOf r ≡ given flag (tick .0) ⌝ }
 {
     if flag != 0 {
         return OptionTick::Some(tick);
@@ -38,12 +39,12 @@ fn current_in(flag: u32, opened: CurrentDelta) -> Current
 }
 
 // A tick, or 0 if there is none.
-fn tick_or_zero(tick: OptionTick) -> i32
-    ensures { λ r. ⌜ r ≡ tickOrZero (tickOf tick) ⌝ }
+fn tick_or_zero(tick: OptionTick) -> Tick
+    ensures { λ r. ⌜ r .0 ≡ tickOrZero (tickOf tick) ⌝ }
 {
     match tick {
         OptionTick::Some(t) => t,
-        OptionTick::None => 0,
+        OptionTick::None => Tick(0),
     }
 }
 
@@ -63,8 +64,8 @@ fn current_or_zeros(current: Current) -> CurrentDelta
 {
     let Current::Some(opened) = current else {
         return CurrentDelta {
-            tick: 0,
-            delta_tick: 0,
+            tick: Tick(0),
+            delta_tick: Tick(0),
             num_parts: 0,
             crc: 0,
         };
@@ -86,9 +87,9 @@ fn current_flag(current: Current) -> u32
 pub fn load_ticks(ticks: &[i32; 4], counts: &[u32; 3]) -> Ticks
     ensures { λ r. ⌜ ((lengths : List ℕ) → receiverWith r lengths ≡ heldReceiver (now (ticks .entry)) (now (counts .entry)) lengths) ⌝ }
 {
-    let previous_tick = tick_in(counts[0], ticks[0]);
-    let tick = ticks[1];
-    let delta_tick = ticks[2];
+    let previous_tick = tick_in(counts[0], Tick(ticks[0]));
+    let tick = Tick(ticks[1]);
+    let delta_tick = Tick(ticks[2]);
     let num_parts = counts[2];
     let crc = ticks[3];
     let opened = CurrentDelta {
@@ -115,7 +116,9 @@ pub fn write_ticks(r: Ticks, ticks: &mut [i32; 4], counts: &mut [u32; 3])
     let has_previous = tick_flag(previous_tick);
     let has_current = current_flag(current);
     let opened = current_or_zeros(current);
-    *ticks = [previous, opened.tick, opened.delta_tick, opened.crc];
+    let tick = opened.tick;
+    let delta_tick = opened.delta_tick;
+    *ticks = [previous.0, tick.0, delta_tick.0, opened.crc];
     *counts = [has_previous, has_current, opened.num_parts];
 }
 
@@ -157,8 +160,8 @@ pub fn load_storage(ticks: &[i32; 2], counts: &[u32; 3]) -> Storage
     ensures { λ r. ⌜ r .count < 2 ^ 32 ⌝ }
 {
     let count = size(counts[0]);
-    let ack_tick = tick_in(counts[1], ticks[0]);
-    let delta_tick = tick_in(counts[2], ticks[1]);
+    let ack_tick = tick_in(counts[1], Tick(ticks[0]));
+    let delta_tick = tick_in(counts[2], Tick(ticks[1]));
     Storage {
         count,
         ack_tick,
@@ -175,7 +178,9 @@ pub fn write_storage(s: Storage, ticks: &mut [i32; 2], counts: &mut [u32; 3])
     let count = s.count as u32;
     let ack_tick = s.ack_tick;
     let delta_tick = s.delta_tick;
-    *ticks = [tick_or_zero(ack_tick), tick_or_zero(delta_tick)];
+    let ack = tick_or_zero(ack_tick);
+    let base = tick_or_zero(delta_tick);
+    *ticks = [ack.0, base.0];
     *counts = [count, tick_flag(ack_tick), tick_flag(delta_tick)];
 }
 
@@ -192,17 +197,21 @@ fn same_tick(a: OptionTick, b: OptionTick) -> bool
     let OptionTick::Some(other) = b else {
         return false;
     };
-    tick == other
+    tick.is_same(other)
 }
 
 // Whether two unfinished ticks are equal.
 fn same_opened(a: CurrentDelta, b: CurrentDelta) -> bool
     ensures { λ r. ⌜ Compares (currentIn a) (currentIn b) r ⌝ }
 {
-    if a.tick != b.tick {
+    let tick = a.tick;
+    let other = b.tick;
+    if !tick.is_same(other) {
         return false;
     }
-    if a.delta_tick != b.delta_tick {
+    let base = a.delta_tick;
+    let other_base = b.delta_tick;
+    if !base.is_same(other_base) {
         return false;
     }
     if a.num_parts != b.num_parts {

@@ -11,6 +11,7 @@ use Rattle.definitions.specs.Manager.{ManagerStep, messageCall}
 use Rattle.format.specs.Numbers.{number}
 use Rattle.format.specs.Totals.{counts, row}
 use Rattle.format.specs.declared.Error.{Error}
+use Rattle.ticks.specs.declared.Tick.{Tick}
 use Rattle.storage.specs.States.{storeOf}
 use Rattle.manager.specs.Answers.{handledWith, handlings}
 use Rattle.manager.specs.declared.Handled.{Handled}
@@ -23,7 +24,7 @@ use Rattle.capi_manager.specs.Told.{Rows, Told, Tells, Settles}
 -- ---- the answer
 
 module _ (a : Handled) where
-  pub tells-tick : {t t′ : ℤ} → a ≡ handled.Tick t → t′ ≡ t → (taken₀ : ℕ) (ack₀ : ℤ) → Tells a taken₀ ack₀ 1 t′ 0
+  pub tells-tick : {t : Tick} {n : ℤ} → a ≡ handled.Tick t → n ≡ t .0 → (taken₀ : ℕ) (ack₀ : ℤ) → Tells a taken₀ ack₀ 1 n 0
   tells-tick e p taken₀ ack₀ = rw (e, p) (record { number-is = λ w. refl; taken-is = λ w. refl; ack-is = λ w. refl })
 
   pub tells-not-yet : a ≡ handled.NotYet → (taken₀ : ℕ) (ack₀ : ℤ) → Tells a taken₀ ack₀ 0 ack₀ 0
@@ -40,13 +41,13 @@ warned (handled.Refused x) w = refl
 
 -- ---- the numbers of a message
 
-pub part-named : {t d n p k t′ d′ n′ p′ k′ : ℤ} → t′ ≡ t → d′ ≡ d → n′ ≡ n → p′ ≡ p → k′ ≡ k → Snap t′ d′ n′ p′ k′ ≡ Snap t d n p k
+pub part-named : {t d n p k t′ d′ n′ p′ k′ : ℤ} → t′ ≡ t → d′ ≡ d → n′ ≡ n → p′ ≡ p → k′ ≡ k → Snap t′ (record { ticks = d′ }) n′ p′ k′ ≡ Snap t (record { ticks = d }) n p k
 part-named t d n p k = rw (t, d, n, p, k) refl
 
-pub single-named : {t d k t′ d′ k′ : ℤ} → t′ ≡ t → d′ ≡ d → k′ ≡ k → SnapSingle t′ d′ k′ ≡ SnapSingle t d k
+pub single-named : {t d k t′ d′ k′ : ℤ} → t′ ≡ t → d′ ≡ d → k′ ≡ k → SnapSingle t′ (record { ticks = d′ }) k′ ≡ SnapSingle t (record { ticks = d }) k
 single-named t d k = rw (t, d, k) refl
 
-pub empty-named : {t d t′ d′ : ℤ} → t′ ≡ t → d′ ≡ d → SnapEmpty t′ d′ ≡ SnapEmpty t d
+pub empty-named : {t d t′ d′ : ℤ} → t′ ≡ t → d′ ≡ d → SnapEmpty t′ (record { ticks = d′ }) ≡ SnapEmpty t (record { ticks = d })
 empty-named t d = rw (t, d) refl
 
 -- ---- the step

@@ -22,6 +22,8 @@ use format::row;
 use manager::Handled;
 use manager::Handling;
 use manager::Manager;
+use ticks::Distance;
+use ticks::Tick;
 
 // A receiver without any tick, and a store without tables.
 #[no_mangle]
@@ -75,7 +77,8 @@ fn tell(a: Handled, taken: &mut u32, ack: &mut i32) -> u32
     match a {
         Handled::Tick(tick) => {
             *taken = 1;
-            *ack = tick;
+            let number = tick.0;
+            *ack = number;
             0
         }
         Handled::NotYet => {
@@ -118,7 +121,7 @@ pub extern "C" fn cef_manager_snap(
     ticks: &mut [i32; 2],
     counts: &mut [u32; 3],
     tick: i32,
-    delta_tick: i32,
+    distance: i32,
     num_parts: i32,
     part: i32,
     crc: i32,
@@ -133,15 +136,15 @@ pub extern "C" fn cef_manager_snap(
     ack: &mut i32,
     warnings: &mut [usize; WARNING_KINDS],
 ) -> u32
-    ensures { λ r. ⌜ Told (messageCall (now (sizes .entry)) (heldReceiver (now («receiver_ticks» .entry)) (now («receiver_counts» .entry)) (now (lengths .entry))) (heldStore (now (ticks .entry)) (now (counts .entry))) (record { numbers = Snap tick «delta_tick» «num_parts» part crc; bytes = now («data» .entry) }) (now (parts .entry)) (now (joined .entry)) (now (delta .entry)) (now (area .entry)) (length (now (scratch .entry)))) (record { receiverTicks = now («receiver_ticks» .entry); receiverCounts = now («receiver_counts» .entry); lengths = now (lengths .entry); ticks = now (ticks .entry); counts = now (counts .entry); taken = now (taken .entry); ack = now (ack .entry) }) (record { receiverTicks = now («receiver_ticks» .exit); receiverCounts = now («receiver_counts» .exit); lengths = now (lengths .exit); ticks = now (ticks .exit); counts = now (counts .exit); taken = now (taken .exit); ack = now (ack .exit) }) (now (parts .exit)) (now (joined .exit)) (now (delta .exit)) (now (area .exit)) (now (warnings .exit)) r ⌝ }
+    ensures { λ r. ⌜ Told (messageCall (now (sizes .entry)) (heldReceiver (now («receiver_ticks» .entry)) (now («receiver_counts» .entry)) (now (lengths .entry))) (heldStore (now (ticks .entry)) (now (counts .entry))) (record { numbers = Snap tick (record { ticks = distance }) «num_parts» part crc; bytes = now («data» .entry) }) (now (parts .entry)) (now (joined .entry)) (now (delta .entry)) (now (area .entry)) (length (now (scratch .entry)))) (record { receiverTicks = now («receiver_ticks» .entry); receiverCounts = now («receiver_counts» .entry); lengths = now (lengths .entry); ticks = now (ticks .entry); counts = now (counts .entry); taken = now (taken .entry); ack = now (ack .entry) }) (record { receiverTicks = now («receiver_ticks» .exit); receiverCounts = now («receiver_counts» .exit); lengths = now (lengths .exit); ticks = now (ticks .exit); counts = now (counts .exit); taken = now (taken .exit); ack = now (ack .exit) }) (now (parts .exit)) (now (joined .exit)) (now (delta .exit)) (now (area .exit)) (now (warnings .exit)) r ⌝ }
     ensures { λ _. ⌜ now (scratch .exit) ≡ cleared (now (scratch .entry)) ⌝ }
 {
     let receiver = load_receiver(receiver_ticks, receiver_counts, lengths);
     let storage = load_storage(ticks, counts);
     let m = Manager { receiver, storage };
     let h = m.snap(
-        tick,
-        delta_tick,
+        Tick(tick),
+        Distance(distance),
         num_parts,
         part,
         crc,
@@ -175,7 +178,7 @@ pub extern "C" fn cef_manager_snap_single(
     ticks: &mut [i32; 2],
     counts: &mut [u32; 3],
     tick: i32,
-    delta_tick: i32,
+    distance: i32,
     crc: i32,
     data: &[u8],
     sizes: &[i32],
@@ -188,15 +191,15 @@ pub extern "C" fn cef_manager_snap_single(
     ack: &mut i32,
     warnings: &mut [usize; WARNING_KINDS],
 ) -> u32
-    ensures { λ r. ⌜ Told (messageCall (now (sizes .entry)) (heldReceiver (now («receiver_ticks» .entry)) (now («receiver_counts» .entry)) (now (lengths .entry))) (heldStore (now (ticks .entry)) (now (counts .entry))) (record { numbers = SnapSingle tick «delta_tick» crc; bytes = now («data» .entry) }) (now (parts .entry)) (now (joined .entry)) (now (delta .entry)) (now (area .entry)) (length (now (scratch .entry)))) (record { receiverTicks = now («receiver_ticks» .entry); receiverCounts = now («receiver_counts» .entry); lengths = now (lengths .entry); ticks = now (ticks .entry); counts = now (counts .entry); taken = now (taken .entry); ack = now (ack .entry) }) (record { receiverTicks = now («receiver_ticks» .exit); receiverCounts = now («receiver_counts» .exit); lengths = now (lengths .exit); ticks = now (ticks .exit); counts = now (counts .exit); taken = now (taken .exit); ack = now (ack .exit) }) (now (parts .exit)) (now (joined .exit)) (now (delta .exit)) (now (area .exit)) (now (warnings .exit)) r ⌝ }
+    ensures { λ r. ⌜ Told (messageCall (now (sizes .entry)) (heldReceiver (now («receiver_ticks» .entry)) (now («receiver_counts» .entry)) (now (lengths .entry))) (heldStore (now (ticks .entry)) (now (counts .entry))) (record { numbers = SnapSingle tick (record { ticks = distance }) crc; bytes = now («data» .entry) }) (now (parts .entry)) (now (joined .entry)) (now (delta .entry)) (now (area .entry)) (length (now (scratch .entry)))) (record { receiverTicks = now («receiver_ticks» .entry); receiverCounts = now («receiver_counts» .entry); lengths = now (lengths .entry); ticks = now (ticks .entry); counts = now (counts .entry); taken = now (taken .entry); ack = now (ack .entry) }) (record { receiverTicks = now («receiver_ticks» .exit); receiverCounts = now («receiver_counts» .exit); lengths = now (lengths .exit); ticks = now (ticks .exit); counts = now (counts .exit); taken = now (taken .exit); ack = now (ack .exit) }) (now (parts .exit)) (now (joined .exit)) (now (delta .exit)) (now (area .exit)) (now (warnings .exit)) r ⌝ }
     ensures { λ _. ⌜ now (scratch .exit) ≡ cleared (now (scratch .entry)) ⌝ }
 {
     let receiver = load_receiver(receiver_ticks, receiver_counts, lengths);
     let storage = load_storage(ticks, counts);
     let m = Manager { receiver, storage };
     let h = m.snap_single(
-        tick,
-        delta_tick,
+        Tick(tick),
+        Distance(distance),
         crc,
         data,
         sizes,
@@ -228,7 +231,7 @@ pub extern "C" fn cef_manager_snap_empty(
     ticks: &mut [i32; 2],
     counts: &mut [u32; 3],
     tick: i32,
-    delta_tick: i32,
+    distance: i32,
     parts: &mut [u8],
     joined: &mut [u8],
     delta: &mut [i32],
@@ -238,13 +241,15 @@ pub extern "C" fn cef_manager_snap_empty(
     ack: &mut i32,
     warnings: &mut [usize; WARNING_KINDS],
 ) -> u32
-    ensures { λ r. ⌜ Told (messageCall [] (heldReceiver (now («receiver_ticks» .entry)) (now («receiver_counts» .entry)) (now (lengths .entry))) (heldStore (now (ticks .entry)) (now (counts .entry))) (record { numbers = SnapEmpty tick «delta_tick»; bytes = [] }) (now (parts .entry)) (now (joined .entry)) (now (delta .entry)) (now (area .entry)) (length (now (scratch .entry)))) (record { receiverTicks = now («receiver_ticks» .entry); receiverCounts = now («receiver_counts» .entry); lengths = now (lengths .entry); ticks = now (ticks .entry); counts = now (counts .entry); taken = now (taken .entry); ack = now (ack .entry) }) (record { receiverTicks = now («receiver_ticks» .exit); receiverCounts = now («receiver_counts» .exit); lengths = now (lengths .exit); ticks = now (ticks .exit); counts = now (counts .exit); taken = now (taken .exit); ack = now (ack .exit) }) (now (parts .exit)) (now (joined .exit)) (now (delta .exit)) (now (area .exit)) (now (warnings .exit)) r ⌝ }
+    ensures { λ r. ⌜ Told (messageCall [] (heldReceiver (now («receiver_ticks» .entry)) (now («receiver_counts» .entry)) (now (lengths .entry))) (heldStore (now (ticks .entry)) (now (counts .entry))) (record { numbers = SnapEmpty tick (record { ticks = distance }); bytes = [] }) (now (parts .entry)) (now (joined .entry)) (now (delta .entry)) (now (area .entry)) (length (now (scratch .entry)))) (record { receiverTicks = now («receiver_ticks» .entry); receiverCounts = now («receiver_counts» .entry); lengths = now (lengths .entry); ticks = now (ticks .entry); counts = now (counts .entry); taken = now (taken .entry); ack = now (ack .entry) }) (record { receiverTicks = now («receiver_ticks» .exit); receiverCounts = now («receiver_counts» .exit); lengths = now (lengths .exit); ticks = now (ticks .exit); counts = now (counts .exit); taken = now (taken .exit); ack = now (ack .exit) }) (now (parts .exit)) (now (joined .exit)) (now (delta .exit)) (now (area .exit)) (now (warnings .exit)) r ⌝ }
     ensures { λ _. ⌜ now (scratch .exit) ≡ cleared (now (scratch .entry)) ⌝ }
 {
     let receiver = load_receiver(receiver_ticks, receiver_counts, lengths);
     let storage = load_storage(ticks, counts);
     let m = Manager { receiver, storage };
-    let h = m.snap_empty(tick, delta_tick, parts, joined, delta, area, scratch);
+    let t = Tick(tick);
+    let d = Distance(distance);
+    let h = m.snap_empty(t, d, parts, joined, delta, area, scratch);
     settle(
         h,
         receiver_ticks,

@@ -1,5 +1,5 @@
 -- What the outputs hold, given a known call. Assumes nothing.
-use mathlib.Core.Path.{_≡_, refl, sym}
+use mathlib.Core.Path.{_≡_, refl, sym, ap}
 use mathlib.Core.Bool.{true, false, true≢false}
 use mathlib.Core.List.{List, [], _∷_}
 use mathlib.Core.Option.{Option, some, none}
@@ -18,6 +18,8 @@ use Rattle.format.specs.declared.Error.{Error}
 use Rattle.gamenet_snap.specs.Numbers.{numbers}
 use Rattle.gamenet_snap.specs.declared.SnapMsg.{SnapMsg}
 use Rattle.gamenet_snap.specs.declared.SnapMsg.the-variants as msg
+use Rattle.ticks.specs.declared.Tick.{Tick}
+use Rattle.ticks.specs.declared.Distance.{Distance}
 use Rattle.receiver.specs.States.{receiverWith}
 use Rattle.receiver.specs.Answers.{receivedWith}
 use Rattle.receiver.specs.declared.checked.Ticks.{Ticks}
@@ -32,13 +34,13 @@ use Rattle.capi_receiver.specs.Held.{ticksAfter, countsAfter, kindOf, ti
 -- ---- the numbers of a message
 
 module _ (m : SnapMsg) where
-  pub part-row : {t d n p k t′ d′ n′ p′ k′ : ℤ} → m ≡ msg.Snap t d n p k → t′ ≡ t → d′ ≡ d → n′ ≡ n → p′ ≡ p → k′ ≡ k → (1 ≡ kindOfNumbers (numbers m)) × ((t′ ∷ d′ ∷ n′ ∷ p′ ∷ k′ ∷ []) ≡ rowOf (numbers m))
+  pub part-row : {t : Tick} {d : Distance} {n p k t′ d′ n′ p′ k′ : ℤ} → m ≡ msg.Snap t d n p k → t′ ≡ t .0 → d′ ≡ d .0 → n′ ≡ n → p′ ≡ p → k′ ≡ k → (1 ≡ kindOfNumbers (numbers m)) × ((t′ ∷ d′ ∷ n′ ∷ p′ ∷ k′ ∷ []) ≡ rowOf (numbers m))
   part-row e t d n p k = rw (e, t, d, n, p, k) (refl, refl)
 
-  pub empty-row : {t d t′ d′ : ℤ} → m ≡ msg.SnapEmpty t d → t′ ≡ t → d′ ≡ d → (2 ≡ kindOfNumbers (numbers m)) × ((t′ ∷ d′ ∷ pos 0 ∷ pos 0 ∷ pos 0 ∷ []) ≡ rowOf (numbers m))
+  pub empty-row : {t : Tick} {d : Distance} {t′ d′ : ℤ} → m ≡ msg.SnapEmpty t d → t′ ≡ t .0 → d′ ≡ d .0 → (2 ≡ kindOfNumbers (numbers m)) × ((t′ ∷ d′ ∷ pos 0 ∷ pos 0 ∷ pos 0 ∷ []) ≡ rowOf (numbers m))
   empty-row e t d = rw (e, t, d) (refl, refl)
 
-  pub single-row : {t d k t′ d′ k′ : ℤ} → m ≡ msg.SnapSingle t d k → t′ ≡ t → d′ ≡ d → k′ ≡ k → (3 ≡ kindOfNumbers (numbers m)) × ((t′ ∷ d′ ∷ pos 0 ∷ pos 0 ∷ k′ ∷ []) ≡ rowOf (numbers m))
+  pub single-row : {t : Tick} {d : Distance} {k t′ d′ k′ : ℤ} → m ≡ msg.SnapSingle t d k → t′ ≡ t .0 → d′ ≡ d .0 → k′ ≡ k → (3 ≡ kindOfNumbers (numbers m)) × ((t′ ∷ d′ ∷ pos 0 ∷ pos 0 ∷ k′ ∷ []) ≡ rowOf (numbers m))
   single-row e t d k = rw (e, t, d, k) (refl, refl)
 
 -- ---- a message
@@ -78,16 +80,20 @@ module _ (a : Received) where
   pub tells-nothing : a ≡ received.NotYet → (kind₀ : ℕ) (row₀ : List ℤ) (len₀ : ℕ) → Tells 0 kind₀ 0 row₀ row₀ len₀ len₀
   tells-nothing e kind₀ row₀ len₀ = rw e (λ w. refl, (λ w. refl, (λ w. refl, λ w. refl)))
 
-  pub tells-delta : {t d k t′ d′ k′ : ℤ} {n : ℕ} → a ≡ received.Delta t d n k → t′ ≡ t → d′ ≡ d → k′ ≡ k → (kind₀ : ℕ) (row₀ : List ℤ) (len₀ : ℕ) → Tells 0 kind₀ 1 row₀ (t′ ∷ d′ ∷ k′ ∷ []) len₀ n
+  pub tells-delta : {t d : Tick} {k t′ d′ k′ : ℤ} {n : ℕ} → a ≡ received.Delta t d n k → t′ ≡ t .0 → d′ ≡ d .0 → k′ ≡ k → (kind₀ : ℕ) (row₀ : List ℤ) (len₀ : ℕ) → Tells 0 kind₀ 1 row₀ (t′ ∷ d′ ∷ k′ ∷ []) len₀ n
   tells-delta e t d k kind₀ row₀ len₀ = rw (e, t, d, k) (λ w. refl, (λ w. refl, (λ w. refl, λ w. refl)))
 
-  pub tells-empty : {t d t′ d′ : ℤ} → a ≡ received.Empty t d → t′ ≡ t → d′ ≡ d → (kind₀ : ℕ) (row₀ : List ℤ) (len₀ : ℕ) → Tells 0 kind₀ 2 row₀ (t′ ∷ d′ ∷ pos 0 ∷ []) len₀ 0
+  pub tells-empty : {t d : Tick} {t′ d′ : ℤ} → a ≡ received.Empty t d → t′ ≡ t .0 → d′ ≡ d .0 → (kind₀ : ℕ) (row₀ : List ℤ) (len₀ : ℕ) → Tells 0 kind₀ 2 row₀ (t′ ∷ d′ ∷ pos 0 ∷ []) len₀ 0
   tells-empty e t d kind₀ row₀ len₀ = rw (e, t, d) (λ w. refl, (λ w. refl, (λ w. refl, λ w. refl)))
 
   pub tells-refused : {x : Error} → a ≡ received.Refused x → (r kind₀ : ℕ) (row₀ : List ℤ) (len₀ : ℕ) → r ≡ number x → Tells r kind₀ kind₀ row₀ row₀ len₀ len₀
   tells-refused e r kind₀ row₀ len₀ p = rw (e, p) (λ w. refl, (λ w. refl, (λ w. refl, λ w. refl)))
 
 -- ---- a call on a receiver
+
+-- distances of equal ints
+pub same-distance : {n m : ℤ} → n ≡ m → _≡_ {A = Messages.Distance} (record { ticks = n }) (record { ticks = m })
+same-distance e = ap (λ (n : ℤ). record { ticks = n }) e
 
 -- a call that is refused leaves the rows
 pub rows-left : (t : Ticks) (a : Received) (ticks : List ℤ) (counts : List ℕ) → isRefused a ≡ true → Rows t a ticks counts ticks counts

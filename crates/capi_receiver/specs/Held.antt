@@ -52,9 +52,9 @@ lengthOr before (some d) = lengthOf (d .dataAndCrc)
 
 -- 0 without one, 1 for a part, 2 for an empty one, 3 for a single one
 abbrev pub kindOfNumbers : Messages.SnapMsg → ℕ
-kindOfNumbers (Messages.Snap tick distance n part crc) = 1
-kindOfNumbers (Messages.SnapEmpty tick distance) = 2
-kindOfNumbers (Messages.SnapSingle tick distance crc) = 3
+kindOfNumbers (Messages.Snap tick d n part crc) = 1
+kindOfNumbers (Messages.SnapEmpty tick d) = 2
+kindOfNumbers (Messages.SnapSingle tick d crc) = 3
 
 abbrev pub kindOfMessage : Option Message → ℕ
 kindOfMessage none = 0
@@ -62,9 +62,9 @@ kindOfMessage (some m) = kindOfNumbers (m .numbers)
 
 -- its tick, distance, part count, part number and sum, 0 for a number that it lacks; unchanged without one
 abbrev pub rowOf : Messages.SnapMsg → List ℤ
-rowOf (Messages.Snap tick distance n part crc) = tick ∷ distance ∷ n ∷ part ∷ crc ∷ []
-rowOf (Messages.SnapEmpty tick distance) = tick ∷ distance ∷ pos 0 ∷ pos 0 ∷ pos 0 ∷ []
-rowOf (Messages.SnapSingle tick distance crc) = tick ∷ distance ∷ pos 0 ∷ pos 0 ∷ crc ∷ []
+rowOf (Messages.Snap tick d n part crc) = tick ∷ d .ticks ∷ n ∷ part ∷ crc ∷ []
+rowOf (Messages.SnapEmpty tick d) = tick ∷ d .ticks ∷ pos 0 ∷ pos 0 ∷ pos 0 ∷ []
+rowOf (Messages.SnapSingle tick d crc) = tick ∷ d .ticks ∷ pos 0 ∷ pos 0 ∷ crc ∷ []
 
 abbrev pub numbersOr : List ℤ → Option Message → List ℤ
 numbersOr before none = before

@@ -9,7 +9,6 @@ use borrow.Author.Tests.{le-leb, lt-leb}
 use lib.IntN.{ℤ}
 use lib.ListN.{length, take, drop}
 use lib.Seq.{take-all}
-use Rattle.definitions.specs.Ints.{wrappingSub}
 use Rattle.definitions.specs.Messages.{Message, SnapMsg, numParts, deltaChunks, nthMessage, chunkCall}
 use Rattle.laws.specs.Tests.{below}
 use Rattle.laws.specs.CutLaws.{chunks-none, chunks-single, length-chunks, nth-chunk, nth-past}

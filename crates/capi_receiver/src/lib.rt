@@ -28,6 +28,8 @@ use receiver::checked::Ticks;
 use receiver::checked::receive;
 use receiver::whole::receive_empty;
 use receiver::whole::receive_single;
+use ticks::Distance;
+use ticks::Tick;
 
 // Sets what a message brought, if it was taken; returns the number of the answer.
 fn tell(a: Received, kind: &mut u32, numbers: &mut [i32; 3], len: &mut usize) -> u32
@@ -48,13 +50,13 @@ fn tell(a: Received, kind: &mut u32, numbers: &mut [i32; 3], len: &mut usize) ->
             crc,
         } => {
             *kind = 1;
-            *numbers = [tick, delta_tick, crc];
+            *numbers = [tick.0, delta_tick.0, crc];
             *len = n;
             0
         }
         Received::Empty { tick, delta_tick } => {
             *kind = 2;
-            *numbers = [tick, delta_tick, 0];
+            *numbers = [tick.0, delta_tick.0, 0];
             *len = 0;
             0
         }
@@ -113,11 +115,11 @@ fn row_of(m: SnapMsg, numbers: &mut [i32; 5]) -> u32
             part,
             crc,
         } => {
-            *numbers = [tick, delta_tick, num_parts, part, crc];
+            *numbers = [tick.0, delta_tick.0, num_parts, part, crc];
             1
         }
         SnapMsg::SnapEmpty { tick, delta_tick } => {
-            *numbers = [tick, delta_tick, 0, 0, 0];
+            *numbers = [tick.0, delta_tick.0, 0, 0, 0];
             2
         }
         SnapMsg::SnapSingle {
@@ -125,7 +127,7 @@ fn row_of(m: SnapMsg, numbers: &mut [i32; 5]) -> u32
             delta_tick,
             crc,
         } => {
-            *numbers = [tick, delta_tick, 0, 0, crc];
+            *numbers = [tick.0, delta_tick.0, 0, 0, crc];
             3
         }
     }
@@ -149,7 +151,7 @@ pub extern "C" fn cef_chunk(
     ensures { λ _. ⌜ now (len .exit) ≡ output bytesIn (now (len .entry)) (chunkCall tick «delta_tick» (now («data» .entry)) crc i) ⌝ }
 {
     let part = delta_chunks::chunk_data(data, i);
-    let c = delta_chunks::chunk_numbers(tick, delta_tick, data, crc, i);
+    let c = delta_chunks::chunk_numbers(Tick(tick), Tick(delta_tick), data, crc, i);
     match c {
         Chunk::Message(m) => {
             *kind = row_of(m, numbers);
@@ -201,7 +203,7 @@ pub extern "C" fn cef_receiver_snap(
     counts: &mut [u32; 3],
     lengths: &mut [u16; 32],
     tick: i32,
-    delta_tick: i32,
+    distance: i32,
     num_parts: i32,
     part: i32,
     crc: i32,
@@ -213,20 +215,20 @@ pub extern "C" fn cef_receiver_snap(
     len: &mut usize,
     warnings: &mut [usize; WARNING_KINDS],
 ) -> u32
-    ensures { λ r. ⌜ r ≡ status (snapCall (heldReceiver (now (ticks .entry)) (now (counts .entry)) (now (lengths .entry))) (record { tick = tick; deltaTick = «delta_tick»; numParts = «num_parts»; part = part; crc = crc }) (now («data» .entry)) (now (parts .entry)) (now (joined .entry)) .answer) ⌝ }
-    ensures { λ _. ⌜ now (ticks .exit) ≡ ticksAfter (now (ticks .entry)) (snapCall (heldReceiver (now (ticks .entry)) (now (counts .entry)) (now (lengths .entry))) (record { tick = tick; deltaTick = «delta_tick»; numParts = «num_parts»; part = part; crc = crc }) (now («data» .entry)) (now (parts .entry)) (now (joined .entry))) ⌝ }
-    ensures { λ _. ⌜ now (counts .exit) ≡ countsAfter (now (counts .entry)) (snapCall (heldReceiver (now (ticks .entry)) (now (counts .entry)) (now (lengths .entry))) (record { tick = tick; deltaTick = «delta_tick»; numParts = «num_parts»; part = part; crc = crc }) (now («data» .entry)) (now (parts .entry)) (now (joined .entry))) ⌝ }
-    ensures { λ _. ⌜ now (lengths .exit) ≡ snapCall (heldReceiver (now (ticks .entry)) (now (counts .entry)) (now (lengths .entry))) (record { tick = tick; deltaTick = «delta_tick»; numParts = «num_parts»; part = part; crc = crc }) (now («data» .entry)) (now (parts .entry)) (now (joined .entry)) .receiver .parts ⌝ }
-    ensures { λ _. ⌜ now (parts .exit) ≡ snapCall (heldReceiver (now (ticks .entry)) (now (counts .entry)) (now (lengths .entry))) (record { tick = tick; deltaTick = «delta_tick»; numParts = «num_parts»; part = part; crc = crc }) (now («data» .entry)) (now (parts .entry)) (now (joined .entry)) .parts ⌝ }
-    ensures { λ _. ⌜ now (joined .exit) ≡ snapCall (heldReceiver (now (ticks .entry)) (now (counts .entry)) (now (lengths .entry))) (record { tick = tick; deltaTick = «delta_tick»; numParts = «num_parts»; part = part; crc = crc }) (now («data» .entry)) (now (parts .entry)) (now (joined .entry)) .joined ⌝ }
-    ensures { λ _. ⌜ now (kind .exit) ≡ output kindOf (now (kind .entry)) (snapCall (heldReceiver (now (ticks .entry)) (now (counts .entry)) (now (lengths .entry))) (record { tick = tick; deltaTick = «delta_tick»; numParts = «num_parts»; part = part; crc = crc }) (now («data» .entry)) (now (parts .entry)) (now (joined .entry)) .answer) ⌝ }
-    ensures { λ _. ⌜ now (received .exit) ≡ output (ticksOr (now (received .entry))) (now (received .entry)) (snapCall (heldReceiver (now (ticks .entry)) (now (counts .entry)) (now (lengths .entry))) (record { tick = tick; deltaTick = «delta_tick»; numParts = «num_parts»; part = part; crc = crc }) (now («data» .entry)) (now (parts .entry)) (now (joined .entry)) .answer) ⌝ }
-    ensures { λ _. ⌜ now (len .exit) ≡ output (lengthOr (now (len .entry))) (now (len .entry)) (snapCall (heldReceiver (now (ticks .entry)) (now (counts .entry)) (now (lengths .entry))) (record { tick = tick; deltaTick = «delta_tick»; numParts = «num_parts»; part = part; crc = crc }) (now («data» .entry)) (now (parts .entry)) (now (joined .entry)) .answer) ⌝ }
-    ensures { λ _. ⌜ now (warnings .exit) ≡ Totals.row (warningsOf (snapCall (heldReceiver (now (ticks .entry)) (now (counts .entry)) (now (lengths .entry))) (record { tick = tick; deltaTick = «delta_tick»; numParts = «num_parts»; part = part; crc = crc }) (now («data» .entry)) (now (parts .entry)) (now (joined .entry)) .answer)) ⌝ }
+    ensures { λ r. ⌜ r ≡ status (snapCall (heldReceiver (now (ticks .entry)) (now (counts .entry)) (now (lengths .entry))) (record { tick = tick; distance = record { ticks = distance }; numParts = «num_parts»; part = part; crc = crc }) (now («data» .entry)) (now (parts .entry)) (now (joined .entry)) .answer) ⌝ }
+    ensures { λ _. ⌜ now (ticks .exit) ≡ ticksAfter (now (ticks .entry)) (snapCall (heldReceiver (now (ticks .entry)) (now (counts .entry)) (now (lengths .entry))) (record { tick = tick; distance = record { ticks = distance }; numParts = «num_parts»; part = part; crc = crc }) (now («data» .entry)) (now (parts .entry)) (now (joined .entry))) ⌝ }
+    ensures { λ _. ⌜ now (counts .exit) ≡ countsAfter (now (counts .entry)) (snapCall (heldReceiver (now (ticks .entry)) (now (counts .entry)) (now (lengths .entry))) (record { tick = tick; distance = record { ticks = distance }; numParts = «num_parts»; part = part; crc = crc }) (now («data» .entry)) (now (parts .entry)) (now (joined .entry))) ⌝ }
+    ensures { λ _. ⌜ now (lengths .exit) ≡ snapCall (heldReceiver (now (ticks .entry)) (now (counts .entry)) (now (lengths .entry))) (record { tick = tick; distance = record { ticks = distance }; numParts = «num_parts»; part = part; crc = crc }) (now («data» .entry)) (now (parts .entry)) (now (joined .entry)) .receiver .parts ⌝ }
+    ensures { λ _. ⌜ now (parts .exit) ≡ snapCall (heldReceiver (now (ticks .entry)) (now (counts .entry)) (now (lengths .entry))) (record { tick = tick; distance = record { ticks = distance }; numParts = «num_parts»; part = part; crc = crc }) (now («data» .entry)) (now (parts .entry)) (now (joined .entry)) .parts ⌝ }
+    ensures { λ _. ⌜ now (joined .exit) ≡ snapCall (heldReceiver (now (ticks .entry)) (now (counts .entry)) (now (lengths .entry))) (record { tick = tick; distance = record { ticks = distance }; numParts = «num_parts»; part = part; crc = crc }) (now («data» .entry)) (now (parts .entry)) (now (joined .entry)) .joined ⌝ }
+    ensures { λ _. ⌜ now (kind .exit) ≡ output kindOf (now (kind .entry)) (snapCall (heldReceiver (now (ticks .entry)) (now (counts .entry)) (now (lengths .entry))) (record { tick = tick; distance = record { ticks = distance }; numParts = «num_parts»; part = part; crc = crc }) (now («data» .entry)) (now (parts .entry)) (now (joined .entry)) .answer) ⌝ }
+    ensures { λ _. ⌜ now (received .exit) ≡ output (ticksOr (now (received .entry))) (now (received .entry)) (snapCall (heldReceiver (now (ticks .entry)) (now (counts .entry)) (now (lengths .entry))) (record { tick = tick; distance = record { ticks = distance }; numParts = «num_parts»; part = part; crc = crc }) (now («data» .entry)) (now (parts .entry)) (now (joined .entry)) .answer) ⌝ }
+    ensures { λ _. ⌜ now (len .exit) ≡ output (lengthOr (now (len .entry))) (now (len .entry)) (snapCall (heldReceiver (now (ticks .entry)) (now (counts .entry)) (now (lengths .entry))) (record { tick = tick; distance = record { ticks = distance }; numParts = «num_parts»; part = part; crc = crc }) (now («data» .entry)) (now (parts .entry)) (now (joined .entry)) .answer) ⌝ }
+    ensures { λ _. ⌜ now (warnings .exit) ≡ Totals.row (warningsOf (snapCall (heldReceiver (now (ticks .entry)) (now (counts .entry)) (now (lengths .entry))) (record { tick = tick; distance = record { ticks = distance }; numParts = «num_parts»; part = part; crc = crc }) (now («data» .entry)) (now (parts .entry)) (now (joined .entry)) .answer)) ⌝ }
 {
     let m = Part {
-        tick,
-        delta_tick,
+        tick: Tick(tick),
+        delta_tick: Distance(distance),
         num_parts,
         part,
         crc,
@@ -246,7 +248,7 @@ pub extern "C" fn cef_receiver_snap_single(
     counts: &mut [u32; 3],
     lengths: &mut [u16; 32],
     tick: i32,
-    delta_tick: i32,
+    distance: i32,
     crc: i32,
     data: &[u8],
     joined: &mut [u8],
@@ -255,18 +257,26 @@ pub extern "C" fn cef_receiver_snap_single(
     len: &mut usize,
     warnings: &mut [usize; WARNING_KINDS],
 ) -> u32
-    ensures { λ r. ⌜ r ≡ status (snapSingleCall (heldReceiver (now (ticks .entry)) (now (counts .entry)) (now (lengths .entry))) tick «delta_tick» crc (now («data» .entry)) [] (now (joined .entry)) .answer) ⌝ }
-    ensures { λ _. ⌜ now (ticks .exit) ≡ ticksAfter (now (ticks .entry)) (snapSingleCall (heldReceiver (now (ticks .entry)) (now (counts .entry)) (now (lengths .entry))) tick «delta_tick» crc (now («data» .entry)) [] (now (joined .entry))) ⌝ }
-    ensures { λ _. ⌜ now (counts .exit) ≡ countsAfter (now (counts .entry)) (snapSingleCall (heldReceiver (now (ticks .entry)) (now (counts .entry)) (now (lengths .entry))) tick «delta_tick» crc (now («data» .entry)) [] (now (joined .entry))) ⌝ }
-    ensures { λ _. ⌜ now (lengths .exit) ≡ snapSingleCall (heldReceiver (now (ticks .entry)) (now (counts .entry)) (now (lengths .entry))) tick «delta_tick» crc (now («data» .entry)) [] (now (joined .entry)) .receiver .parts ⌝ }
-    ensures { λ _. ⌜ now (joined .exit) ≡ snapSingleCall (heldReceiver (now (ticks .entry)) (now (counts .entry)) (now (lengths .entry))) tick «delta_tick» crc (now («data» .entry)) [] (now (joined .entry)) .joined ⌝ }
-    ensures { λ _. ⌜ now (kind .exit) ≡ output kindOf (now (kind .entry)) (snapSingleCall (heldReceiver (now (ticks .entry)) (now (counts .entry)) (now (lengths .entry))) tick «delta_tick» crc (now («data» .entry)) [] (now (joined .entry)) .answer) ⌝ }
-    ensures { λ _. ⌜ now (received .exit) ≡ output (ticksOr (now (received .entry))) (now (received .entry)) (snapSingleCall (heldReceiver (now (ticks .entry)) (now (counts .entry)) (now (lengths .entry))) tick «delta_tick» crc (now («data» .entry)) [] (now (joined .entry)) .answer) ⌝ }
-    ensures { λ _. ⌜ now (len .exit) ≡ output (lengthOr (now (len .entry))) (now (len .entry)) (snapSingleCall (heldReceiver (now (ticks .entry)) (now (counts .entry)) (now (lengths .entry))) tick «delta_tick» crc (now («data» .entry)) [] (now (joined .entry)) .answer) ⌝ }
-    ensures { λ _. ⌜ now (warnings .exit) ≡ Totals.row (warningsOf (snapSingleCall (heldReceiver (now (ticks .entry)) (now (counts .entry)) (now (lengths .entry))) tick «delta_tick» crc (now («data» .entry)) [] (now (joined .entry)) .answer)) ⌝ }
+    ensures { λ r. ⌜ r ≡ status (snapSingleCall (heldReceiver (now (ticks .entry)) (now (counts .entry)) (now (lengths .entry))) tick (record { ticks = distance }) crc (now («data» .entry)) [] (now (joined .entry)) .answer) ⌝ }
+    ensures { λ _. ⌜ now (ticks .exit) ≡ ticksAfter (now (ticks .entry)) (snapSingleCall (heldReceiver (now (ticks .entry)) (now (counts .entry)) (now (lengths .entry))) tick (record { ticks = distance }) crc (now («data» .entry)) [] (now (joined .entry))) ⌝ }
+    ensures { λ _. ⌜ now (counts .exit) ≡ countsAfter (now (counts .entry)) (snapSingleCall (heldReceiver (now (ticks .entry)) (now (counts .entry)) (now (lengths .entry))) tick (record { ticks = distance }) crc (now («data» .entry)) [] (now (joined .entry))) ⌝ }
+    ensures { λ _. ⌜ now (lengths .exit) ≡ snapSingleCall (heldReceiver (now (ticks .entry)) (now (counts .entry)) (now (lengths .entry))) tick (record { ticks = distance }) crc (now («data» .entry)) [] (now (joined .entry)) .receiver .parts ⌝ }
+    ensures { λ _. ⌜ now (joined .exit) ≡ snapSingleCall (heldReceiver (now (ticks .entry)) (now (counts .entry)) (now (lengths .entry))) tick (record { ticks = distance }) crc (now («data» .entry)) [] (now (joined .entry)) .joined ⌝ }
+    ensures { λ _. ⌜ now (kind .exit) ≡ output kindOf (now (kind .entry)) (snapSingleCall (heldReceiver (now (ticks .entry)) (now (counts .entry)) (now (lengths .entry))) tick (record { ticks = distance }) crc (now («data» .entry)) [] (now (joined .entry)) .answer) ⌝ }
+    ensures { λ _. ⌜ now (received .exit) ≡ output (ticksOr (now (received .entry))) (now (received .entry)) (snapSingleCall (heldReceiver (now (ticks .entry)) (now (counts .entry)) (now (lengths .entry))) tick (record { ticks = distance }) crc (now («data» .entry)) [] (now (joined .entry)) .answer) ⌝ }
+    ensures { λ _. ⌜ now (len .exit) ≡ output (lengthOr (now (len .entry))) (now (len .entry)) (snapSingleCall (heldReceiver (now (ticks .entry)) (now (counts .entry)) (now (lengths .entry))) tick (record { ticks = distance }) crc (now («data» .entry)) [] (now (joined .entry)) .answer) ⌝ }
+    ensures { λ _. ⌜ now (warnings .exit) ≡ Totals.row (warningsOf (snapSingleCall (heldReceiver (now (ticks .entry)) (now (counts .entry)) (now (lengths .entry))) tick (record { ticks = distance }) crc (now («data» .entry)) [] (now (joined .entry)) .answer)) ⌝ }
 {
     let r = load_ticks(ticks, counts);
-    let s = receive_single(r, tick, delta_tick, crc, lengths, data, joined);
+    let s = receive_single(
+        r,
+        Tick(tick),
+        Distance(distance),
+        crc,
+        lengths,
+        data,
+        joined,
+    );
     *warnings = row(s.warnings);
     let answer = s.answer;
     put_ticks(answer, s.ticks, ticks, counts);
@@ -280,23 +290,23 @@ pub extern "C" fn cef_receiver_snap_empty(
     counts: &mut [u32; 3],
     lengths: &mut [u16; 32],
     tick: i32,
-    delta_tick: i32,
+    distance: i32,
     kind: &mut u32,
     received: &mut [i32; 3],
     len: &mut usize,
     warnings: &mut [usize; WARNING_KINDS],
 ) -> u32
-    ensures { λ r. ⌜ r ≡ status (snapEmptyCall (heldReceiver (now (ticks .entry)) (now (counts .entry)) (now (lengths .entry))) tick «delta_tick» [] [] .answer) ⌝ }
-    ensures { λ _. ⌜ now (ticks .exit) ≡ ticksAfter (now (ticks .entry)) (snapEmptyCall (heldReceiver (now (ticks .entry)) (now (counts .entry)) (now (lengths .entry))) tick «delta_tick» [] []) ⌝ }
-    ensures { λ _. ⌜ now (counts .exit) ≡ countsAfter (now (counts .entry)) (snapEmptyCall (heldReceiver (now (ticks .entry)) (now (counts .entry)) (now (lengths .entry))) tick «delta_tick» [] []) ⌝ }
-    ensures { λ _. ⌜ now (lengths .exit) ≡ snapEmptyCall (heldReceiver (now (ticks .entry)) (now (counts .entry)) (now (lengths .entry))) tick «delta_tick» [] [] .receiver .parts ⌝ }
-    ensures { λ _. ⌜ now (kind .exit) ≡ output kindOf (now (kind .entry)) (snapEmptyCall (heldReceiver (now (ticks .entry)) (now (counts .entry)) (now (lengths .entry))) tick «delta_tick» [] [] .answer) ⌝ }
-    ensures { λ _. ⌜ now (received .exit) ≡ output (ticksOr (now (received .entry))) (now (received .entry)) (snapEmptyCall (heldReceiver (now (ticks .entry)) (now (counts .entry)) (now (lengths .entry))) tick «delta_tick» [] [] .answer) ⌝ }
-    ensures { λ _. ⌜ now (len .exit) ≡ output (lengthOr (now (len .entry))) (now (len .entry)) (snapEmptyCall (heldReceiver (now (ticks .entry)) (now (counts .entry)) (now (lengths .entry))) tick «delta_tick» [] [] .answer) ⌝ }
-    ensures { λ _. ⌜ now (warnings .exit) ≡ Totals.row (warningsOf (snapEmptyCall (heldReceiver (now (ticks .entry)) (now (counts .entry)) (now (lengths .entry))) tick «delta_tick» [] [] .answer)) ⌝ }
+    ensures { λ r. ⌜ r ≡ status (snapEmptyCall (heldReceiver (now (ticks .entry)) (now (counts .entry)) (now (lengths .entry))) tick (record { ticks = distance }) [] [] .answer) ⌝ }
+    ensures { λ _. ⌜ now (ticks .exit) ≡ ticksAfter (now (ticks .entry)) (snapEmptyCall (heldReceiver (now (ticks .entry)) (now (counts .entry)) (now (lengths .entry))) tick (record { ticks = distance }) [] []) ⌝ }
+    ensures { λ _. ⌜ now (counts .exit) ≡ countsAfter (now (counts .entry)) (snapEmptyCall (heldReceiver (now (ticks .entry)) (now (counts .entry)) (now (lengths .entry))) tick (record { ticks = distance }) [] []) ⌝ }
+    ensures { λ _. ⌜ now (lengths .exit) ≡ snapEmptyCall (heldReceiver (now (ticks .entry)) (now (counts .entry)) (now (lengths .entry))) tick (record { ticks = distance }) [] [] .receiver .parts ⌝ }
+    ensures { λ _. ⌜ now (kind .exit) ≡ output kindOf (now (kind .entry)) (snapEmptyCall (heldReceiver (now (ticks .entry)) (now (counts .entry)) (now (lengths .entry))) tick (record { ticks = distance }) [] [] .answer) ⌝ }
+    ensures { λ _. ⌜ now (received .exit) ≡ output (ticksOr (now (received .entry))) (now (received .entry)) (snapEmptyCall (heldReceiver (now (ticks .entry)) (now (counts .entry)) (now (lengths .entry))) tick (record { ticks = distance }) [] [] .answer) ⌝ }
+    ensures { λ _. ⌜ now (len .exit) ≡ output (lengthOr (now (len .entry))) (now (len .entry)) (snapEmptyCall (heldReceiver (now (ticks .entry)) (now (counts .entry)) (now (lengths .entry))) tick (record { ticks = distance }) [] [] .answer) ⌝ }
+    ensures { λ _. ⌜ now (warnings .exit) ≡ Totals.row (warningsOf (snapEmptyCall (heldReceiver (now (ticks .entry)) (now (counts .entry)) (now (lengths .entry))) tick (record { ticks = distance }) [] [] .answer)) ⌝ }
 {
     let r = load_ticks(ticks, counts);
-    let s = receive_empty(r, tick, delta_tick, lengths);
+    let s = receive_empty(r, Tick(tick), Distance(distance), lengths);
     *warnings = row(s.warnings);
     let answer = s.answer;
     put_ticks(answer, s.ticks, ticks, counts);

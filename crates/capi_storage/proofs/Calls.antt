@@ -15,6 +15,7 @@ use Rattle.format.specs.Totals.{row}
 use Rattle.boundary.specs.Boundary.{status, warningsOf, output, keyOr}
 use Rattle.boundary_states.specs.Rows.{SavedStore}
 use Rattle.boundary_states.specs.Few.{Fits}
+use Rattle.ticks.specs.declared.Tick.{Tick}
 use Rattle.storage.specs.Answers.{setWith, addedIn, addedClash}
 use Rattle.storage.specs.Taking.{takenWith}
 use Rattle.storage.specs.declared.Set.{Set}
@@ -73,7 +74,7 @@ module _ (a : Added) where
       × ((base ≡ output (λ x. x .base) base₀ (addedIn a))
       × ((count ≡ output (λ x. x .ints) count₀ (addedIn a)) × (clash ≡ keyOr clash₀ (addedClash a))))
 
-  pub tells-delta : {b b′ : ℤ} {n : ℕ} → a ≡ added.Delta b n → b′ ≡ b → (base₀ : ℤ) (count₀ : ℕ) (clash₀ : ℤ) → Tells 0 base₀ b′ count₀ n clash₀ clash₀
+  pub tells-delta : {b : Tick} {b′ : ℤ} {n : ℕ} → a ≡ added.Delta b n → b′ ≡ b .0 → (base₀ : ℤ) (count₀ : ℕ) (clash₀ : ℤ) → Tells 0 base₀ b′ count₀ n clash₀ clash₀
   tells-delta e p base₀ count₀ clash₀ = rw (e, p) (refl, (refl, (refl, refl)))
 
   pub tells-clash : {k k′ : ℤ} → a ≡ added.DifferingSizes k → k′ ≡ k → (r : ℕ) (base₀ : ℤ) (count₀ : ℕ) (clash₀ : ℤ) → r ≡ deltaDifferingSizes → Tells r base₀ base₀ count₀ count₀ clash₀ k′

@@ -22,6 +22,7 @@ use storage::HeldTick;
 use storage::Set;
 use storage::Storage;
 use storage::Taken;
+use ticks::Tick;
 
 // A store without tables.
 #[no_mangle]
@@ -62,7 +63,8 @@ pub extern "C" fn cef_storage_snap_tick(
     let t = s.snap_tick(area, i);
     match t {
         HeldTick::At(at) => {
-            *tick = at;
+            let number = at.0;
+            *tick = number;
             *end = 0;
             0
         }
@@ -114,7 +116,7 @@ pub extern "C" fn cef_storage_set_delta_tick(
     ensures { λ r. ⌜ Told (setDeltaTickCall (heldStore (now (ticks .entry)) (now (counts .entry))) (now (area .entry)) tick) (now (ticks .entry)) (now (counts .entry)) (now (ticks .exit)) (now (counts .exit)) (now (area .exit)) (now (warnings .exit)) r ⌝ }
 {
     let s = load_storage(ticks, counts);
-    let set = s.set_delta_tick(tick, area);
+    let set = s.set_delta_tick(Tick(tick), area);
     *warnings = row(set.warnings);
     save_storage(set.storage, ticks, counts);
     let answer = set.answer;
@@ -130,7 +132,8 @@ fn tell(a: Added, base: &mut i32, count: &mut usize, clash: &mut i32) -> u32
 {
     match a {
         Added::Delta { base: b, ints } => {
-            *base = b;
+            let number = b.0;
+            *base = number;
             *count = ints;
             0
         }
@@ -161,7 +164,7 @@ pub extern "C" fn cef_storage_add_snap(
         (addSnapClash (heldStore (now (ticks .entry)) (now (counts .entry))) (now (area .entry)) tick (now (table .entry)) (now (delta .entry))) ⌝ }
 {
     let s = load_storage(ticks, counts);
-    let added = s.add_snap(tick, table, delta, area);
+    let added = s.add_snap(Tick(tick), table, delta, area);
     save_storage(added.storage, ticks, counts);
     let answer = added.answer;
     tell(answer, base, count, clash)
@@ -195,7 +198,8 @@ pub extern "C" fn cef_storage_add_delta(
     ensures { λ _. ⌜ now (scratch .exit) ≡ cleared (now (scratch .entry)) ⌝ }
 {
     let s = load_storage(ticks, counts);
-    let taking = s.add_delta(has_crc != 0, crc, delta_tick, tick, delta, area, scratch);
+    let base = Tick(delta_tick);
+    let taking = s.add_delta(has_crc != 0, crc, base, Tick(tick), delta, area, scratch);
     *warnings = row(taking.warnings);
     save_storage(taking.storage, ticks, counts);
     let answer = taking.answer;

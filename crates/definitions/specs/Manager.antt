@@ -60,11 +60,11 @@ sumOf none = none
 
 -- the receiver takes a message
 abbrev pub receive : Receiver → SnapMsg → List ℕ → List ℕ → List ℕ → Receives
-receive r (Snap tick distance numParts part crc) bytes parts joined =
-    snapCall r (record { tick = tick; deltaTick = distance; numParts = numParts; part = part; crc = crc })
+receive r (Snap tick d numParts part crc) bytes parts joined =
+    snapCall r (record { tick = tick; distance = d; numParts = numParts; part = part; crc = crc })
     bytes parts joined
-receive r (SnapSingle tick distance crc) bytes parts joined = snapSingleCall r tick distance crc bytes parts joined
-receive r (SnapEmpty tick distance) bytes parts joined = snapEmptyCall r tick distance parts joined
+receive r (SnapSingle tick d crc) bytes parts joined = snapSingleCall r tick d crc bytes parts joined
+receive r (SnapEmpty tick d) bytes parts joined = snapEmptyCall r tick d parts joined
 
 -- nothing went to the store
 abbrev pub stopped : Outcome (Option ℤ) → Receives → Storage → List ℤ → Handled

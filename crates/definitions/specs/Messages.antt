@@ -11,20 +11,32 @@ use Rattle.definitions.specs.Refusals.{inputTooLong}
 use Rattle.definitions.specs.Outcome.{Outcome, return, require, _>>_}
 use Rattle.definitions.specs.Tables.{list}
 
--- the numbers of a message; deltaTick is the distance from the base's tick to the table's
+-- ---- ticks and distances
+
+-- a distance between two ticks: of another sort than a tick, which is an int, so that no comparison takes one for the other
+pub record Distance : Type 0 where
+  pub ticks : ℤ
+
+-- the distance from a base's tick to a table's; it wraps on purpose
+abbrev pub distance : ℤ → ℤ → Distance
+distance tick base = record { ticks = wrappingSub tick base }
+
+-- the base's tick, from a table's tick and the distance; it wraps on purpose
+abbrev pub baseTick : ℤ → Distance → ℤ
+baseTick tick d = wrappingSub tick (d .ticks)
+
+-- ---- messages
+
+-- the numbers of a message
 pub data SnapMsg : Type 0 where
-  Snap : (tick deltaTick numParts part crc : ℤ) → SnapMsg
-  SnapEmpty : (tick deltaTick : ℤ) → SnapMsg
-  SnapSingle : (tick deltaTick crc : ℤ) → SnapMsg
+  Snap : (tick : ℤ) (distance : Distance) (numParts part crc : ℤ) → SnapMsg
+  SnapEmpty : (tick : ℤ) (distance : Distance) → SnapMsg
+  SnapSingle : (tick : ℤ) (distance : Distance) (crc : ℤ) → SnapMsg
 
 -- a message: its numbers and its bytes
 pub record Message : Type 0 where
   pub numbers : SnapMsg
   pub bytes : List ℕ
-
--- the base's tick, from a table's tick and the distance; it wraps on purpose
-abbrev pub baseTick : ℤ → ℤ → ℤ
-baseTick tick distance = wrappingSub tick distance
 
 -- ---- cutting
 
@@ -37,18 +49,18 @@ abbrev pub partBytes : List ℕ → ℕ → List ℕ
 partBytes x p = take 900 (drop (900 * p) x)
 
 -- message p of those that carry some bytes in several parts
-abbrev pub partMessage : ℤ → ℤ → List ℕ → ℤ → ℕ → Message
-partMessage tick distance x crc p =
-    record { numbers = Snap tick distance (pos (numParts x)) (pos p) crc; bytes = partBytes x p }
+abbrev pub partMessage : ℤ → Distance → List ℕ → ℤ → ℕ → Message
+partMessage tick d x crc p =
+    record { numbers = Snap tick d (pos (numParts x)) (pos p) crc; bytes = partBytes x p }
 
 -- the messages of some bytes: without bytes an empty one, up to 900 a single one, else parts of 900
 unfoldable pub deltaChunks : ℤ → ℤ → List ℕ → ℤ → List Message
 deltaChunks tick base x crc =
     cond (eqb (length x) 0)
-    (record { numbers = SnapEmpty tick (wrappingSub tick base); bytes = [] } ∷ [])
+    (record { numbers = SnapEmpty tick (distance tick base); bytes = [] } ∷ [])
     (cond (leb (length x) 900)
-    (record { numbers = SnapSingle tick (wrappingSub tick base) crc; bytes = x } ∷ [])
-    (list (partMessage tick (wrappingSub tick base) x crc) (numParts x)))
+    (record { numbers = SnapSingle tick (distance tick base) crc; bytes = x } ∷ [])
+    (list (partMessage tick (distance tick base) x crc) (numParts x)))
 
 -- ---- the calls
 

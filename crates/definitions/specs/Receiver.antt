@@ -12,7 +12,7 @@ use Rattle.definitions.specs.Refusals.{oldDelta, invalidNumParts, invali
 use Rattle.definitions.specs.Warnings.{DuplicateSnap, DifferingAttributes}
 use Rattle.definitions.specs.Outcome.{Outcome, ok, err, return, require, warnIf, _>>=_, _>>_}
 use Rattle.definitions.specs.Tables.{num}
-use Rattle.definitions.specs.Messages.{baseTick}
+use Rattle.definitions.specs.Messages.{Distance, baseTick}
 
 -- what the first part of the unfinished tick said
 pub record Current : Type 0 where
@@ -119,7 +119,7 @@ pub record Taken : Type 0 where
 -- the numbers of a part: its tick, distance, part count, part number and sum
 pub record Part : Type 0 where
   pub tick : ℤ
-  pub deltaTick : ℤ
+  pub distance : Distance
   pub numParts : ℤ
   pub part : ℤ
   pub crc : ℤ
@@ -129,7 +129,7 @@ abbrev pub firstSays : Part → Current
 firstSays m =
     record {
       tick = m .tick;
-      deltaTick = baseTick (m .tick) (m .deltaTick);
+      deltaTick = baseTick (m .tick) (m .distance);
       numParts = num (m .numParts);
       crc = m .crc;
     }
@@ -149,10 +149,10 @@ openedFor (some c) lengths m =
 unfoldable pub opened : Receiver → Part → Opened
 opened r m = openedFor (r .current) (r .parts) m
 
--- whether a part's count or sum differs from the fixed one, or its distance from the fixed base
+-- whether a part's base, count or sum is not the first part's
 unfoldable pub differs : Current → Part → Bool
 differs c m =
-    not (same (m .deltaTick) (c .deltaTick))
+    not (same (baseTick (m .tick) (m .distance)) (c .deltaTick))
     || (not (eqb (num (m .numParts)) (c .numParts)) || not (same (m .crc) (c .crc)))
 
 -- the last missing part came: the tick is finished, and its parts are joined
@@ -205,32 +205,32 @@ takeSnap r m bytes area second = do
   return (putPart (r .previousTick) (withPart o p (length bytes)) (layAt (900 * p) bytes area) second)
 
 -- a whole delta in one message finishes its tick and drops an unfinished one
-abbrev pub whole : ℤ → ℤ → Option DataAndCrc → List ℕ → List ℕ → Taken
-whole tick distance bytes area second =
+abbrev pub whole : ℤ → Distance → Option DataAndCrc → List ℕ → List ℕ → Taken
+whole tick d bytes area second =
     record {
-      received = some (record { deltaTick = baseTick tick distance; tick = tick; dataAndCrc = bytes });
+      received = some (record { deltaTick = baseTick tick d; tick = tick; dataAndCrc = bytes });
       receiver = finishedAt tick;
       parts = area;
       joined = second;
     }
 
 -- a single message: its bytes go into the second part area
-unfoldable pub takeSingle : Receiver → ℤ → ℤ → ℤ → List ℕ → List ℕ → List ℕ → Outcome Taken
-takeSingle r tick distance crc bytes area second = do
+unfoldable pub takeSingle : Receiver → ℤ → Distance → ℤ → List ℕ → List ℕ → List ℕ → Outcome Taken
+takeSingle r tick d crc bytes area second = do
   require (receiverForm r) notInForm
   require (leb 28800 (length second)) scratchTooShort
   require (leb (length bytes) 900) partTooLong
   require (not (isOld r tick)) oldDelta
   warnIf (isCurrent r tick) DuplicateSnap
-  return (whole tick distance (some (record { length = length bytes; crc = crc })) area (lay bytes second))
+  return (whole tick d (some (record { length = length bytes; crc = crc })) area (lay bytes second))
 
 -- an empty message
-unfoldable pub takeEmpty : Receiver → ℤ → ℤ → List ℕ → List ℕ → Outcome Taken
-takeEmpty r tick distance area second = do
+unfoldable pub takeEmpty : Receiver → ℤ → Distance → List ℕ → List ℕ → Outcome Taken
+takeEmpty r tick d area second = do
   require (receiverForm r) notInForm
   require (not (isOld r tick)) oldDelta
   warnIf (isCurrent r tick) DuplicateSnap
-  return (whole tick distance none area second)
+  return (whole tick d none area second)
 
 -- ---- the calls
 
@@ -250,9 +250,9 @@ leaves r area second (err n w) = record { answer = err n w; receiver = r; parts 
 abbrev pub snapCall : Receiver → Part → List ℕ → List ℕ → List ℕ → Receives
 snapCall r m bytes area second = leaves r area second (takeSnap r m bytes area second)
 
-abbrev pub snapSingleCall : Receiver → ℤ → ℤ → ℤ → List ℕ → List ℕ → List ℕ → Receives
-snapSingleCall r tick distance crc bytes area second =
-    leaves r area second (takeSingle r tick distance crc bytes area second)
+abbrev pub snapSingleCall : Receiver → ℤ → Distance → ℤ → List ℕ → List ℕ → List ℕ → Receives
+snapSingleCall r tick d crc bytes area second =
+    leaves r area second (takeSingle r tick d crc bytes area second)
 
-abbrev pub snapEmptyCall : Receiver → ℤ → ℤ → List ℕ → List ℕ → Receives
-snapEmptyCall r tick distance area second = leaves r area second (takeEmpty r tick distance area second)
+abbrev pub snapEmptyCall : Receiver → ℤ → Distance → List ℕ → List ℕ → Receives
+snapEmptyCall r tick d area second = leaves r area second (takeEmpty r tick d area second)

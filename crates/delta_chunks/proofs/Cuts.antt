@@ -13,10 +13,9 @@ use lib.Seq.{take-all}
 use mir.Syntax.{w32}
 use mir.Val.{toZ}
 use mir.Facts.{toZ-pos}
-use Rattle.definitions.specs.Ints.{wrappingSub}
 use Rattle.definitions.specs.Refusals.{inputTooLong}
 use Rattle.definitions.specs.Outcome.{return, refuse}
-use Rattle.definitions.specs.Messages.{SnapMsg, Snap, SnapEmpty, SnapSingle, numParts, partBytes, partMessage, deltaChunks, nthMessage, numChunksCall, chunkCall}
+use Rattle.definitions.specs.Messages.{Distance, distance, SnapMsg, Snap, SnapEmpty, SnapSingle, numParts, partBytes, partMessage, deltaChunks, nthMessage, numChunksCall, chunkCall}
 use Rattle.laws.specs.Tests.{below}
 use Rattle.laws.specs.CutLaws.{chunks-none, chunks-single, one-chunk, length-chunks, nth-chunk, nth-past}
 use Rattle.delta_chunks.specs.Answers.{bytesOf}
@@ -58,13 +57,13 @@ module _ (tick base : ℤ) (x : List ℕ) (crc : ℤ) where
     told : (i : ℕ) (m n : SnapMsg) (b : List ℕ) → chunkCall tick base x crc i ≡ return (some (record { numbers = m; bytes = b })) → n ≡ m → chunkCall tick base x crc i ≡ return (some (record { numbers = n; bytes = bytesOf (chunkCall tick base x crc i) }))
     told i m n b e d = rw (e, d)
 
-    is-empty : length x ≡ 0 → chunkCall tick base x crc 0 ≡ return (some (record { numbers = SnapEmpty tick (wrappingSub tick base); bytes = [] }))
+    is-empty : length x ≡ 0 → chunkCall tick base x crc 0 ≡ return (some (record { numbers = SnapEmpty tick (distance tick base); bytes = [] }))
     is-empty e = within 0 ∙ rw (chunks-none tick base x crc e)
 
-    is-single : 0 < length x → length x ≤ 900 → chunkCall tick base x crc 0 ≡ return (some (record { numbers = SnapSingle tick (wrappingSub tick base) crc; bytes = x }))
+    is-single : 0 < length x → length x ≤ 900 → chunkCall tick base x crc 0 ≡ return (some (record { numbers = SnapSingle tick (distance tick base) crc; bytes = x }))
     is-single l k = within 0 ∙ rw (chunks-single tick base x crc l k)
 
-    is-part : (i : ℕ) → 900 < length x → i < numParts x → chunkCall tick base x crc i ≡ return (some (partMessage tick (wrappingSub tick base) x crc i))
+    is-part : (i : ℕ) → 900 < length x → i < numParts x → chunkCall tick base x crc i ≡ return (some (partMessage tick (distance tick base) x crc i))
     is-part i l k = within i ∙ ap return (nth-chunk tick base x crc i l k)
 
     -- after the only message
@@ -88,19 +87,19 @@ module _ (tick base : ℤ) (x : List ℕ) (crc : ℤ) where
 
     -- ---- its numbers
 
-    pub empty-told : (i : ℕ) (t d : ℤ) → length x ≡ 0 → i ≡ 0 → t ≡ tick → d ≡ wrappingSub tick base → chunkCall tick base x crc i ≡ return (some (record { numbers = SnapEmpty t d; bytes = bytesOf (chunkCall tick base x crc i) }))
-    empty-told i t d e z p q = rw z (told 0 (SnapEmpty tick (wrappingSub tick base)) (SnapEmpty t d) [] (is-empty e) (rw (p, q)))
+    pub empty-told : (i : ℕ) (d : Distance) → length x ≡ 0 → i ≡ 0 → d ≡ distance tick base → chunkCall tick base x crc i ≡ return (some (record { numbers = SnapEmpty tick d; bytes = bytesOf (chunkCall tick base x crc i) }))
+    empty-told i d e z q = rw z (told 0 (SnapEmpty tick (distance tick base)) (SnapEmpty tick d) [] (is-empty e) (rw q))
 
-    pub single-told : (i : ℕ) (t d s : ℤ) → (length x ≡ 0 → ⊥) → length x ≤ 900 → i ≡ 0 → t ≡ tick → d ≡ wrappingSub tick base → s ≡ crc → chunkCall tick base x crc i ≡ return (some (record { numbers = SnapSingle t d s; bytes = bytesOf (chunkCall tick base x crc i) }))
-    single-told i t d s e l z p q r =
-        rw z (told 0 (SnapSingle tick (wrappingSub tick base) crc) (SnapSingle t d s) x (is-single (omega arith) l) (rw (p, q, r)))
+    pub single-told : (i : ℕ) (d : Distance) (s : ℤ) → (length x ≡ 0 → ⊥) → length x ≤ 900 → i ≡ 0 → d ≡ distance tick base → s ≡ crc → chunkCall tick base x crc i ≡ return (some (record { numbers = SnapSingle tick d s; bytes = bytesOf (chunkCall tick base x crc i) }))
+    single-told i d s e l z q r =
+        rw z (told 0 (SnapSingle tick (distance tick base) crc) (SnapSingle tick d s) x (is-single (omega arith) l) (rw (q, r)))
 
-    pub part-told : (i : ℕ) (t d s : ℤ) → 900 < length x → i < (length x + 900 - 1) / 900 → t ≡ tick → d ≡ wrappingSub tick base → s ≡ crc → chunkCall tick base x crc i ≡ return (some (record { numbers = Snap t d (toZ w32 ((length x + 900 - 1) / 900)) (toZ w32 i) s; bytes = bytesOf (chunkCall tick base x crc i) }))
-    part-told i t d s l k p q r =
+    pub part-told : (i : ℕ) (d : Distance) (s : ℤ) → 900 < length x → i < (length x + 900 - 1) / 900 → d ≡ distance tick base → s ≡ crc → chunkCall tick base x crc i ≡ return (some (record { numbers = Snap tick d (toZ w32 ((length x + 900 - 1) / 900)) (toZ w32 i) s; bytes = bytesOf (chunkCall tick base x crc i) }))
+    part-told i d s l k q r =
         let e : (length x + 900 - 1) / 900 ≡ numParts x = omega arith in
         let n : toZ w32 ((length x + 900 - 1) / 900) ≡ pos (numParts x) = ap (toZ w32) e ∙ toZ-pos w32 (omega arith) in
         let m : toZ w32 i ≡ pos i = toZ-pos w32 (omega arith) in
-        told i (Snap tick (wrappingSub tick base) (pos (numParts x)) (pos i) crc) (Snap t d (toZ w32 ((length x + 900 - 1) / 900)) (toZ w32 i) s) (partBytes x i) (is-part i l (omega arith)) (rw (p, q, r, n, m))
+        told i (Snap tick (distance tick base) (pos (numParts x)) (pos i) crc) (Snap tick d (toZ w32 ((length x + 900 - 1) / 900)) (toZ w32 i) s) (partBytes x i) (is-part i l (omega arith)) (rw (q, r, n, m))
 
     -- ---- its bytes
 

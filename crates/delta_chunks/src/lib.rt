@@ -7,6 +7,7 @@ ghost use Rattle.delta_chunks.specs.Answers.{chunkCount, chunkOf, bytesO
 use format::Error;
 use gamenet_snap::MAX_SNAPSHOT_PACKSIZE;
 use gamenet_snap::SnapMsg;
+use ticks::Tick;
 
 // How many messages some bytes make, or the refusal.
 pub enum NumChunks {
@@ -35,13 +36,13 @@ pub fn num_chunks(data: &[u8]) -> NumChunks
 }
 
 // The numbers of the i-th message; delta_tick is the base's tick, and the distance wraps.
-pub fn chunk_numbers(tick: i32, delta_tick: i32, data: &[u8], crc: i32, i: usize) -> Chunk
-    ensures { λ r. ⌜ chunkCall tick «delta_tick» (now («data» .entry)) crc i ≡ chunkOf r (bytesOf (chunkCall tick «delta_tick» (now («data» .entry)) crc i)) ⌝ }
+pub fn chunk_numbers(tick: Tick, delta_tick: Tick, data: &[u8], crc: i32, i: usize) -> Chunk
+    ensures { λ r. ⌜ chunkCall (tick .0) («delta_tick» .0) (now («data» .entry)) crc i ≡ chunkOf r (bytesOf (chunkCall (tick .0) («delta_tick» .0) (now («data» .entry)) crc i)) ⌝ }
 {
     if 1048576 < data.len() {
         return Chunk::Refused(Error::InputTooLong);
     }
-    let distance = ints::wrapping_sub(tick, delta_tick);
+    let distance = tick.since(delta_tick);
     if data.len() == 0 {
         if i == 0 {
             return Chunk::Message(SnapMsg::SnapEmpty {

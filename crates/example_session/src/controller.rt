@@ -5,7 +5,6 @@ use crate::link::Sent;
 use crate::radio::cut;
 use crate::random::next_seed;
 use crate::random::side_of;
-use format::OptionTick;
 use format::Stored;
 use packer::IntWrite;
 use raw_snap::Checksum;
@@ -15,6 +14,8 @@ use replay_text::areas::part_area;
 use snap::TypeId;
 use storage::Added;
 use storage::Storage;
+use ticks::OptionTick;
+use ticks::Tick;
 
 // The types of items: a number, a kind that the builder numbers, and one with the number 8000 hex.
 enum Sort {
@@ -152,7 +153,7 @@ fn pack(delta: &[i32], packed: &mut [u8]) -> usize {
 }
 
 // Prints what was added; returns the tick of its base.
-fn report(tick: i32, answer: Added, len: usize) -> i32 {
+fn report(tick: Tick, answer: Added, len: usize) -> Tick {
     match answer {
         Added::Delta { base, ints } => {
             print_added(tick, base, ints, len);
@@ -160,11 +161,11 @@ fn report(tick: i32, answer: Added, len: usize) -> i32 {
         }
         Added::DifferingSizes(_) => {
             print_not_added(tick);
-            -1
+            Tick(-1)
         }
         Added::Refused(_) => {
             print_not_added(tick);
-            -1
+            Tick(-1)
         }
     }
 }
@@ -206,7 +207,13 @@ impl Controller {
     }
 
     // Adds a table and packs its delta.
-    fn add(self, made: Prepared, tick: i32, table: &[i32; 16384], area: &mut [i32; 65536]) -> Told {
+    fn add(
+        self,
+        made: Prepared,
+        tick: Tick,
+        table: &[i32; 16384],
+        area: &mut [i32; 65536],
+    ) -> Told {
         let mut delta = int_area();
         let mut packed = part_area();
         let storage = self.storage;
@@ -228,7 +235,7 @@ impl Controller {
     }
 
     // Adds a table at a tick. If again is set and there is a base, it is the base's table again, and no bytes are sent.
-    pub fn tell(self, tick: i32, again: bool, area: &mut [i32; 65536]) -> Told {
+    pub fn tell(self, tick: Tick, again: bool, area: &mut [i32; 65536]) -> Told {
         let mut table = int_area();
         let made = prepare(self, again, area, &mut table);
         self.add(made, tick, &table, area)

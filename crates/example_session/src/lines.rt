@@ -4,15 +4,17 @@ use gamenet_snap::SnapMsg;
 use logbook::Answer;
 use manager::Handled;
 use replay_text::line::Line;
+use ticks::Distance;
+use ticks::Tick;
 
 // The tick, the base and the part of a message.
-fn part_line(tick: i32, distance: i32, part: i32, count: i32) -> Line {
-    let base = ints::wrapping_sub(tick, distance);
+fn part_line(tick: Tick, distance: Distance, part: i32, count: i32) -> Line {
+    let base = tick.minus(distance);
     let line = Line::new()
         .text(b"tick ")
-        .int(tick)
+        .int(tick.0)
         .text(b" base ")
-        .int(base);
+        .int(base.0);
     line.text(b" part ").int(part).text(b" of ").int(count)
 }
 
@@ -38,8 +40,8 @@ fn message_line(m: SnapMsg) -> Line {
 }
 
 // Adds a tick that is acknowledged.
-fn acknowledged(line: Line, tick: i32) -> Line {
-    line.text(b"acknowledged ").int(tick)
+fn acknowledged(line: Line, tick: Tick) -> Line {
+    line.text(b"acknowledged ").int(tick.0)
 }
 
 // Adds the number of a refusal.
@@ -83,13 +85,13 @@ pub fn print_on_the_way(m: SnapMsg, what: &[u8]) {
 }
 
 // A table and its tick.
-fn table_line(tick: i32) -> Line {
-    Line::new().text(b"table at tick ").int(tick)
+fn table_line(tick: Tick) -> Line {
+    Line::new().text(b"table at tick ").int(tick.0)
 }
 
 // Prints a table that was added: its tick, its base, and the length of its delta in ints and in packed bytes.
-pub fn print_added(tick: i32, base: i32, ints: usize, bytes: usize) {
-    let line = table_line(tick).text(b": base ").int(base);
+pub fn print_added(tick: Tick, base: Tick, ints: usize, bytes: usize) {
+    let line = table_line(tick).text(b": base ").int(base.0);
     let line = line.text(b", delta of ").number(ints);
     line.text(b" ints, sent in ")
         .number(bytes)
@@ -98,23 +100,23 @@ pub fn print_added(tick: i32, base: i32, ints: usize, bytes: usize) {
 }
 
 // Prints a table that was not added.
-pub fn print_not_added(tick: i32) {
+pub fn print_not_added(tick: Tick) {
     table_line(tick).text(b" REFUSED").print();
 }
 
 // An acknowledgement.
-fn acknowledgement(tick: i32) -> Line {
-    Line::new().text(b"acknowledgement ").int(tick)
+fn acknowledgement(tick: Tick) -> Line {
+    Line::new().text(b"acknowledgement ").int(tick.0)
 }
 
 // Prints an acknowledgement, and what happened to it on the way.
-pub fn print_acknowledgement(tick: i32, what: &[u8]) {
+pub fn print_acknowledgement(tick: Tick, what: &[u8]) {
     acknowledgement(tick).text(what).print();
 }
 
 // Prints an acknowledgement that the controller took as its base.
-pub fn print_base_set(tick: i32) {
-    if ints::signed_less(tick, 0) {
+pub fn print_base_set(tick: Tick) {
+    if tick.is_negative() {
         print_acknowledgement(tick, b": no base");
         return;
     }
@@ -122,7 +124,7 @@ pub fn print_base_set(tick: i32) {
 }
 
 // Prints an acknowledgement that the controller refused as a base.
-pub fn print_base_refused(tick: i32, e: Error) {
+pub fn print_base_refused(tick: Tick, e: Error) {
     refused(acknowledgement(tick).text(b": base "), e).print();
 }
 
@@ -135,8 +137,8 @@ fn verdict(equal: bool) -> Line {
 }
 
 // Prints the last line: whether both ends hold the same table, and how often each thing happened.
-pub fn print_last(equal: bool, tick: i32, messages: usize, acknowledged: usize, differing: usize) {
-    let line = verdict(equal).text(b" at tick ").int(tick);
+pub fn print_last(equal: bool, tick: Tick, messages: usize, acknowledged: usize, differing: usize) {
+    let line = verdict(equal).text(b" at tick ").int(tick.0);
     let line = line.text(b", ").number(messages).text(b" messages, ");
     let line = line.number(acknowledged).text(b" acknowledgements, ");
     line.number(differing)

@@ -10,6 +10,7 @@ use delta_chunks::chunk_data;
 use delta_chunks::chunk_numbers;
 use delta_chunks::num_chunks;
 use gamenet_snap::SnapMsg;
+use ticks::Tick;
 
 // The radio and the printer.
 pub struct Link {
@@ -19,8 +20,8 @@ pub struct Link {
 
 // The tick of a delta, the tick of its base, and its table's sum.
 pub struct Sent {
-    pub tick: i32,
-    pub base: i32,
+    pub tick: Tick,
+    pub base: Tick,
     pub crc: i32,
 }
 
@@ -86,7 +87,9 @@ impl Link {
         sure: bool,
         area: &mut [i32; 65536],
     ) -> Link {
-        let chunk = chunk_numbers(sent.tick, sent.base, data, sent.crc, i);
+        let tick = sent.tick;
+        let base = sent.base;
+        let chunk = chunk_numbers(tick, base, data, sent.crc, i);
         let Chunk::Message(m) = chunk else {
             return self;
         };

@@ -8,7 +8,6 @@ mod random;
 
 use controller::Controller;
 use controller::packed_part;
-use format::OptionTick;
 use lines::print_acknowledgement;
 use lines::print_base_refused;
 use lines::print_base_set;
@@ -19,6 +18,8 @@ use radio::Radio;
 use random::side_of;
 use storage::Set;
 use storage::Storage;
+use ticks::OptionTick;
+use ticks::Tick;
 
 // The last tick, which is sent without loss.
 const LAST: u32 = 39;
@@ -27,22 +28,22 @@ const LAST: u32 = 39;
 struct Session {
     controller: Controller,
     link: Link,
-    ack_tick: i32,
+    ack_tick: Tick,
 }
 
 // The tick that a printer acknowledges, or -1.
-fn acknowledged(h: Link) -> i32 {
+fn acknowledged(h: Link) -> Tick {
     let printer = h.printer;
     let manager = printer.manager;
     let tick = manager.ack_tick();
     match tick {
         OptionTick::Some(t) => t,
-        OptionTick::None => -1,
+        OptionTick::None => Tick(-1),
     }
 }
 
 // Delivers an acknowledgement to the controller, which sets its base from it; -1 sets none.
-fn set_base(s: Storage, tick: i32, control: &mut [i32]) -> Storage {
+fn set_base(s: Storage, tick: Tick, control: &mut [i32]) -> Storage {
     let setting = s.set_delta_tick(tick, control);
     let answer = setting.answer;
     match answer {
@@ -53,7 +54,7 @@ fn set_base(s: Storage, tick: i32, control: &mut [i32]) -> Storage {
 }
 
 // Sends the printer's acknowledgement back: it is lost, or held back while the one held back before is delivered, or delivered.
-fn acknowledge(controller: Controller, link: Link, late: i32, control: &mut [i32]) -> Session {
+fn acknowledge(controller: Controller, link: Link, late: Tick, control: &mut [i32]) -> Session {
     let link = link.roll();
     let radio = link.radio;
     let side = side_of(radio.seed);
@@ -83,12 +84,13 @@ fn turn(s: Session, tick: u32, control: &mut [i32; 65536], area: &mut [i32; 6553
     let link = s.link;
     let link = link.come_late(area);
     let controller = s.controller;
-    let told = controller.tell(ints::from_bits(tick), tick % 8 == 5, control);
+    let told = controller.tell(Tick(ints::from_bits(tick)), tick % 8 == 5, control);
     let packed = told.packed;
     let sent = told.sent;
     let link = link.send_all(sent, packed_part(&packed, told.len), tick == LAST, area);
     let controller = told.controller;
-    acknowledge(controller, link, s.ack_tick, control)
+    let late = s.ack_tick;
+    acknowledge(controller, link, late, control)
 }
 
 // Whether two lists of ints are equal.
@@ -133,7 +135,7 @@ fn begin() -> Session {
     Session {
         controller,
         link,
-        ack_tick: -1,
+        ack_tick: Tick(-1),
     }
 }
 

@@ -26,16 +26,11 @@ pub struct Printer {
     pub differing: usize,
 }
 
-// Whether two ticks are equal.
-fn same(a: i32, b: i32) -> bool {
-    ints::to_bits(a) == ints::to_bits(b)
-}
-
 // Whether the manager's answer equals the logbook's.
 fn agree(a: Handled, b: Answer) -> bool {
     match a {
         Handled::Tick(t) => match b {
-            Answer::Acknowledges(u) => same(t, u),
+            Answer::Acknowledges(u) => t.is_same(u),
             Answer::NotYet => false,
             Answer::Refused(_) => false,
         },

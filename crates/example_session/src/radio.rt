@@ -2,6 +2,8 @@
 use crate::random::next_seed;
 use crate::random::side_of;
 use gamenet_snap::SnapMsg;
+use ticks::Distance;
+use ticks::Tick;
 
 // The most bytes of a message.
 const PART: usize = 900;
@@ -31,8 +33,8 @@ pub struct Radio {
 // No message.
 fn none() -> Letter {
     let message = SnapMsg::SnapEmpty {
-        tick: 0,
-        delta_tick: 0,
+        tick: Tick(0),
+        delta_tick: Distance(0),
     };
     Letter {
         full: false,

@@ -3,4 +3,3 @@ pub mod Numbers
 pub mod Totals
 pub mod Sources
 pub mod Answers
-pub mod Ticks

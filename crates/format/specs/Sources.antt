@@ -62,14 +62,3 @@ weirdly weird = set WeirdNegativeDeltaTick (cond weird 1 0) none
 -- the same, and the warnings of applying
 abbrev pub takenCounts : Bool → Bool → ℕ → Counts
 takenCounts weird unknown n = set WeirdNegativeDeltaTick (cond weird 1 0) (typedCounts unknown n)
-
--- ---- a message
-
--- each kind of warning from the step that counts it: receiver, reading of the delta, or store; the delta's steps leave no ints over
-abbrev pub merge : Counts → Counts → Counts → Counts
-merge received read taken =
-    set DuplicateSnap (received .duplicateSnap)
-    (set DifferingAttributes (received .differingAttributes)
-    (set UnknownDelete (taken .unknownDelete)
-    (set ExcessUuidItemData (taken .excessUuidItemData)
-    (set WeirdNegativeDeltaTick (taken .weirdNegativeDeltaTick) (set ExcessSnapData 0 read)))))

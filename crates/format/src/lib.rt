@@ -11,8 +11,9 @@ ghost use Rattle.definitions.specs.DeltaCalls.{createItemDeltaCall, applyItemDe
 ghost use Rattle.format.specs.Numbers.{number};
 ghost use Rattle.format.specs.Totals as Totals;
 ghost use Rattle.format.specs.Totals.{counts};
-ghost use Rattle.format.specs.Sources.{tableCounts, deltaCounts, typedCounts, flagged, takenCounts, merge};
+ghost use Rattle.format.specs.Sources.{tableCounts, deltaCounts, typedCounts, flagged, takenCounts};
 ghost use Rattle.laws.specs.WarningLaws.{packed};
+ghost use Rattle.laws.specs.WarningKinds.{merge};
 ghost use Rattle.format.specs.Answers.{storedInts};
 
 // Why a call is refused, in the order of the table of refusals in docs/FORMAT.md.
@@ -96,12 +97,6 @@ pub fn error_number(e: Error) -> u32
         Error::NotInForm => 47,
         Error::ShortRule => 55,
     }
-}
-
-// A tick, if there is one.
-pub enum OptionTick {
-    Some(i32),
-    None,
 }
 
 // How many kinds of warning there are.

@@ -8,14 +8,14 @@ use borrow.Author.Tests.{le-ltb, le-leb, lt-leb}
 use lib.IntN.{ℤ, pos, negsuc}
 use lib.ListN.{length, take, drop, length-append, length-drop}
 use lib.Seq.{take-all}
-use Rattle.definitions.specs.Ints.{bits, fromBits, wrappingSub}
+use Rattle.definitions.specs.Ints.{bits, fromBits}
 use Rattle.definitions.specs.Warnings.{OverlongIntEncoding, NonZeroIntPadding, one}
 use Rattle.definitions.specs.Refusals.{tooLongSnap, tooManyItems, invalidOffset}
 use Rattle.definitions.specs.Outcome.{ok, return, refuse}
 use Rattle.definitions.specs.Packed.{signed, more, readInt, writeMore, writeInt}
 use Rattle.definitions.specs.Tables.{Item, Table, body, offsets, written, num, nat, edge, start, keyAt, valuesAt, all, items, ends, lowest, fits, inForm, tableOf, find, insert, list}
 use Rattle.definitions.specs.TableReading.{headerInt, readItems, readTable, addItem}
-use Rattle.definitions.specs.Messages.{Message, Snap, SnapEmpty, SnapSingle, numParts, deltaChunks}
+use Rattle.definitions.specs.Messages.{Message, Snap, SnapEmpty, SnapSingle, numParts, deltaChunks, Distance, distance}
 use Rattle.laws.specs.TableForm.{length-written}
 use Rattle.laws.specs.CutLaws.{chunks-none, chunks-single, chunks-parts}
 
@@ -36,13 +36,13 @@ bare n = list (λ k. item k []) n
 
 -- the empty and the single message of some bytes, and one part of two
 abbrev pub emptyMessage : ℤ → ℤ → Message
-emptyMessage tick base = record { numbers = SnapEmpty tick (wrappingSub tick base); bytes = [] }
+emptyMessage tick base = record { numbers = SnapEmpty tick (distance tick base); bytes = [] }
 
 abbrev pub singleMessage : ℤ → ℤ → ℤ → List ℕ → Message
-singleMessage tick base crc x = record { numbers = SnapSingle tick (wrappingSub tick base) crc; bytes = x }
+singleMessage tick base crc x = record { numbers = SnapSingle tick (distance tick base) crc; bytes = x }
 
 abbrev pub ofTwo : ℤ → ℤ → ℤ → ℕ → List ℕ → Message
-ofTwo tick base crc p x = record { numbers = Snap tick (wrappingSub tick base) (pos 2) (pos p) crc; bytes = x }
+ofTwo tick base crc p x = record { numbers = Snap tick (distance tick base) (pos 2) (pos p) crc; bytes = x }
 
 -- ---- the table
 
@@ -77,18 +77,18 @@ unfolding body
 length-alone k v = omega (arith, length-written (item k v ∷ []), length-append v [])
 
 -- two parts
-in-two : (tick distance crc : ℤ) (x : List ℕ) (n : ℕ) → n ≡ 2 → take 900 (drop 900 x) ≡ drop 900 x → list {X = Message} (λ p. record { numbers = Snap tick distance (pos n) (pos p) crc; bytes = take 900 (drop (900 * p) x) }) n ≡ record { numbers = Snap tick distance (pos 2) (pos 0) crc; bytes = take 900 x } ∷ record { numbers = Snap tick distance (pos 2) (pos 1) crc; bytes = drop 900 x } ∷ []
+in-two : (tick : ℤ) (d : Distance) (crc : ℤ) (x : List ℕ) (n : ℕ) → n ≡ 2 → take 900 (drop 900 x) ≡ drop 900 x → list {X = Message} (λ p. record { numbers = Snap tick d (pos n) (pos p) crc; bytes = take 900 (drop (900 * p) x) }) n ≡ record { numbers = Snap tick d (pos 2) (pos 0) crc; bytes = take 900 x } ∷ record { numbers = Snap tick d (pos 2) (pos 1) crc; bytes = drop 900 x } ∷ []
 unfolding list
-in-two tick distance crc x n m e =
+in-two tick d crc x n m e =
     rw m
-    (ap (λ (y : List ℕ). record { numbers = Snap tick distance (pos 2) (pos 0) crc; bytes = take 900 x } ∷ record { numbers = Snap tick distance (pos 2) (pos 1) crc; bytes = y } ∷ []) e)
+    (ap (λ (y : List ℕ). record { numbers = Snap tick d (pos 2) (pos 0) crc; bytes = take 900 x } ∷ record { numbers = Snap tick d (pos 2) (pos 1) crc; bytes = y } ∷ []) e)
 
 -- 901 bytes make two
 parts-901 : (tick base crc : ℤ) (x : List ℕ) → length x ≡ 901 → deltaChunks tick base x crc ≡ ofTwo tick base crc 0 (take 900 x) ∷ ofTwo tick base crc 1 (drop 900 x) ∷ []
 parts-901 tick base crc x n =
     let e : take 900 (drop 900 x) ≡ drop 900 x = take-all 900 (drop 900 x) (omega (arith, length-drop 900 x)) in
     let m : numParts x ≡ 2 = omega arith in
-    chunks-parts tick base x crc (omega arith) ∙ in-two tick (wrappingSub tick base) crc x (numParts x) m e
+    chunks-parts tick base x crc (omega arith) ∙ in-two tick (distance tick base) crc x (numParts x) m e
 
 pub marked-cases : MarkedCases
 unfolding signed bits fromBits more readInt writeMore writeInt num nat edge start keyAt valuesAt all items ends lowest fits inForm tableOf body offsets written list bare readTable headerInt readItems addItem find insert

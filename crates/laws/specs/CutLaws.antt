@@ -10,9 +10,8 @@ use borrow.Author.Tests.{le-leb, lt-leb, eq-eqb, ne-eqb}
 use lib.IntN.{ℤ}
 use lib.ListN.{length, take, drop, getD, length-take, length-drop, drop-of-length-le}
 use lib.Seq.{take-all, take-add}
-use Rattle.definitions.specs.Ints.{wrappingSub}
 use Rattle.definitions.specs.Tables.{list}
-use Rattle.definitions.specs.Messages.{Message, SnapEmpty, SnapSingle, numParts, partBytes, partMessage, deltaChunks, nthMessage}
+use Rattle.definitions.specs.Messages.{Message, SnapEmpty, SnapSingle, numParts, partBytes, partMessage, deltaChunks, nthMessage, distance}
 use Rattle.definitions.specs.Receiver.{isIn, partIn, joined}
 use Rattle.laws.specs.Tests.{below}
 use Rattle.laws.specs.ListLaws.{list-cons}
@@ -22,17 +21,17 @@ use Rattle.laws.specs.TableForm.{length-list}
 
 module _ (tick base : ℤ) (x : List ℕ) (crc : ℤ) where
   -- no bytes make one empty message
-  pub chunks-none : length x ≡ 0 → deltaChunks tick base x crc ≡ record { numbers = SnapEmpty tick (wrappingSub tick base); bytes = [] } ∷ []
+  pub chunks-none : length x ≡ 0 → deltaChunks tick base x crc ≡ record { numbers = SnapEmpty tick (distance tick base); bytes = [] } ∷ []
   unfolding deltaChunks
   chunks-none e = rw (eq-eqb (length x) 0 e)
 
   -- up to 900 bytes make one single message
-  pub chunks-single : 0 < length x → length x ≤ 900 → deltaChunks tick base x crc ≡ record { numbers = SnapSingle tick (wrappingSub tick base) crc; bytes = x } ∷ []
+  pub chunks-single : 0 < length x → length x ≤ 900 → deltaChunks tick base x crc ≡ record { numbers = SnapSingle tick (distance tick base) crc; bytes = x } ∷ []
   unfolding deltaChunks
   chunks-single h l = rw (ne-eqb (length x) 0 (λ e. omega arith), le-leb (length x) 900 l)
 
   -- more bytes make parts
-  pub chunks-parts : 900 < length x → deltaChunks tick base x crc ≡ list (partMessage tick (wrappingSub tick base) x crc) (numParts x)
+  pub chunks-parts : 900 < length x → deltaChunks tick base x crc ≡ list (partMessage tick (distance tick base) x crc) (numParts x)
   unfolding deltaChunks
   chunks-parts h = rw (ne-eqb (length x) 0 (λ e. omega arith), lt-leb (length x) 900 h)
 
@@ -44,7 +43,7 @@ module _ (tick base : ℤ) (x : List ℕ) (crc : ℤ) where
   pub length-chunks : 0 < length x → length (deltaChunks tick base x crc) ≡ numParts x
   length-chunks h =
       ⊎-elim
-      (λ (l : 900 < length x). rw (chunks-parts l) (length-list (partMessage tick (wrappingSub tick base) x crc) (numParts x)))
+      (λ (l : 900 < length x). rw (chunks-parts l) (length-list (partMessage tick (distance tick base) x crc) (numParts x)))
       (λ (l : length x ≤ 900). rw (chunks-single h l) (omega arith))
       (below 900 (length x))
 
@@ -61,9 +60,9 @@ nth-past (m ∷ l) zero h = absurd (omega arith)
 nth-past (m ∷ l) (suc i) h = nth-past l i (omega arith)
 
 -- message p of a delta in parts
-pub nth-chunk : (tick base : ℤ) (x : List ℕ) (crc : ℤ) (p : ℕ) → 900 < length x → p < numParts x → nthMessage (deltaChunks tick base x crc) p ≡ some (partMessage tick (wrappingSub tick base) x crc p)
+pub nth-chunk : (tick base : ℤ) (x : List ℕ) (crc : ℤ) (p : ℕ) → 900 < length x → p < numParts x → nthMessage (deltaChunks tick base x crc) p ≡ some (partMessage tick (distance tick base) x crc p)
 nth-chunk tick base x crc p h l =
-    rw (chunks-parts tick base x crc h) (nth-list (partMessage tick (wrappingSub tick base) x crc) (numParts x) p l)
+    rw (chunks-parts tick base x crc h) (nth-list (partMessage tick (distance tick base) x crc) (numParts x) p l)
 
 -- ---- parts
 

@@ -16,6 +16,7 @@ use Rattle.definitions.specs.Refusals.{oldDelta, invalidNumParts, invalidPart, 
 use Rattle.definitions.specs.Warnings.{Counts, DuplicateSnap, DifferingAttributes}
 use Rattle.definitions.specs.Outcome.{Outcome, ok, err, refuse}
 use Rattle.definitions.specs.Receiver.{Current, Receiver, Part, Opened, Taken, DataAndCrc, ReceivedDelta, Receives, finishedAt, isIn, countIn, abovePrevious, receiverForm, oldFor, isOld, isCurrent, opened, differs, finish, wait, withPart, putPart, takeSnap, takeSingle, takeEmpty, whole, leaves, snapCall, snapSingleCall, snapEmptyCall}
+use Rattle.definitions.specs.Messages.{Distance}
 use Rattle.laws.specs.OutcomeLaws.{ok-value, ok-not-err}
 use Rattle.laws.specs.TickLaws.{not-below-itself, not-below-further, not-below-back, below-before}
 use Rattle.laws.specs.ReceiverForm.{OnTaken, on-require, on-warn, on-leaves, finished-form, form-begun, newer, opened-begun, snap-form, single-form, empty-form}
@@ -54,7 +55,7 @@ put-finishes previous o area second = go (eqb (countIn (o .parts) 32) (o .curren
     go true d e = by-tick _ d e
     go false d e = absurd (none-not-some e)
 
-whole-finishes : (tick distance : ℤ) (x : Option DataAndCrc) (area second : List ℕ) → Finishes (whole tick distance x area second)
+whole-finishes : (tick : ℤ) (distance : Distance) (x : Option DataAndCrc) (area second : List ℕ) → Finishes (whole tick distance x area second)
 whole-finishes tick distance x area second d e = by-tick _ d e
 
 finishing : (r : Receiver) (area second : List ℕ) (o : Outcome Taken) (d : ReceivedDelta) (w : Counts) → OnTaken Finishes o → leaves r area second o .answer ≡ ok (some d) w → leaves r area second o .receiver ≡ finishedAt (d .tick)
@@ -77,7 +78,7 @@ module _ (r : Receiver) (d : ReceivedDelta) (w : Counts) (area second : List ℕ
       (on-require Finishes (not (isIn (opened r m .parts) (num (m .part)))) duplicatePart _
       (λ _. put-finishes (r .previousTick) (withPart (opened r m) (num (m .part)) (length bytes)) (layAt (900 * num (m .part)) bytes area) second))))))))) e
 
-  pub single-finishes : (tick distance crc : ℤ) (bytes : List ℕ) → snapSingleCall r tick distance crc bytes area second .answer ≡ ok (some d) w → snapSingleCall r tick distance crc bytes area second .receiver ≡ finishedAt (d .tick)
+  pub single-finishes : (tick : ℤ) (distance : Distance) (crc : ℤ) (bytes : List ℕ) → snapSingleCall r tick distance crc bytes area second .answer ≡ ok (some d) w → snapSingleCall r tick distance crc bytes area second .receiver ≡ finishedAt (d .tick)
   unfolding takeSingle
   single-finishes tick distance crc bytes e =
       finishing r area second (takeSingle r tick distance crc bytes area second) d w
@@ -87,7 +88,7 @@ module _ (r : Receiver) (d : ReceivedDelta) (w : Counts) (area second : List ℕ
       (λ _. on-require Finishes (not (isOld r tick)) oldDelta _
       (λ _. on-warn Finishes (isCurrent r tick) DuplicateSnap _ (whole-finishes tick distance _ area (lay bytes second))))))) e
 
-  pub empty-finishes : (tick distance : ℤ) → snapEmptyCall r tick distance area second .answer ≡ ok (some d) w → snapEmptyCall r tick distance area second .receiver ≡ finishedAt (d .tick)
+  pub empty-finishes : (tick : ℤ) (distance : Distance) → snapEmptyCall r tick distance area second .answer ≡ ok (some d) w → snapEmptyCall r tick distance area second .receiver ≡ finishedAt (d .tick)
   unfolding takeEmpty
   empty-finishes tick distance e =
       finishing r area second (takeEmpty r tick distance area second) d w
@@ -148,7 +149,7 @@ module _ (t : ℤ) (r : Receiver) (f : Finished t r) (area second : List ℕ) wh
       let less = ltb-true (num (m .part)) (num (m .numParts)) p in
       put-past t (r .previousTick) (withPart (opened r m) (num (m .part)) (length bytes)) (layAt (900 * num (m .part)) bytes area) second (f .past) (opened-begun r m (f .form) (not-true (isOld r (m .tick)) o) (leb-true (num (m .numParts)) 32 n) (omega arith) .rises)))))))))) (snap-form r m bytes area second (f .form))
 
-  pub single-keeps : (tick distance crc : ℤ) (bytes : List ℕ) → Finished t (snapSingleCall r tick distance crc bytes area second .receiver)
+  pub single-keeps : (tick : ℤ) (distance : Distance) (crc : ℤ) (bytes : List ℕ) → Finished t (snapSingleCall r tick distance crc bytes area second .receiver)
   unfolding takeSingle
   single-keeps tick distance crc bytes =
       kept (takeSingle r tick distance crc bytes area second)
@@ -158,7 +159,7 @@ module _ (t : ℤ) (r : Receiver) (f : Finished t r) (area second : List ℕ) wh
       (λ _. on-require Keeps (not (isOld r tick)) oldDelta _
       (λ o. on-warn Keeps (isCurrent r tick) DuplicateSnap _ (later t tick (r .previousTick) (f .past) (above tick (not-true (isOld r tick) o)))))))) (single-form r tick distance crc bytes area second (f .form))
 
-  pub empty-keeps : (tick distance : ℤ) → Finished t (snapEmptyCall r tick distance area second .receiver)
+  pub empty-keeps : (tick : ℤ) (distance : Distance) → Finished t (snapEmptyCall r tick distance area second .receiver)
   unfolding takeEmpty
   empty-keeps tick distance =
       kept (takeEmpty r tick distance area second)
@@ -191,11 +192,11 @@ module _ (t : ℤ) (r : Receiver) (f : Finished t r) (area second : List ℕ) wh
   snap-old m bytes e k l b =
       rw (f .form, le-leb 28800 (length area) k, le-leb 28800 (length second) l, le-leb (length bytes) 900 b, finished-old t (m .tick) r f e)
 
-  pub single-old : (tick distance crc : ℤ) (bytes : List ℕ) → signedLess t tick ≡ false → 28800 ≤ length second → length bytes ≤ 900 → snapSingleCall r tick distance crc bytes area second ≡ oldAnswer
+  pub single-old : (tick : ℤ) (distance : Distance) (crc : ℤ) (bytes : List ℕ) → signedLess t tick ≡ false → 28800 ≤ length second → length bytes ≤ 900 → snapSingleCall r tick distance crc bytes area second ≡ oldAnswer
   unfolding takeSingle leaves
   single-old tick distance crc bytes e l b =
       rw (f .form, le-leb 28800 (length second) l, le-leb (length bytes) 900 b, finished-old t tick r f e)
 
-  pub empty-old : (tick distance : ℤ) → signedLess t tick ≡ false → snapEmptyCall r tick distance area second ≡ oldAnswer
+  pub empty-old : (tick : ℤ) (distance : Distance) → signedLess t tick ≡ false → snapEmptyCall r tick distance area second ≡ oldAnswer
   unfolding takeEmpty leaves
   empty-old tick distance e = rw (f .form, finished-old t tick r f e)

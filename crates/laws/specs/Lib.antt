@@ -6,6 +6,7 @@ pub mod AreaLaws
 pub mod Laying
 pub mod ZipLaws
 pub mod WarningLaws
+pub mod WarningKinds
 pub mod OutcomeLaws
 pub mod StoredLaws
 pub mod PackedLaws
@@ -25,11 +26,13 @@ pub mod TableChanged
 pub mod StoreForm
 pub mod StoreRoom
 pub mod StoreLaws
+pub mod StoreKinds
 pub mod DeltaShape
 pub mod DeltaRestores
 pub mod DeltaWriting
 pub mod DeltaStream
 pub mod DeltaReadBack
+pub mod ReadKinds
 pub mod ReaderLaws
 pub mod DeltaForm
 pub mod DeltaLaws
@@ -60,6 +63,7 @@ pub mod PartCounts
 pub mod ReceiverForm
 pub mod FinishedLaws
 pub mod PartLaws
+pub mod DifferingLaws
 pub mod PartSteps
 pub mod PartRuns
 pub mod ApplyFound

@@ -21,7 +21,7 @@ use Rattle.laws.specs.CutLaws.{part-short, part-within, joined-cut}
 -- the call for a message of each kind
 abbrev pub receivesBy : Receiver → SnapMsg → List ℕ → List ℕ → List ℕ → Receives
 receivesBy r (Snap tick distance n part crc) bytes area second =
-    snapCall r (record { tick = tick; deltaTick = distance; numParts = n; part = part; crc = crc }) bytes area second
+    snapCall r (record { tick = tick; distance = distance; numParts = n; part = part; crc = crc }) bytes area second
 receivesBy r (SnapEmpty tick distance) bytes area second = snapEmptyCall r tick distance area second
 receivesBy r (SnapSingle tick distance crc) bytes area second = snapSingleCall r tick distance crc bytes area second
 

@@ -11,15 +11,15 @@ use borrow.Author.Tests.{eq-eqb}
 use lib.IntN.{ℤ}
 use lib.ListN.{length}
 use Rattle.definitions.specs.Areas.{lay, layAt}
-use Rattle.definitions.specs.Ints.{wrappingSub}
 use Rattle.definitions.specs.Refusals.{duplicatePart}
 use Rattle.definitions.specs.Outcome.{ok, err}
-use Rattle.definitions.specs.Messages.{baseTick, numParts, partBytes, partMessage}
+use Rattle.definitions.specs.Messages.{baseTick, numParts, partBytes, partMessage, distance}
 use Rattle.definitions.specs.Receiver.{Receiver, Receives, finishedAt, receiverForm, isOld, isCurrent}
+use Rattle.definitions.specs.Warnings.{none as no-warning}
 use Rattle.laws.specs.TickLaws.{both-ways}
 use Rattle.laws.specs.CutLaws.{parts-few}
 use Rattle.laws.specs.PartLaws.{receives, alike, also, holds-same}
-use Rattle.laws.specs.PartSteps.{told, Parts, Waiting, first-part, repeated-part, next-part, last-part}
+use Rattle.laws.specs.PartSteps.{Parts, Waiting, first-part, repeated-part, next-part, last-part}
 
 -- a receiver and its two part areas
 pub record State : Type 0 where
@@ -35,7 +35,7 @@ listed (p ∷ ps) q = also (listed ps) p q
 module _ (t b s : ℤ) (x : List ℕ) where
   -- the call with part p of the cut
   abbrev pub callWith : State → ℕ → Receives
-  callWith i p = receives (i .receiver) (partMessage t (wrappingSub t b) x s p) (i .area) (i .second)
+  callWith i p = receives (i .receiver) (partMessage t (distance t b) x s p) (i .area) (i .second)
 
   -- the state after the parts listed, the newest first
   abbrev pub fed : State → List ℕ → State
@@ -95,7 +95,7 @@ module _ (t b s : ℤ) (x : List ℕ) where
   pub record Starts (i : State) : Type 0 where
     pub long : 900 < length x
     pub short : length x ≤ 28800
-    pub back : baseTick t (wrappingSub t b) ≡ b
+    pub back : baseTick t (distance t b) ≡ b
     pub form : receiverForm (i .receiver) ≡ true
     pub not-old : isOld (i .receiver) t ≡ false
     pub not-current : isCurrent (i .receiver) t ≡ false
@@ -115,7 +115,7 @@ module _ (t b s : ℤ) (x : List ℕ) where
         first-part t b s x (h .long) (h .short) (h .back) (i .receiver) (i .area) (i .second) (h .room) (h .room2) p l (h .form) (h .not-old) (h .not-current)
 
     module _ (ps : List ℕ) (w : Unfinished i ps) (p : ℕ) (l : p < numParts x) where
-      repeated-call : listed ps p ≡ true → callWith (fed i ps) p ≡ record { answer = err duplicatePart (told t b s x); receiver = fed i ps .receiver; parts = fed i ps .area; joined = fed i ps .second }
+      repeated-call : listed ps p ≡ true → callWith (fed i ps) p ≡ record { answer = err duplicatePart no-warning; receiver = fed i ps .receiver; parts = fed i ps .area; joined = fed i ps .second }
       repeated-call e =
           repeated-part t b s x (h .long) (h .short) (h .back) (fed i ps .receiver) (fed i ps .area) (fed i ps .second) (w .room) (second-room ps w) p l (listed ps) (w .parts) e
 
@@ -149,15 +149,15 @@ module _ (t b s : ℤ) (x : List ℕ) where
           go false e = newly e k
 
       -- not yet, or a part that came before
-      answered : Lacks (p ∷ ps) → (callWith (fed i ps) p .answer ≡ ok none (told t b s x)) ⊎ (callWith (fed i ps) p .answer ≡ err duplicatePart (told t b s x))
+      answered : Lacks (p ∷ ps) → (callWith (fed i ps) p .answer ≡ ok none no-warning) ⊎ (callWith (fed i ps) p .answer ≡ err duplicatePart no-warning)
       answered k = go (listed ps p) refl
         where
-          go : (v : Bool) → listed ps p ≡ v → (callWith (fed i ps) p .answer ≡ ok none (told t b s x)) ⊎ (callWith (fed i ps) p .answer ≡ err duplicatePart (told t b s x))
+          go : (v : Bool) → listed ps p ≡ v → (callWith (fed i ps) p .answer ≡ ok none no-warning) ⊎ (callWith (fed i ps) p .answer ≡ err duplicatePart no-warning)
           go true e = inr (ap (λ (c : Receives). c .answer) (repeated-call e))
           go false e = inl (next-call e k .answer)
 
       -- all bytes
-      ended : listed ps p ≡ false → Complete (p ∷ ps) → callWith (fed i ps) p ≡ record { answer = ok (some (record { deltaTick = b; tick = t; dataAndCrc = some (record { length = length x; crc = s }) })) (told t b s x); receiver = finishedAt t; parts = layAt (900 * p) (partBytes x p) (fed i ps .area); joined = lay x (fed i ps .second) }
+      ended : listed ps p ≡ false → Complete (p ∷ ps) → callWith (fed i ps) p ≡ record { answer = ok (some (record { deltaTick = b; tick = t; dataAndCrc = some (record { length = length x; crc = s }) })) no-warning; receiver = finishedAt t; parts = layAt (900 * p) (partBytes x p) (fed i ps .area); joined = lay x (fed i ps .second) }
       ended e k =
           last-part t b s x (h .long) (h .short) (h .back) (fed i ps .receiver) (fed i ps .area) (fed i ps .second) (w .room) (second-room ps w) p l (listed ps) (w .parts) e (k .every)
 
@@ -168,13 +168,13 @@ module _ (t b s : ℤ) (x : List ℕ) where
         one-more (p' ∷ ps) (unfinished p' ps (fewer p (p' ∷ ps) n) (lacks-fewer p (p' ∷ ps) k)) p (head-below p (p' ∷ ps) n) k
 
     -- and each call answers not yet, or 23 to a part that came before
-    pub before-the-last : (p : ℕ) (ps : List ℕ) → Numbered (p ∷ ps) → Lacks (p ∷ ps) → (callWith (fed i ps) p .answer ≡ ok none (told t b s x)) ⊎ (callWith (fed i ps) p .answer ≡ err duplicatePart (told t b s x))
+    pub before-the-last : (p : ℕ) (ps : List ℕ) → Numbered (p ∷ ps) → Lacks (p ∷ ps) → (callWith (fed i ps) p .answer ≡ ok none no-warning) ⊎ (callWith (fed i ps) p .answer ≡ err duplicatePart no-warning)
     before-the-last p [] n k = inl (first-call p (head-below p [] n) .answer)
     before-the-last p (p' ∷ ps) n k =
         answered (p' ∷ ps) (unfinished p' ps (fewer p (p' ∷ ps) n) (lacks-fewer p (p' ∷ ps) k)) p (head-below p (p' ∷ ps) n) k
 
     -- the last one missing brings the bytes that were cut, their tick, base and sum
-    pub the-last : (p : ℕ) (ps : List ℕ) → Numbered (p ∷ ps) → listed ps p ≡ false → Complete (p ∷ ps) → callWith (fed i ps) p ≡ record { answer = ok (some (record { deltaTick = b; tick = t; dataAndCrc = some (record { length = length x; crc = s }) })) (told t b s x); receiver = finishedAt t; parts = layAt (900 * p) (partBytes x p) (fed i ps .area); joined = lay x (i .second) }
+    pub the-last : (p : ℕ) (ps : List ℕ) → Numbered (p ∷ ps) → listed ps p ≡ false → Complete (p ∷ ps) → callWith (fed i ps) p ≡ record { answer = ok (some (record { deltaTick = b; tick = t; dataAndCrc = some (record { length = length x; crc = s }) })) no-warning; receiver = finishedAt t; parts = layAt (900 * p) (partBytes x p) (fed i ps .area); joined = lay x (i .second) }
     the-last p [] n e k =
         let two = parts-few x (h .long) (h .short) .0 in
         absurd (omega (arith, only 0 (k .every 0 (omega arith)), only 1 (k .every 1 two)))
@@ -184,4 +184,4 @@ module _ (t b s : ℤ) (x : List ℕ) where
     the-last p (p' ∷ ps) n e k =
         let w = unfinished p' ps (fewer p (p' ∷ ps) n) (record { part = p; is-part = head-below p (p' ∷ ps) n; unlisted = e }) in
         ended (p' ∷ ps) w p (head-below p (p' ∷ ps) n) e k
-        ∙ ap (λ (l : List ℕ). record { answer = ok (some (record { deltaTick = b; tick = t; dataAndCrc = some (record { length = length x; crc = s }) })) (told t b s x); receiver = finishedAt t; parts = layAt (900 * p) (partBytes x p) (fed i (p' ∷ ps) .area); joined = lay x l }) (w .untouched)
+        ∙ ap (λ (l : List ℕ). record { answer = ok (some (record { deltaTick = b; tick = t; dataAndCrc = some (record { length = length x; crc = s }) })) no-warning; receiver = finishedAt t; parts = layAt (900 * p) (partBytes x p) (fed i (p' ∷ ps) .area); joined = lay x l }) (w .untouched)

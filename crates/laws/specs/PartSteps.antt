@@ -1,6 +1,6 @@
 -- What the receiver answers to a part of one cut: by the parts that came. Assumes nothing.
 use mathlib.Core.Path.{_≡_, refl, sym, ap, _∙_, subst}
-use mathlib.Core.Bool.{Bool, true, false, cond, not, _||_}
+use mathlib.Core.Bool.{Bool, true, false, cond}
 use mathlib.Core.List.{List}
 use mathlib.Core.Option.{Option, some, none}
 use Prim.Native.Nat.{ℕ, _*_, _≤_, _<_}
@@ -9,31 +9,19 @@ use borrow.Author.Tests.{le-leb, lt-ltb, eq-eqb, ne-eqb}
 use lib.IntN.{ℤ, pos}
 use lib.ListN.{length, set}
 use Rattle.definitions.specs.Areas.{lay, layAt}
-use Rattle.definitions.specs.Ints.{bits, wrappingSub}
+use Rattle.definitions.specs.Ints.{bits}
 use Rattle.definitions.specs.Tables.{num}
-use Rattle.definitions.specs.Refusals.{oldDelta, invalidNumParts, invalidPart, duplicatePart, scratchTooShort, partTooLong, notInForm}
-use Rattle.definitions.specs.Warnings.{Counts, DifferingAttributes, one, none as no-warning}
-use Rattle.definitions.specs.Outcome.{ok, err, return, require, warnIf, _>>_}
-use Rattle.definitions.specs.Messages.{baseTick, numParts, partBytes, partMessage}
-use Rattle.definitions.specs.Receiver.{Current, Receiver, Part, Taken, Receives, noParts, finishedAt, isIn, countIn, joined, receiverForm, same, isOld, isCurrent, isTickOf, openedFor, opened, differs, putPart, takeSnap, leaves}
+use Rattle.definitions.specs.Refusals.{duplicatePart}
+use Rattle.definitions.specs.Warnings.{none as no-warning}
+use Rattle.definitions.specs.Outcome.{ok, err}
+use Rattle.definitions.specs.Messages.{baseTick, numParts, partBytes, partMessage, distance}
+use Rattle.definitions.specs.Receiver.{Current, Receiver, Part, Taken, Receives, noParts, finishedAt, isIn, countIn, joined, receiverForm, isOld, isCurrent, isTickOf, openedFor, opened, differs, putPart}
 use Rattle.laws.specs.TickLaws.{not-below-itself}
 use Rattle.laws.specs.CutLaws.{part-short, parts-few}
 use Rattle.laws.specs.ReceiverForm.{snap-form}
 use Rattle.laws.specs.AreaLaws.{length-layAt}
+use Rattle.laws.specs.DifferingLaws.{all-same, counted}
 use Rattle.laws.specs.PartLaws.{receives, alike, also, Holds, holds-none, holds-more, lacking, complete, joins}
-
--- ---- a part that passes all tests of its numbers
-
--- the warning that numbers differ, where they do
-abbrev pub differing : Bool → Counts
-differing b = cond b (one DifferingAttributes) no-warning
-
-ending : (r : Receiver) (area second : List ℕ) (t : Taken) (d i : Bool) → leaves r area second (require true notInForm >> (require true scratchTooShort >> (require true partTooLong >> (require true oldDelta >> (require true invalidNumParts >> (require true invalidPart >> (warnIf d DifferingAttributes >> (require (not i) duplicatePart >> return t)))))))) ≡ cond i (record { answer = err duplicatePart (differing d); receiver = r; parts = area; joined = second }) (record { answer = ok (t .received) (differing d); receiver = t .receiver; parts = t .parts; joined = t .joined })
-unfolding leaves
-ending r area second t true true = refl
-ending r area second t true false = refl
-ending r area second t false true = refl
-ending r area second t false false = refl
 
 module _ (t b s : ℤ) (x : List ℕ) where
   -- what the first part of the cut says
@@ -43,11 +31,7 @@ module _ (t b s : ℤ) (x : List ℕ) where
   -- the numbers of part p
   abbrev pub numbersOf : ℕ → Part
   numbersOf p =
-      record { tick = t; deltaTick = wrappingSub t b; numParts = pos (numParts x); part = pos p; crc = s }
-
-  -- the warning of each part: its distance is held against the base
-  abbrev pub told : Counts
-  told = differing (not (same (wrappingSub t b) b))
+      record { tick = t; distance = distance t b; numParts = pos (numParts x); part = pos p; crc = s }
 
   -- a receiver that holds those parts of the cut that came
   pub record Parts (r : Receiver) (area : List ℕ) (came : ℕ → Bool) : Type 0 where
@@ -55,30 +39,26 @@ module _ (t b s : ℤ) (x : List ℕ) where
     pub current : r .current ≡ some said
     pub holds : Holds x (r .parts) area came
 
-  module _ (long : 900 < length x) (short : length x ≤ 28800) (back : baseTick t (wrappingSub t b) ≡ b) where
+  module _ (long : 900 < length x) (short : length x ≤ 28800) (back : baseTick t (distance t b) ≡ b) where
     few : numParts x ≤ 32
     few = parts-few x long short .1
 
-    differs-is : (p : ℕ) → differs said (numbersOf p) ≡ not (same (wrappingSub t b) b)
-    unfolding differs num
-    differs-is p =
-        rw (eq-eqb (numParts x) (numParts x) refl, eq-eqb (bits s) (bits s) refl) (or-false (not (same (wrappingSub t b) b)))
-      where
-        or-false : (u : Bool) → (u || false) ≡ u
-        or-false true = refl
-        or-false false = refl
+    -- no part differs from what the first one said
+    said-alike : (p : ℕ) → differs said (numbersOf p) ≡ false
+    unfolding num
+    said-alike p = all-same said (numbersOf p) back refl refl
 
     module _ (r : Receiver) (area second : List ℕ) (form : receiverForm r ≡ true) (new : isOld r t ≡ false) (room : 28800 ≤ length area) (room2 : 28800 ≤ length second) (p : ℕ) (l : p < numParts x) where
       -- by whether the part is in
-      judged : (lengths : List ℕ) → opened r (numbersOf p) ≡ record { current = said; parts = lengths } → receives r (partMessage t (wrappingSub t b) x s p) area second ≡ cond (isIn lengths p) (record { answer = err duplicatePart told; receiver = r; parts = area; joined = second }) (let k : Taken = putPart (r .previousTick) (record { current = said; parts = set lengths p (length (partBytes x p)) }) (layAt (900 * p) (partBytes x p) area) second in record { answer = ok (k .received) told; receiver = k .receiver; parts = k .parts; joined = k .joined })
-      unfolding takeSnap num
+      judged : (lengths : List ℕ) → opened r (numbersOf p) ≡ record { current = said; parts = lengths } → receives r (partMessage t (distance t b) x s p) area second ≡ cond (isIn lengths p) (record { answer = err duplicatePart no-warning; receiver = r; parts = area; joined = second }) (let k : Taken = putPart (r .previousTick) (record { current = said; parts = set lengths p (length (partBytes x p)) }) (layAt (900 * p) (partBytes x p) area) second in record { answer = ok (k .received) no-warning; receiver = k .receiver; parts = k .parts; joined = k .joined })
+      unfolding num
       judged lengths o =
-          rw (form, le-leb 28800 (length area) room, le-leb 28800 (length second) room2, le-leb (length (partBytes x p)) 900 (part-short x p), new, le-leb (numParts x) 32 few, lt-ltb p (numParts x) l, o, differs-is p)
-          (ending r area second (putPart (r .previousTick) (record { current = said; parts = set lengths p (length (partBytes x p)) }) (layAt (900 * p) (partBytes x p) area) second) (not (same (wrappingSub t b) b)) (isIn lengths p))
+          counted r (numbersOf p) (partBytes x p) area second form (rw (le-leb 28800 (length area) room, le-leb 28800 (length second) room2)) (le-leb (length (partBytes x p)) 900 (part-short x p)) new (le-leb (numParts x) 32 few) (lt-ltb p (numParts x) l)
+          ∙ rw (o, said-alike p)
 
       module _ (lengths : List ℕ) (o : opened r (numbersOf p) ≡ record { current = said; parts = lengths }) (came : ℕ → Bool) (h : Holds x lengths area came) where
         -- it came before
-        repeats : came p ≡ true → receives r (partMessage t (wrappingSub t b) x s p) area second ≡ record { answer = err duplicatePart told; receiver = r; parts = area; joined = second }
+        repeats : came p ≡ true → receives r (partMessage t (distance t b) x s p) area second ≡ record { answer = err duplicatePart no-warning; receiver = r; parts = area; joined = second }
         repeats e = judged lengths o ∙ rw (h .which p ∙ e)
 
         module _ (e : came p ≡ false) where
@@ -86,14 +66,14 @@ module _ (t b s : ℤ) (x : List ℕ) where
           more = holds-more x lengths area came h p l short room
 
           -- another one is still missing
-          waits : (q : ℕ) → q < numParts x → also came p q ≡ false → receives r (partMessage t (wrappingSub t b) x s p) area second ≡ record { answer = ok none told; receiver = record { previousTick = r .previousTick; current = some said; parts = set lengths p (length (partBytes x p)) }; parts = layAt (900 * p) (partBytes x p) area; joined = second }
+          waits : (q : ℕ) → q < numParts x → also came p q ≡ false → receives r (partMessage t (distance t b) x s p) area second ≡ record { answer = ok none no-warning; receiver = record { previousTick = r .previousTick; current = some said; parts = set lengths p (length (partBytes x p)) }; parts = layAt (900 * p) (partBytes x p) area; joined = second }
           unfolding putPart
           waits q k z =
               judged lengths o
               ∙ rw (h .which p ∙ e, ne-eqb (countIn (set lengths p (length (partBytes x p))) 32) (numParts x) (lacking x _ _ _ more few q k z))
 
           -- it was the last one missing
-          ends : ((q : ℕ) → q < numParts x → also came p q ≡ true) → receives r (partMessage t (wrappingSub t b) x s p) area second ≡ record { answer = ok (some (record { deltaTick = b; tick = t; dataAndCrc = some (record { length = length x; crc = s }) })) told; receiver = finishedAt t; parts = layAt (900 * p) (partBytes x p) area; joined = lay x second }
+          ends : ((q : ℕ) → q < numParts x → also came p q ≡ true) → receives r (partMessage t (distance t b) x s p) area second ≡ record { answer = ok (some (record { deltaTick = b; tick = t; dataAndCrc = some (record { length = length x; crc = s }) })) no-warning; receiver = finishedAt t; parts = layAt (900 * p) (partBytes x p) area; joined = lay x second }
           unfolding putPart
           ends all =
               judged lengths o
@@ -122,7 +102,7 @@ module _ (t b s : ℤ) (x : List ℕ) where
 
     -- a part was taken, and others are missing: the answer is not yet, and the second area stays
     pub record Waiting (c : Receives) (second : List ℕ) (came : ℕ → Bool) : Type 0 where
-      pub answer : c .answer ≡ ok none told
+      pub answer : c .answer ≡ ok none no-warning
       pub untouched : c .joined ≡ second
       pub room : 28800 ≤ length (c .parts)
       pub parts : Parts (c .receiver) (c .parts) came
@@ -130,9 +110,9 @@ module _ (t b s : ℤ) (x : List ℕ) where
     module _ (r : Receiver) (area second : List ℕ) (room : 28800 ≤ length area) (room2 : 28800 ≤ length second) (p : ℕ) (l : p < numParts x) where
       -- the call with part p
       abbrev call : Receives
-      call = receives r (partMessage t (wrappingSub t b) x s p) area second
+      call = receives r (partMessage t (distance t b) x s p) area second
 
-      taken : (lengths : List ℕ) (came : ℕ → Bool) → receiverForm r ≡ true → call ≡ record { answer = ok none told; receiver = record { previousTick = r .previousTick; current = some said; parts = set lengths p (length (partBytes x p)) }; parts = layAt (900 * p) (partBytes x p) area; joined = second } → Holds x (set lengths p (length (partBytes x p))) (layAt (900 * p) (partBytes x p) area) came → Waiting call second came
+      taken : (lengths : List ℕ) (came : ℕ → Bool) → receiverForm r ≡ true → call ≡ record { answer = ok none no-warning; receiver = record { previousTick = r .previousTick; current = some said; parts = set lengths p (length (partBytes x p)) }; parts = layAt (900 * p) (partBytes x p) area; joined = second } → Holds x (set lengths p (length (partBytes x p))) (layAt (900 * p) (partBytes x p) area) came → Waiting call second came
       taken lengths came form e h =
           let f : receiverForm (call .receiver) ≡ true = snap-form r (numbersOf p) (partBytes x p) area second form in
           record {
@@ -160,7 +140,7 @@ module _ (t b s : ℤ) (x : List ℕ) where
 
       module _ (came : ℕ → Bool) (h : Parts r area came) where
         -- a part that came before
-        pub repeated-part : came p ≡ true → call ≡ record { answer = err duplicatePart told; receiver = r; parts = area; joined = second }
+        pub repeated-part : came p ≡ true → call ≡ record { answer = err duplicatePart no-warning; receiver = r; parts = area; joined = second }
         repeated-part e =
             repeats r area second (h .form) (not-old r (h .current)) room room2 p l (r .parts) (opened-held r p (h .current)) came (h .holds) e
 
@@ -172,6 +152,6 @@ module _ (t b s : ℤ) (x : List ℕ) where
             (holds-more x (r .parts) area came (h .holds) p l short room)
 
         -- the last one missing
-        pub last-part : came p ≡ false → ((q : ℕ) → q < numParts x → also came p q ≡ true) → call ≡ record { answer = ok (some (record { deltaTick = b; tick = t; dataAndCrc = some (record { length = length x; crc = s }) })) told; receiver = finishedAt t; parts = layAt (900 * p) (partBytes x p) area; joined = lay x second }
+        pub last-part : came p ≡ false → ((q : ℕ) → q < numParts x → also came p q ≡ true) → call ≡ record { answer = ok (some (record { deltaTick = b; tick = t; dataAndCrc = some (record { length = length x; crc = s }) })) no-warning; receiver = finishedAt t; parts = layAt (900 * p) (partBytes x p) area; joined = lay x second }
         last-part e all =
             ends r area second (h .form) (not-old r (h .current)) room room2 p l (r .parts) (opened-held r p (h .current)) came (h .holds) e all

@@ -18,6 +18,7 @@ use Rattle.definitions.specs.Refusals.{oldDelta, invalidNumParts, invalidPart, 
 use Rattle.definitions.specs.Warnings.{Counts, Warning, DuplicateSnap, DifferingAttributes, one, none as no-warning}
 use Rattle.definitions.specs.Outcome.{Outcome, ok, err, after, require, warnIf, _>>_}
 use Rattle.definitions.specs.Receiver.{Current, Receiver, Part, Opened, Taken, noParts, freshReceiver, finishedAt, isIn, countIn, abovePrevious, receiverForm, same, oldFor, isOld, isCurrent, firstSays, openedFor, opened, differs, finish, wait, withPart, putPart, takeSnap, takeSingle, takeEmpty, leaves, snapCall, snapSingleCall, snapEmptyCall}
+use Rattle.definitions.specs.Messages.{Distance}
 use Rattle.laws.specs.Tests.{below}
 use Rattle.laws.specs.TickLaws.{both-ways, below-further}
 use Rattle.laws.specs.PartCounts.{count-more}
@@ -177,7 +178,7 @@ snap-form r m bytes area second f =
     put-form (r .previousTick) (opened r m) (num (m .part)) (length bytes) (layAt (900 * num (m .part)) bytes area) second (opened-begun r m f (not-true (isOld r (m .tick)) o) few (omega arith)) (omega arith) (leb-true (length bytes) 900 b) (not-true (isIn (opened r m .parts) (num (m .part))) a))))))))))
 
 -- a single message leaves a receiver in form
-pub single-form : (r : Receiver) (tick distance crc : ℤ) (bytes area second : List ℕ) → receiverForm r ≡ true → receiverForm (snapSingleCall r tick distance crc bytes area second .receiver) ≡ true
+pub single-form : (r : Receiver) (tick : ℤ) (distance : Distance) (crc : ℤ) (bytes area second : List ℕ) → receiverForm r ≡ true → receiverForm (snapSingleCall r tick distance crc bytes area second .receiver) ≡ true
 unfolding takeSingle
 single-form r tick distance crc bytes area second f =
     on-leaves (λ (q : Receiver). receiverForm q ≡ true) r area second (takeSingle r tick distance crc bytes area second) f
@@ -188,7 +189,7 @@ single-form r tick distance crc bytes area second f =
     (λ _. on-warn Formed (isCurrent r tick) DuplicateSnap _ (finished-form tick))))))
 
 -- an empty message leaves a receiver in form
-pub empty-form : (r : Receiver) (tick distance : ℤ) (area second : List ℕ) → receiverForm r ≡ true → receiverForm (snapEmptyCall r tick distance area second .receiver) ≡ true
+pub empty-form : (r : Receiver) (tick : ℤ) (distance : Distance) (area second : List ℕ) → receiverForm r ≡ true → receiverForm (snapEmptyCall r tick distance area second .receiver) ≡ true
 unfolding takeEmpty
 empty-form r tick distance area second f =
     on-leaves (λ (q : Receiver). receiverForm q ≡ true) r area second (takeEmpty r tick distance area second) f

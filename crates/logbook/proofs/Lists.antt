@@ -145,10 +145,10 @@ pub same-left : (t x : ℤ) (l : List ℤ) → same x t ≡ false → without t 
 unfolding without
 same-left t x l e = rw e
 
--- the lowest of a tick and some more, by the lesser of it and the first
-lesser-first : (x y : ℤ) (l : List ℤ) → lowest (cond (signedLess y x) y x) l ≡ lowest x (y ∷ l)
+-- the lowest of a tick and some more, by the lower of it and the first
+lower-first : (x y : ℤ) (l : List ℤ) → lowest (cond (signedLess y x) y x) l ≡ lowest x (y ∷ l)
 unfolding lowest
-lesser-first x y l = by-test (signedLess y x) where
+lower-first x y l = by-test (signedLess y x) where
   by-test : (b : Bool) → lowest (cond b y x) l ≡ cond b (lowest y l) (lowest x l)
   by-test true = refl
   by-test false = refl
@@ -166,7 +166,7 @@ pub lowest-turn :
 lowest-turn a i x {r} {w} h e g =
     let n : i ≡ i - 1 + 1 = omega (arith, h) in
     ap (λ (y : ℤ). lowest y (ticksIn (i - 1) a)) e
-    ∙ lesser-first x (getD a (i - 1) (pos 0)) (ticksIn (i - 1) a)
+    ∙ lower-first x (getD a (i - 1) (pos 0)) (ticksIn (i - 1) a)
     ∙ ap (lowest x) (sym (tick-more (i - 1) a))
     ∙ ap (λ (k : ℕ). lowest x (ticksIn k a)) (sym n)
     ∙ g

@@ -9,7 +9,8 @@ use borrow.Author.Tests.{lt-ltb, le-ltb}
 use lib.Dec.{ltb}
 use lib.IntN.{ℤ, pos}
 use lib.ListN.{length, set}
-use Rattle.definitions.specs.Ints.{signedLess, wrappingSub}
+use Rattle.definitions.specs.Ints.{signedLess}
+use Rattle.definitions.specs.Messages.{baseTick}
 use Rattle.definitions.specs.Refusals.{oldDelta, duplicatePart, unknownSnap}
 use Rattle.definitions.specs.Receiver.{same}
 use Rattle.definitions.specs.DeltaReading.{elem}
@@ -34,6 +35,9 @@ use Rattle.definitions.specs.Logbook.{
   noteMessage,
 }
 use Rattle.definitions.specs.Tables.{num}
+use Rattle.ticks.specs.Ticks.{distanceOf}
+use Rattle.ticks.specs.declared.Tick.{Tick}
+use Rattle.ticks.specs.declared.Distance.{Distance}
 use Rattle.gamenet_snap.specs.declared.SnapMsg.{SnapMsg}
 use Rattle.gamenet_snap.specs.declared.SnapMsg.the-variants as msg
 use Rattle.gamenet_snap.specs.Numbers.{numbers}
@@ -178,52 +182,49 @@ pub note-new :
 unfolding note
 note-new g t b p n e k m q = rw (e, k) (ap (partCame g t b n) (sym m) ∙ q)
 
--- a message of a part: its ints as the code has them, and what it is noted as
+-- a message of a part: its counts as the code has them, its base, and what it is noted as
 pub noted-part :
     {m : SnapMsg}
-    {t d n p crc t' d' n' p' b b' : ℤ}
+    {t : Tick}
+    {d : Distance}
+    {n p crc n' p' b : ℤ}
     {k i : ℕ}
     {r : Note}
     (g : Logbook) →
     m ≡ msg.Snap t d n p crc →
-    t' ≡ t →
-    d' ≡ d →
     n' ≡ n →
     p' ≡ p →
-    b ≡ wrappingSub t' d' →
-    b' ≡ b →
+    b ≡ baseTick (t .0) (distanceOf d) →
     i ≡ num p' →
     k ≡ num n' →
-    note g t' b' i k ≡ r →
+    note g (t .0) b i k ≡ r →
     noteMessage g (numbers m) ≡ r
-noted-part g e t d n p x y i k q = rw (e, ← t, ← d, ← n, ← p, ← x, ← y, ← i, ← k) q
+noted-part g e n p x i k q = rw (e, ← n, ← p, ← x, ← i, ← k) q
 
 -- a message of a whole delta
 pub noted-single :
     {m : SnapMsg}
-    {t d crc t' d' b b' : ℤ}
+    {t : Tick}
+    {d : Distance}
+    {crc b : ℤ}
     {r : Note}
     (g : Logbook) →
     m ≡ msg.SnapSingle t d crc →
-    t' ≡ t →
-    d' ≡ d →
-    b ≡ wrappingSub t' d' →
-    b' ≡ b →
-    note g t' b' 0 1 ≡ r →
+    b ≡ baseTick (t .0) (distanceOf d) →
+    note g (t .0) b 0 1 ≡ r →
     noteMessage g (numbers m) ≡ r
-noted-single g e t d x y q = rw (e, ← t, ← d, ← x, ← y) q
+noted-single g e x q = rw (e, ← x) q
 
 -- a message of an empty delta
 pub noted-empty :
     {m : SnapMsg}
-    {t d t' d' b b' : ℤ}
+    {t : Tick}
+    {d : Distance}
+    {b : ℤ}
     {r : Note}
     (g : Logbook) →
     m ≡ msg.SnapEmpty t d →
-    t' ≡ t →
-    d' ≡ d →
-    b ≡ wrappingSub t' d' →
-    b' ≡ b →
-    note g t' b' 0 1 ≡ r →
+    b ≡ baseTick (t .0) (distanceOf d) →
+    note g (t .0) b 0 1 ≡ r →
     noteMessage g (numbers m) ≡ r
-noted-empty g e t d x y q = rw (e, ← t, ← d, ← x, ← y) q
+noted-empty g e x q = rw (e, ← x) q

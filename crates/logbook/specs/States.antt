@@ -24,11 +24,11 @@ ticksIn (suc n) a = getD a n (pos 0) ∷ ticksIn n a
 
 -- the newest tick, if any
 abbrev pub newestOf : Logbook → Option ℤ
-newestOf g = cond (g .«has_newest») (some (g .newest)) none
+newestOf g = cond (g .«has_newest») (some (g .newest .0)) none
 
 -- the acknowledgement, if any
 abbrev pub ackOf : Logbook → Option ℤ
-ackOf g = cond (g .«has_ack») (some (g .«ack_tick»)) none
+ackOf g = cond (g .«has_ack») (some (g .«ack_tick» .0)) none
 
 -- what is noted
 abbrev pub logbookOf : Logbook → List ℕ → List ℤ → Book.Logbook
@@ -44,7 +44,7 @@ logbookOf g came held =
 abbrev pub answerOf : Answer → Book.Answer
 answerOf (answer.Refused e) = Book.refused (number e)
 answerOf answer.NotYet = Book.notYet
-answerOf (answer.Acknowledges t) = Book.acknowledges t
+answerOf (answer.Acknowledges t) = Book.acknowledges (t .0)
 
 -- an answer, and what is noted afterwards
 abbrev pub noteOf : Note → List ℕ → List ℤ → Book.Note

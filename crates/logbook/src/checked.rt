@@ -16,7 +16,7 @@ use super::Logbook;
 use super::Note;
 use format::Error;
 use gamenet_snap::SnapMsg;
-use ints::same;
+use ticks::Tick;
 
 // Whether one of two holds.
 fn either(a: bool, b: bool) -> bool
@@ -38,11 +38,11 @@ fn both(a: bool, b: bool) -> bool
     false
 }
 
-// The lesser of two ints.
-fn lesser(a: i32, b: i32) -> i32
-    ensures { λ r. ⌜ r ≡ cond (signedLess a b) a b ⌝ }
+// The lower of two ticks.
+fn lower(a: Tick, b: Tick) -> Tick
+    ensures { λ r. ⌜ r .0 ≡ cond (signedLess (a .0) (b .0)) (a .0) (b .0) ⌝ }
 {
-    if ints::signed_less(a, b) {
+    if a.is_before(b) {
         return a;
     }
     b
@@ -77,30 +77,31 @@ fn all_came(count: usize, came: &[usize], n: usize) -> bool
 }
 
 // Whether a tick is among the first n.
-fn has_tick(tick: i32, held: &[i32], n: usize) -> bool
+fn has_tick(tick: Tick, held: &[i32], n: usize) -> bool
     requires { ⌜ n ≤ length (now held) ⌝ }
-    ensures { λ r. ⌜ r ≡ Book.hasTick tick (ticksIn n (now (held .entry))) ⌝ }
+    ensures { λ r. ⌜ r ≡ Book.hasTick (tick .0) (ticksIn n (now (held .entry))) ⌝ }
 {
     let mut found = false;
     let mut i: usize = 0;
     while i < n {
-        found = either(same(held[i], tick), found);
+        let other = Tick(held[i]);
+        found = either(other.is_same(tick), found);
         i += 1;
     }
     found
 }
 
 // Keeps those of the first n ticks that are not below a tick; returns how many.
-fn not_below(tick: i32, held: &mut [i32], n: usize) -> usize
+fn not_below(tick: Tick, held: &mut [i32], n: usize) -> usize
     requires { ⌜ n ≤ length (now held) ⌝ }
-    ensures { λ r. ⌜ (ticksIn r (now (held .exit)) ≡ Book.notBelow tick (ticksIn n (now (held .entry)))) × (r ≤ n) ⌝ }
+    ensures { λ r. ⌜ (ticksIn r (now (held .exit)) ≡ Book.notBelow (tick .0) (ticksIn n (now (held .entry)))) × (r ≤ n) ⌝ }
 {
     let mut kept: usize = 0;
     let mut i: usize = 0;
     while i < n {
         let x = held[i];
         i += 1;
-        if ints::signed_less(x, tick) {
+        if Tick(x).is_before(tick) {
             continue;
         }
         held[kept] = x;
@@ -110,30 +111,30 @@ fn not_below(tick: i32, held: &mut [i32], n: usize) -> usize
 }
 
 // The lowest of a tick and the first n.
-fn lowest(tick: i32, held: &[i32], n: usize) -> i32
+fn lowest(tick: Tick, held: &[i32], n: usize) -> Tick
     requires { ⌜ n ≤ length (now held) ⌝ }
-    ensures { λ r. ⌜ r ≡ Book.lowest tick (ticksIn n (now (held .entry))) ⌝ }
+    ensures { λ r. ⌜ r .0 ≡ Book.lowest (tick .0) (ticksIn n (now (held .entry))) ⌝ }
 {
     let mut low = tick;
     let mut i = n;
     while 0 < i {
         i -= 1;
-        low = lesser(held[i], low);
+        low = lower(Tick(held[i]), low);
     }
     low
 }
 
 // Drops a tick from the first n; returns how many are left.
-fn without(tick: i32, held: &mut [i32], n: usize) -> usize
+fn without(tick: Tick, held: &mut [i32], n: usize) -> usize
     requires { ⌜ n ≤ length (now held) ⌝ }
-    ensures { λ r. ⌜ (ticksIn r (now (held .exit)) ≡ Book.without tick (ticksIn n (now (held .entry)))) × (r ≤ n) ⌝ }
+    ensures { λ r. ⌜ (ticksIn r (now (held .exit)) ≡ Book.without (tick .0) (ticksIn n (now (held .entry)))) × (r ≤ n) ⌝ }
 {
     let mut kept: usize = 0;
     let mut i: usize = 0;
     while i < n {
         let x = held[i];
         i += 1;
-        if same(x, tick) {
+        if Tick(x).is_same(tick) {
             continue;
         }
         held[kept] = x;
@@ -143,11 +144,12 @@ fn without(tick: i32, held: &mut [i32], n: usize) -> usize
 }
 
 // Adds a tick; of 101 the lowest is dropped. Returns how many there are then.
-fn holding(tick: i32, held: &mut [i32], n: usize) -> usize
+fn holding(tick: Tick, held: &mut [i32], n: usize) -> usize
     requires { ⌜ n < length (now held) ⌝ }
-    ensures { λ r. ⌜ ticksIn r (now (held .exit)) ≡ Book.holding tick (ticksIn n (now (held .entry))) ⌝ }
+    ensures { λ r. ⌜ ticksIn r (now (held .exit)) ≡ Book.holding (tick .0) (ticksIn n (now (held .entry))) ⌝ }
 {
-    held[n] = tick;
+    let number = tick.0;
+    held[n] = number;
     if Logbook::MAX_TICKS < n + 1 {
         let low = lowest(tick, held, n);
         return without(low, held, n + 1);
@@ -156,35 +158,35 @@ fn holding(tick: i32, held: &mut [i32], n: usize) -> usize
 }
 
 // How many ticks stay held when a base is named.
-fn held_for(base: i32, held: &mut [i32], n: usize) -> usize
+fn held_for(base: Tick, held: &mut [i32], n: usize) -> usize
     requires { ⌜ n ≤ length (now held) ⌝ }
-    ensures { λ r. ⌜ (ticksIn r (now (held .exit)) ≡ Book.heldFor base (ticksIn n (now (held .entry)))) × (r ≤ n) ⌝ }
+    ensures { λ r. ⌜ (ticksIn r (now (held .exit)) ≡ Book.heldFor (base .0) (ticksIn n (now (held .entry)))) × (r ≤ n) ⌝ }
 {
-    if ints::signed_less(base, 0) {
+    if base.is_negative() {
         return n;
     }
     not_below(base, held, n)
 }
 
 // Whether a base is held, or negative.
-fn has_base(base: i32, held: &[i32], n: usize) -> bool
+fn has_base(base: Tick, held: &[i32], n: usize) -> bool
     requires { ⌜ n ≤ length (now held) ⌝ }
-    ensures { λ r. ⌜ r ≡ (signedLess base (pos 0) || Book.hasTick base (ticksIn n (now (held .entry)))) ⌝ }
+    ensures { λ r. ⌜ r ≡ (signedLess (base .0) (pos 0) || Book.hasTick (base .0) (ticksIn n (now (held .entry)))) ⌝ }
 {
-    either(ints::signed_less(base, 0), has_tick(base, held, n))
+    either(base.is_negative(), has_tick(base, held, n))
 }
 
 // Completes a tick whose parts all came: it is held and acknowledged if its base is held or negative.
 fn complete(
-    tick: i32,
-    base: i32,
+    tick: Tick,
+    base: Tick,
     parts: usize,
     came: &[usize],
     held: &mut [i32],
     ticks: usize,
 ) -> Note
     requires { ⌜ ticks < length (now held) ⌝ }
-    ensures { λ r. ⌜ Book.complete tick base (partsIn parts (now (came .entry))) (ticksIn ticks (now (held .entry))) ≡ noteOf r (now (came .entry)) (now (held .exit)) ⌝ }
+    ensures { λ r. ⌜ Book.complete (tick .0) (base .0) (partsIn parts (now (came .entry))) (ticksIn ticks (now (held .entry))) ≡ noteOf r (now (came .entry)) (now (held .exit)) ⌝ }
 {
     if has_base(base, held, ticks) {
         return Note {
@@ -207,7 +209,7 @@ fn complete(
             parts,
             ticks,
             has_ack: false,
-            ack_tick: 0,
+            ack_tick: Tick(0),
         },
     }
 }
@@ -215,20 +217,21 @@ fn complete(
 // Notes that a part of a tick came; parts is how many came so far, count how many the tick has.
 fn part_came(
     g: Logbook,
-    tick: i32,
-    base: i32,
+    tick: Tick,
+    base: Tick,
     count: usize,
     parts: usize,
     came: &[usize],
     held: &mut [i32],
 ) -> Note
     requires { ⌜ (parts ≤ length (now came)) × (g .ticks < length (now held)) ⌝ }
-    ensures { λ r. ⌜ ((before : List ℕ) → Book.partCame (logbookOf g before (now (held .entry))) tick base count (partsIn parts (now (came .entry))) ≡ noteOf r (now (came .entry)) (now (held .exit))) ⌝ }
+    ensures { λ r. ⌜ ((before : List ℕ) → Book.partCame (logbookOf g before (now (held .entry))) (tick .0) (base .0) count (partsIn parts (now (came .entry))) ≡ noteOf r (now (came .entry)) (now (held .exit))) ⌝ }
 {
     if all_came(count, came, parts) {
         let ticks = held_for(base, held, g.ticks);
         return complete(tick, base, parts, came, held, ticks);
     }
+    let ack_tick = g.ack_tick;
     Note {
         answer: Answer::NotYet,
         logbook: Logbook {
@@ -237,31 +240,33 @@ fn part_came(
             parts,
             ticks: g.ticks,
             has_ack: g.has_ack,
-            ack_tick: g.ack_tick,
+            ack_tick,
         },
     }
 }
 
 // Whether a tick is below the newest, or is the newest with all parts in.
-fn late(g: Logbook, tick: i32, count: usize, came: &[usize]) -> bool
+fn late(g: Logbook, tick: Tick, count: usize, came: &[usize]) -> bool
     requires { ⌜ g .parts ≤ length (now came) ⌝ }
-    ensures { λ r. ⌜ r ≡ Book.late (newestOf g) (partsIn (g .parts) (now (came .entry))) tick count ⌝ }
+    ensures { λ r. ⌜ r ≡ Book.late (newestOf g) (partsIn (g .parts) (now (came .entry))) (tick .0) count ⌝ }
 {
     if g.has_newest {
-        if ints::signed_less(tick, g.newest) {
+        let newest = g.newest;
+        if tick.is_before(newest) {
             return true;
         }
-        return both(same(tick, g.newest), all_came(count, came, g.parts));
+        return both(tick.is_same(newest), all_came(count, came, g.parts));
     }
     false
 }
 
 // How many parts of a tick came: none if it is above the newest.
-fn came_of(g: Logbook, tick: i32) -> usize
-    ensures { λ r. ⌜ ((came : List ℕ) → partsIn r came ≡ Book.cameOf (newestOf g) (partsIn (g .parts) came) tick) × (r ≤ g .parts) ⌝ }
+fn came_of(g: Logbook, tick: Tick) -> usize
+    ensures { λ r. ⌜ ((came : List ℕ) → partsIn r came ≡ Book.cameOf (newestOf g) (partsIn (g .parts) came) (tick .0)) × (r ≤ g .parts) ⌝ }
 {
     if g.has_newest {
-        if same(tick, g.newest) {
+        let newest = g.newest;
+        if tick.is_same(newest) {
             return g.parts;
         }
         return 0;
@@ -282,15 +287,15 @@ fn refused(g: Logbook, error: Error) -> Note
 // Notes a part of a tick, of so many parts, with its base.
 pub fn note(
     g: Logbook,
-    tick: i32,
-    base: i32,
+    tick: Tick,
+    base: Tick,
     part: usize,
     count: usize,
     came: &mut [usize],
     held: &mut [i32],
 ) -> Note
     requires { ⌜ Room g (now came) (now held) ⌝ }
-    ensures { λ r. ⌜ Book.note (logbookOf g (now (came .entry)) (now (held .entry))) tick base part count ≡ noteOf r (now (came .exit)) (now (held .exit)) ⌝ }
+    ensures { λ r. ⌜ Book.note (logbookOf g (now (came .entry)) (now (held .entry))) (tick .0) (base .0) part count ≡ noteOf r (now (came .exit)) (now (held .exit)) ⌝ }
 {
     if late(g, tick, count, came) {
         return refused(g, Error::OldDelta);
@@ -316,7 +321,7 @@ pub fn note_message(g: Logbook, m: SnapMsg, came: &mut [usize], held: &mut [i32]
             part,
             crc: _,
         } => {
-            let base = ints::wrapping_sub(tick, delta_tick);
+            let base = tick.minus(delta_tick);
             let p = ints::num(part);
             let count = ints::num(num_parts);
             note(g, tick, base, p, count, came, held)
@@ -326,11 +331,11 @@ pub fn note_message(g: Logbook, m: SnapMsg, came: &mut [usize], held: &mut [i32]
             delta_tick,
             crc: _,
         } => {
-            let base = ints::wrapping_sub(tick, delta_tick);
+            let base = tick.minus(delta_tick);
             note(g, tick, base, 0, 1, came, held)
         }
         SnapMsg::SnapEmpty { tick, delta_tick } => {
-            let base = ints::wrapping_sub(tick, delta_tick);
+            let base = tick.minus(delta_tick);
             note(g, tick, base, 0, 1, came, held)
         }
     }

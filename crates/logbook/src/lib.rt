@@ -6,24 +6,25 @@ ghost use lib.IntN.{ℤ};
 ghost use mathlib.Core.List.{List};
 ghost use Prim.Native.Nat.{ℕ};
 use format::Error;
+use ticks::Tick;
 
 pub mod checked;
 
 // The newest tick and the acknowledgement, if any; how many parts of the newest tick came; how many ticks are held. The two lists are in areas, latest last.
 pub struct Logbook {
     pub has_newest: bool,
-    pub newest: i32,
+    pub newest: Tick,
     pub parts: usize,
     pub ticks: usize,
     pub has_ack: bool,
-    pub ack_tick: i32,
+    pub ack_tick: Tick,
 }
 
 // The answer for a message: a refusal, not yet, or a tick.
 pub enum Answer {
     Refused(Error),
     NotYet,
-    Acknowledges(i32),
+    Acknowledges(Tick),
 }
 
 // An answer, and what is noted afterwards.
@@ -42,11 +43,11 @@ impl Logbook {
     {
         Logbook {
             has_newest: false,
-            newest: 0,
+            newest: Tick(0),
             parts: 0,
             ticks: 0,
             has_ack: false,
-            ack_tick: 0,
+            ack_tick: Tick(0),
         }
     }
 }

@@ -16,14 +16,16 @@ use Rattle.definitions.specs.Storage as Store
 use Rattle.definitions.specs.StorageCalls as Calls
 use Rattle.definitions.specs.Manager as Manager
 use Rattle.laws.specs.WarningLaws.{plus-none}
+use Rattle.laws.specs.WarningKinds.{merge, ofReceiver, ofReading, ofStore, merges, Told, value, refusal, Any}
+use Rattle.laws.specs.StoreKinds.{add-told}
 use Rattle.format.specs.Numbers.{number}
 use Rattle.format.specs.Totals.{counts}
+use Rattle.ticks.specs.declared.Tick.{Tick}
 use Rattle.format.specs.declared.Error.{Error}
 use Rattle.format.specs.declared.Reading.{Reading}
 use Rattle.format.specs.declared.Stored.{Stored}
 use Rattle.format.specs.declared.Stored.the-variants as answer
 use Rattle.format.specs.declared.Warnings.{Warnings}
-use Rattle.format.specs.Sources.{merge}
 use Rattle.receiver.specs.States.{receiverOf}
 use Rattle.receiver.specs.Answers.{receivedWith, answered}
 use Rattle.receiver.specs.declared.Received.{Received}
@@ -42,8 +44,6 @@ use Rattle.manager.specs.Steps.{readInto, toldBy, goes, keeps, handledBy
 use Rattle.manager.specs.declared.Handled.{Handled}
 use Rattle.manager.specs.declared.Handled.the-variants as handled
 use Rattle.manager.specs.declared.Handling.{Handling}
-use Rattle.manager.proofs.WarningKinds.{ofReceiver, ofReading, ofStore, merges, Told, value, refusal, Any}
-use Rattle.manager.proofs.StoreKinds.{add-told}
 use Rattle.manager.proofs.ReadStored.{Holding}
 
 -- a store that is unchanged
@@ -109,11 +109,11 @@ module _ (n : ℕ) (w : Counts) (r : Receiver.Receives) (x : Receiver.ReceivedDe
       (sym (plus-none (plus w v)) ∙ merges w v Warnings.none e f refl)
 
 -- what was read into an area went into the store
-pub adds : (a : Receiving) (m : Sent) (s : Storage) (delta out area areaThen : List ℤ) (o : Outcome DeltaRead) (read : Reading) (r : Handling) → Holding delta (read .answer) (counts (read .warnings)) out (fitting (length delta) o) → (Calls.laidOut area (goes (length area) (counts (a .warnings)) (sumOf m) (m .«delta_tick») (m .tick) (holdsIn (storeOf s) area) (readInto (read .answer) (counts (read .warnings)) out)) ≡ keeps r areaThen) × (receiverOf (r .manager .receiver) ≡ receiverOf (a .receiver)) → Adds a m s delta area o r out areaThen
+pub adds : (a : Receiving) (m : Sent) (s : Storage) (delta out area areaThen : List ℤ) (o : Outcome DeltaRead) (read : Reading) (r : Handling) → Holding delta (read .answer) (counts (read .warnings)) out (fitting (length delta) o) → (Calls.laidOut area (goes (length area) (counts (a .warnings)) (sumOf m) (m .«delta_tick» .0) (m .tick .0) (holdsIn (storeOf s) area) (readInto (read .answer) (counts (read .warnings)) out)) ≡ keeps r areaThen) × (receiverOf (r .manager .receiver) ≡ receiverOf (a .receiver)) → Adds a m s delta area o r out areaThen
 adds a m s delta out area areaThen o read r h e =
     record {
       store-is =
-          ap (λ (x : Outcome Delta). Calls.laidOut area (goes (length area) (counts (a .warnings)) (sumOf m) (m .«delta_tick») (m .tick) (holdsIn (storeOf s) area) x)) (sym (h .read-is))
+          ap (λ (x : Outcome Delta). Calls.laidOut area (goes (length area) (counts (a .warnings)) (sumOf m) (m .«delta_tick» .0) (m .tick .0) (holdsIn (storeOf s) area) x)) (sym (h .read-is))
           ∙ e .0;
       receiver-is = e .1;
       delta-is = h .delta-is;
@@ -150,13 +150,13 @@ module _ (a : Receiving) (s : Storage) (parts joined : List ℕ) (sizes delta ar
   -- a delta went into the store
   module _ (b : Brought a) (m : Sent) (r : Handling) (deltaThen areaThen : List ℤ) (o : Outcome DeltaRead) (t : Told ofReading (Any {A = Delta}) (fitting (length delta) o)) (i : Adds a m s delta area o r deltaThen areaThen) where
     -- what is left then
-    added : (x : Receiver.ReceivedDelta) → Manager.sumOf (x .dataAndCrc) ≡ sumOf m → x .deltaTick ≡ m .«delta_tick» → x .tick ≡ m .tick → laidOut area (Manager.afterReading (length area) (counts (a .warnings)) (answered a parts joined) x (holdsIn (storeOf s) area) delta (fitting (length delta) o)) ≡ handlings r parts joined deltaThen areaThen
+    added : (x : Receiver.ReceivedDelta) → Manager.sumOf (x .dataAndCrc) ≡ sumOf m → x .deltaTick ≡ m .«delta_tick» .0 → x .tick ≡ m .tick .0 → laidOut area (Manager.afterReading (length area) (counts (a .warnings)) (answered a parts joined) x (holdsIn (storeOf s) area) delta (fitting (length delta) o)) ≡ handlings r parts joined deltaThen areaThen
     added x e f g =
         let w = counts (a .warnings) in
         let H = holdsIn (storeOf s) area in
         let O = fitting (length delta) o in
         ap (laidOut area) (reading-goes (length area) w (answered a parts joined) x H delta (b .kinds) t)
-        ∙ (same w H O (Manager.sumOf (x .dataAndCrc)) (sumOf m) (x .deltaTick) (m .«delta_tick») (x .tick) (m .tick) e f g
+        ∙ (same w H O (Manager.sumOf (x .dataAndCrc)) (sumOf m) (x .deltaTick) (m .«delta_tick» .0) (x .tick) (m .tick .0) e f g
         ∙ (ap (λ (y : Calls.StoreStep (Option ℤ)). record { answer = y .answer; receiver = receiverOf (a .receiver); store = y .store; parts = parts; joined = joined; delta = deltaLeft delta O; area = y .area }) (i .store-is)
         ∙ ap₂ (λ (y : Receiver.Receiver) (d : List ℤ). record { answer = handledWith (r .answer) (counts (r .warnings)); receiver = y; store = storeOf (r .manager .storage); parts = parts; joined = joined; delta = d; area = areaThen }) (sym (i .receiver-is)) (sym (i .delta-is))))
       where
@@ -164,15 +164,15 @@ module _ (a : Receiving) (s : Storage) (parts joined : List ℕ) (sizes delta ar
         same w H O c d p q u v e f g = rw (e, f, g)
 
   -- of some bytes
-  pub bytes-added : Brought a → (m : Sent) (r : Handling) (deltaThen areaThen : List ℤ) (tick base : ℤ) (n : ℕ) (crc : ℤ) → a .answer ≡ received.Delta tick base n crc → sumOf m ≡ some crc → m .«delta_tick» ≡ base → m .tick ≡ tick → Told ofReading (Any {A = Delta}) (fitting (length delta) (readDelta sizes (stream (take n joined)))) → Adds a m s delta area (readDelta sizes (stream (take n joined))) r deltaThen areaThen → Whole ≡ handlings r parts joined deltaThen areaThen
+  pub bytes-added : Brought a → (m : Sent) (r : Handling) (deltaThen areaThen : List ℤ) (tick base : Tick) (n : ℕ) (crc : ℤ) → a .answer ≡ received.Delta tick base n crc → sumOf m ≡ some crc → m .«delta_tick» ≡ base → m .tick ≡ tick → Told ofReading (Any {A = Delta}) (fitting (length delta) (readDelta sizes (stream (take n joined)))) → Adds a m s delta area (readDelta sizes (stream (take n joined))) r deltaThen areaThen → Whole ≡ handlings r parts joined deltaThen areaThen
   unfolding Manager.afterReceiving Manager.fittingDelta fitting
   bytes-added b m r deltaThen areaThen tick base n crc e f g h t i =
       ap With e
-      ∙ added b m r deltaThen areaThen (readDelta sizes (stream (take n joined))) t i (record { deltaTick = base; tick = tick; dataAndCrc = some (record { length = n; crc = crc }) }) (sym f) (sym g) (sym h)
+      ∙ added b m r deltaThen areaThen (readDelta sizes (stream (take n joined))) t i (record { deltaTick = base .0; tick = tick .0; dataAndCrc = some (record { length = n; crc = crc }) }) (sym f) (ap (λ (t : Tick). t .0) (sym g)) (ap (λ (t : Tick). t .0) (sym h))
 
   -- the empty one
-  pub empty-added : Brought a → (m : Sent) (r : Handling) (deltaThen areaThen : List ℤ) (tick base : ℤ) → a .answer ≡ received.Empty tick base → sumOf m ≡ none → m .«delta_tick» ≡ base → m .tick ≡ tick → Told ofReading (Any {A = Delta}) (fitting (length delta) (return Manager.emptyRead)) → Adds a m s delta area (return Manager.emptyRead) r deltaThen areaThen → Whole ≡ handlings r parts joined deltaThen areaThen
+  pub empty-added : Brought a → (m : Sent) (r : Handling) (deltaThen areaThen : List ℤ) (tick base : Tick) → a .answer ≡ received.Empty tick base → sumOf m ≡ none → m .«delta_tick» ≡ base → m .tick ≡ tick → Told ofReading (Any {A = Delta}) (fitting (length delta) (return Manager.emptyRead)) → Adds a m s delta area (return Manager.emptyRead) r deltaThen areaThen → Whole ≡ handlings r parts joined deltaThen areaThen
   unfolding Manager.afterReceiving Manager.fittingDelta fitting
   empty-added b m r deltaThen areaThen tick base e f g h t i =
       ap With e
-      ∙ added b m r deltaThen areaThen (return Manager.emptyRead) t i (record { deltaTick = base; tick = tick; dataAndCrc = none }) (sym f) (sym g) (sym h)
+      ∙ added b m r deltaThen areaThen (return Manager.emptyRead) t i (record { deltaTick = base .0; tick = tick .0; dataAndCrc = none }) (sym f) (ap (λ (t : Tick). t .0) (sym g)) (ap (λ (t : Tick). t .0) (sym h))

@@ -12,11 +12,15 @@ use Rattle.definitions.specs.Refusals.{notInForm, scratchTooShort}
 use Rattle.definitions.specs.Outcome.{Outcome, ok, err}
 use Rattle.definitions.specs.Warnings.{Counts}
 use Rattle.definitions.specs.Messages.{SnapEmpty, Message}
+use Rattle.definitions.specs.Messages as Messages
 use Rattle.definitions.specs.Receiver as Receiver
 use Rattle.definitions.specs.Storage as Store
 use Rattle.definitions.specs.StorageCalls as Calls
 use Rattle.definitions.specs.Manager as Manager
 use Rattle.format.specs.Totals.{counts}
+use Rattle.ticks.specs.Ticks.{distanceOf}
+use Rattle.ticks.specs.declared.Tick.{Tick}
+use Rattle.ticks.specs.declared.Distance.{Distance}
 use Rattle.gamenet_snap.specs.Numbers.{numbers}
 use Rattle.gamenet_snap.specs.declared.SnapMsg.{SnapMsg}
 use Rattle.gamenet_snap.specs.declared.SnapMsg.the-variants as msg
@@ -26,20 +30,20 @@ use Rattle.receiver.specs.declared.Received.the-variants as received
 use Rattle.receiver.specs.declared.Receiving.{Receiving}
 use Rattle.store_area.specs.Stores.{holdsIn}
 use Rattle.manager.specs.Steps.{Short, Brought, laidOut, refusing}
-use Rattle.manager.proofs.WarningKinds.{ofReceiver, Told, value, refusal}
+use Rattle.laws.specs.WarningKinds.{ofReceiver, Told, value, refusal}
 use Rattle.manager.proofs.ReceiverKinds.{Few, NoBytes, receive-told, empty-brings}
 
 -- ---- the receiver's call, by the message
 
-module _ (r : Receiver.Receiver) (m : SnapMsg) (bytes parts joined : List ℕ) (x : Receiver.Receives) (tick distance tick2 distance2 : ℤ) (et : tick2 ≡ tick) (ed : distance2 ≡ distance) where
-  pub by-part : (n part crc n2 part2 crc2 : ℤ) → n2 ≡ n → part2 ≡ part → crc2 ≡ crc → m ≡ msg.Snap tick distance n part crc → Receiver.snapCall r (record { tick = tick2; deltaTick = distance2; numParts = n2; part = part2; crc = crc2 }) bytes parts joined ≡ x → Manager.receive r (numbers m) bytes parts joined ≡ x
-  by-part n part crc n2 part2 crc2 en ep ec e h = rw (e, ← et, ← ed, ← en, ← ep, ← ec) h
+module _ (r : Receiver.Receiver) (m : SnapMsg) (bytes parts joined : List ℕ) (x : Receiver.Receives) (tick : Tick) (d : Distance) where
+  pub by-part : (n part crc n2 part2 crc2 : ℤ) → n2 ≡ n → part2 ≡ part → crc2 ≡ crc → m ≡ msg.Snap tick d n part crc → Receiver.snapCall r (record { tick = tick .0; distance = distanceOf d; numParts = n2; part = part2; crc = crc2 }) bytes parts joined ≡ x → Manager.receive r (numbers m) bytes parts joined ≡ x
+  by-part n part crc n2 part2 crc2 en ep ec e h = rw (e, ← en, ← ep, ← ec) h
 
-  pub by-single : (crc crc2 : ℤ) → crc2 ≡ crc → m ≡ msg.SnapSingle tick distance crc → Receiver.snapSingleCall r tick2 distance2 crc2 bytes parts joined ≡ x → Manager.receive r (numbers m) bytes parts joined ≡ x
-  by-single crc crc2 ec e h = rw (e, ← et, ← ed, ← ec) h
+  pub by-single : (crc crc2 : ℤ) → crc2 ≡ crc → m ≡ msg.SnapSingle tick d crc → Receiver.snapSingleCall r (tick .0) (distanceOf d) crc2 bytes parts joined ≡ x → Manager.receive r (numbers m) bytes parts joined ≡ x
+  by-single crc crc2 ec e h = rw (e, ← ec) h
 
-  pub by-empty : m ≡ msg.SnapEmpty tick distance → Receiver.snapEmptyCall r tick2 distance2 parts joined ≡ x → Manager.receive r (numbers m) bytes parts joined ≡ x
-  by-empty e h = rw (e, ← et, ← ed) h
+  pub by-empty : m ≡ msg.SnapEmpty tick d → Receiver.snapEmptyCall r (tick .0) (distanceOf d) parts joined ≡ x → Manager.receive r (numbers m) bytes parts joined ≡ x
+  by-empty e h = rw e h
 
 -- what was received is known to be short, with a receiver's warnings
 told-brought : (x : Received) (w : Counts) → Told ofReceiver Few (receivedWith x w) → Short x × (w ≡ ofReceiver w)
@@ -116,15 +120,15 @@ module _ (sizes others : List ℤ) where
       same bytes k none q = unfold Manager.fittingDelta in refl
       same bytes k (some y) q = let z : _≡_ {A = ℕ} 0 1 = cc in absurd (omega arith)
 
-  module _ (tick distance : ℤ) (parts joined : List ℕ) (delta area : List ℤ) where
+  module _ (tick : ℤ) (d : Messages.Distance) (parts joined : List ℕ) (delta area : List ℤ) where
     -- an empty message
     abbrev Empty : Message
-    Empty = record { numbers = SnapEmpty tick distance; bytes = [] }
+    Empty = record { numbers = SnapEmpty tick d; bytes = [] }
 
     handled-same : (n : ℕ) (g : Manager.Manager) → Manager.handle sizes n g Empty parts joined delta ≡ Manager.handle others n g Empty parts joined delta
     unfolding Manager.handle
     handled-same n g =
-        no-sizes n (Manager.receive (g .receiver) (SnapEmpty tick distance) [] parts joined) (g .storage) delta (empty-brings (g .receiver) parts joined tick distance [])
+        no-sizes n (Manager.receive (g .receiver) (SnapEmpty tick d) [] parts joined) (g .storage) delta (empty-brings (g .receiver) parts joined tick d [])
 
     managed-same : (r : Receiver.Receiver) (s : Store.Store) (o : Outcome Manager.Manager) → Manager.managed sizes r s Empty parts joined delta area o ≡ Manager.managed others r s Empty parts joined delta area o
     unfolding Manager.managed

@@ -21,6 +21,7 @@ use Rattle.definitions.specs.DeltaCalls.{storedDelta, clearCall}
 use Rattle.definitions.specs.Manager.{emptyDelta, emptyRead}
 use Rattle.laws.specs.AreaLaws.{lay-append}
 use Rattle.laws.specs.OutcomeLaws.{after-none}
+use Rattle.laws.specs.WarningKinds.{ofReading, Told, value, refusal, Any, reading, returns, given, then}
 use Rattle.laws.specs.StoredLaws.{room-tested}
 use Rattle.laws.specs.DeltaForm.{delta-back}
 use Rattle.format.specs.Totals.{counts}
@@ -29,7 +30,6 @@ use Rattle.format.specs.declared.Stored.{Stored}
 use Rattle.format.specs.declared.Stored.the-variants as answer
 use Rattle.format.specs.declared.Warnings.{Warnings}
 use Rattle.manager.specs.Steps.{readInto, fitting, deltaLeft}
-use Rattle.manager.proofs.WarningKinds.{ofReading, Told, value, refusal, Any, reading, returns, given, then}
 use Rattle.manager.proofs.ReadSound.{Sound}
 
 -- ---- the empty delta

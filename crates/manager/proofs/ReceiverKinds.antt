@@ -14,10 +14,10 @@ use Rattle.definitions.specs.Refusals.{oldDelta, invalidNumParts, invalidPart, 
 use Rattle.definitions.specs.Warnings.{DuplicateSnap, DifferingAttributes}
 use Rattle.definitions.specs.Outcome.{Outcome}
 use Rattle.definitions.specs.Tables.{num}
-use Rattle.definitions.specs.Messages.{SnapMsg, Snap, SnapEmpty, SnapSingle}
+use Rattle.definitions.specs.Messages.{Distance, SnapMsg, Snap, SnapEmpty, SnapSingle}
 use Rattle.definitions.specs.Receiver.{Receiver, Part, DataAndCrc, ReceivedDelta, Taken, Opened, isIn, countIn, partIn, joined, receiverForm, isOld, isCurrent, opened, differs, withPart, finish, wait, putPart, whole, takeSnap, takeSingle, takeEmpty, leaves}
 use Rattle.definitions.specs.Manager.{receive}
-use Rattle.manager.proofs.WarningKinds.{ofReceiver, Told, value, refusal, receiving, returns, given, warns}
+use Rattle.laws.specs.WarningKinds.{ofReceiver, Told, value, refusal, receiving, returns, given, warns}
 
 -- ---- how many bytes are joined
 
@@ -79,9 +79,9 @@ module _ (r : Receiver) (area second : List ℕ) where
       (given receiving (not (isIn (opened r m .parts) (num (m .part)))) duplicatePart
       (λ _. returns receiving _ (put-few (r .previousTick) (withPart (opened r m) (num (m .part)) (length bytes)) (layAt (900 * num (m .part)) bytes area) second)))))))))
 
-  single-told : (tick distance crc : ℤ) (bytes : List ℕ) → Told ofReceiver FewTaken (takeSingle r tick distance crc bytes area second)
+  single-told : (tick : ℤ) (d : Distance) (crc : ℤ) (bytes : List ℕ) → Told ofReceiver FewTaken (takeSingle r tick d crc bytes area second)
   unfolding takeSingle
-  single-told tick distance crc bytes =
+  single-told tick d crc bytes =
       given receiving (receiverForm r) notInForm
       (λ _. given receiving (leb 28800 (length second)) scratchTooShort
       (λ _. given receiving (leb (length bytes) 900) partTooLong
@@ -89,9 +89,9 @@ module _ (r : Receiver) (area second : List ℕ) where
       (λ _. warns receiving (isCurrent r tick) DuplicateSnap refl
       (returns receiving _ (omega (arith, leb-true (length bytes) 900 e)))))))
 
-  empty-told : {P : Taken → Type 0} (tick distance : ℤ) → P (whole tick distance none area second) → Told ofReceiver P (takeEmpty r tick distance area second)
+  empty-told : {P : Taken → Type 0} (tick : ℤ) (d : Distance) → P (whole tick d none area second) → Told ofReceiver P (takeEmpty r tick d area second)
   unfolding takeEmpty
-  empty-told tick distance h =
+  empty-told tick d h =
       given receiving (receiverForm r) notInForm
       (λ _. given receiving (not (isOld r tick)) oldDelta
       (λ _. warns receiving (isCurrent r tick) DuplicateSnap refl (returns receiving _ h)))
@@ -103,10 +103,10 @@ module _ (r : Receiver) (area second : List ℕ) where
 
   -- whatever message comes
   pub receive-told : (m : SnapMsg) (bytes : List ℕ) → Told ofReceiver Few (receive r m bytes area second .answer)
-  receive-told (Snap tick distance n part crc) bytes = leaves-told {P = Few} (snap-told _ bytes)
-  receive-told (SnapEmpty tick distance) bytes = leaves-told {P = Few} (empty-told {P = FewTaken} tick distance tt)
-  receive-told (SnapSingle tick distance crc) bytes = leaves-told {P = Few} (single-told tick distance crc bytes)
+  receive-told (Snap tick d n part crc) bytes = leaves-told {P = Few} (snap-told _ bytes)
+  receive-told (SnapEmpty tick d) bytes = leaves-told {P = Few} (empty-told {P = FewTaken} tick d tt)
+  receive-told (SnapSingle tick d crc) bytes = leaves-told {P = Few} (single-told tick d crc bytes)
 
   -- an empty one brings no bytes
-  pub empty-brings : (tick distance : ℤ) (bytes : List ℕ) → Told ofReceiver NoBytes (receive r (SnapEmpty tick distance) bytes area second .answer)
-  empty-brings tick distance bytes = leaves-told {P = NoBytes} (empty-told {P = λ (t : Taken). NoBytes (t .received)} tick distance refl)
+  pub empty-brings : (tick : ℤ) (d : Distance) (bytes : List ℕ) → Told ofReceiver NoBytes (receive r (SnapEmpty tick d) bytes area second .answer)
+  empty-brings tick d bytes = leaves-told {P = NoBytes} (empty-told {P = λ (t : Taken). NoBytes (t .received)} tick d refl)

@@ -16,7 +16,7 @@ use Rattle.manager.specs.declared.Handling.{Handling}
 
 -- an answer together with its warning counts
 abbrev pub handledWith : Handled → Counts → Outcome (Option ℤ)
-handledWith (handled.Tick t) w = ok (some t) w
+handledWith (handled.Tick t) w = ok (some (t .0)) w
 handledWith handled.NotYet w = ok none w
 handledWith (handled.Refused e) w = err (number e) w
 

@@ -17,9 +17,9 @@ use Rattle.definitions.specs.DeltaReading.{DeltaRead}
 use Rattle.definitions.specs.Refusals.{capacityError}
 use Rattle.definitions.specs.Receiver.{Receiver}
 use Rattle.definitions.specs.Manager as Manager
+use Rattle.laws.specs.WarningKinds.{merge}
 use Rattle.format.specs.Numbers.{number}
 use Rattle.format.specs.Totals.{counts}
-use Rattle.format.specs.Sources.{merge}
 use Rattle.format.specs.declared.Stored.{Stored}
 use Rattle.format.specs.declared.Stored.the-variants as stored
 use Rattle.receiver.specs.States.{receiverOf}
@@ -85,7 +85,7 @@ deltaLeft delta (err n w) = delta
 
 -- what was received, with the numbers m, goes into the store s as a delta that is read, with both areas before and after
 pub record Adds (a : Receiving) (m : Sent) (s : Storage) (delta area : List ℤ) (o : Outcome DeltaRead) (r : Handling) (deltaThen areaThen : List ℤ) : Type 0 where
-  pub store-is : Calls.laidOut area (goes (length area) (counts (a .warnings)) (sumOf m) (m .«delta_tick») (m .tick) (holdsIn (storeOf s) area) (fitting (length delta) o)) ≡ keeps r areaThen
+  pub store-is : Calls.laidOut area (goes (length area) (counts (a .warnings)) (sumOf m) (m .«delta_tick» .0) (m .tick .0) (holdsIn (storeOf s) area) (fitting (length delta) o)) ≡ keeps r areaThen
   pub receiver-is : receiverOf (r .manager .receiver) ≡ receiverOf (a .receiver)
   pub delta-is : deltaThen ≡ deltaLeft delta (fitting (length delta) o)
 

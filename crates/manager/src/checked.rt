@@ -19,7 +19,6 @@ ghost use Rattle.format.specs.Numbers.{number};
 ghost use Rattle.format.specs.Totals.{counts};
 ghost use Rattle.format.specs.Answers.{storedWith};
 ghost use Rattle.format.specs.declared.Stored.the-variants as stored;
-ghost use Rattle.format.specs.Sources.{merge};
 ghost use Rattle.gamenet_snap.specs.Numbers.{numbers};
 ghost use Rattle.receiver.specs.States.{receiverOf};
 ghost use Rattle.receiver.specs.Answers.{receivedWith, answered};
@@ -47,6 +46,7 @@ use storage::checked::Sent;
 use storage::checked::take_judged;
 use store_area::checked::StoreForm;
 use table::checked::nat_at;
+use ticks::Tick;
 
 // Passes a message to the receiver.
 pub fn receive(
@@ -87,7 +87,7 @@ pub fn read_empty(delta: &mut [i32]) -> Reading
 }
 
 // The numbers of a delta with a sum.
-pub fn with_crc(crc: i32, delta_tick: i32, tick: i32) -> Sent
+pub fn with_crc(crc: i32, delta_tick: Tick, tick: Tick) -> Sent
     ensures { λ r. ⌜ (sumOf r ≡ some crc) × (r .«delta_tick» ≡ «delta_tick») × (r .tick ≡ tick) ⌝ }
 {
     Sent {
@@ -99,7 +99,7 @@ pub fn with_crc(crc: i32, delta_tick: i32, tick: i32) -> Sent
 }
 
 // The numbers of a delta without a sum.
-pub fn without_crc(delta_tick: i32, tick: i32) -> Sent
+pub fn without_crc(delta_tick: Tick, tick: Tick) -> Sent
     ensures { λ r. ⌜ (sumOf r ≡ none) × (r .«delta_tick» ≡ «delta_tick») × (r .tick ≡ tick) ⌝ }
 {
     Sent {
@@ -120,7 +120,7 @@ pub fn take(
     scratch: &mut [i32],
 ) -> Taking
     requires { ⌜ Holds (storeOf s) (now area) ints × (deltaForm [] (now delta) ≡ true) × (16384 ≤ length (now scratch)) ⌝ }
-    ensures { λ r. ⌜ StorageCalls.laidOut (now (area .entry)) (Store.addDelta (length (now (area .entry))) (sumOf m) (m .«delta_tick») (m .tick) (deltaIn [] (now (delta .entry))) (holdsIn (storeOf s) (now (area .entry)))) ≡ takings r (now (area .exit)) ⌝ }
+    ensures { λ r. ⌜ StorageCalls.laidOut (now (area .entry)) (Store.addDelta (length (now (area .entry))) (sumOf m) (m .«delta_tick» .0) (m .tick .0) (deltaIn [] (now (delta .entry))) (holdsIn (storeOf s) (now (area .entry)))) ≡ takings r (now (area .exit)) ⌝ }
 {
     let deleted = nat_at(delta, 0);
     let updated = nat_at(delta, 1);
@@ -161,7 +161,7 @@ pub fn add(
     scratch: &mut [i32],
 ) -> Handling
     requires { ⌜ Holds (storeOf s) (now area) ints × (16384 ≤ length (now scratch)) × ((n : ℕ) → read .answer ≡ stored.Ints n → deltaForm [] (now delta) ≡ true) ⌝ }
-    ensures { λ r. ⌜ (StorageCalls.laidOut (now (area .entry)) (goes (length (now (area .entry))) (counts (a .warnings)) (sumOf m) (m .«delta_tick») (m .tick) (holdsIn (storeOf s) (now (area .entry))) (readInto (read .answer) (counts (read .warnings)) (now (delta .entry)))) ≡ keeps r (now (area .exit))) × (receiverOf (r .manager .receiver) ≡ receiverOf (a .receiver)) ⌝ }
+    ensures { λ r. ⌜ (StorageCalls.laidOut (now (area .entry)) (goes (length (now (area .entry))) (counts (a .warnings)) (sumOf m) (m .«delta_tick» .0) (m .tick .0) (holdsIn (storeOf s) (now (area .entry))) (readInto (read .answer) (counts (read .warnings)) (now (delta .entry)))) ≡ keeps r (now (area .exit))) × (receiverOf (r .manager .receiver) ≡ receiverOf (a .receiver)) ⌝ }
 {
     let warnings = a.warnings;
     let read_warnings = read.warnings;

@@ -10,16 +10,18 @@ ghost use Rattle.definitions.specs.Receiver.{freshReceiver};
 ghost use Rattle.definitions.specs.Storage.{beside, freshStorage};
 ghost use Rattle.definitions.specs.StorageCalls.{resetCall};
 ghost use Rattle.definitions.specs.Manager.{messageCall};
-ghost use Rattle.format.specs.Ticks.{tickOf};
+ghost use Rattle.ticks.specs.Ticks.{distanceOf, tickOf};
 ghost use Rattle.receiver.specs.States.{receiverOf};
 ghost use Rattle.storage.specs.States.{storeOf};
 ghost use Rattle.manager.specs.Answers.{handlings};
 use format::Error;
-use format::OptionTick;
 use format::Warnings;
 use gamenet_snap::SnapMsg;
 use receiver::DeltaReceiver;
 use storage::Storage;
+use ticks::Distance;
+use ticks::OptionTick;
+use ticks::Tick;
 
 pub mod checked;
 
@@ -31,7 +33,7 @@ pub struct Manager {
 
 // The answer for a message: the tick of the table that it made, which is acknowledged; that parts are missing; or why it is refused.
 pub enum Handled {
-    Tick(i32),
+    Tick(Tick),
     NotYet,
     Refused(Error),
 }
@@ -73,8 +75,8 @@ impl Manager {
     // Both part areas need at least 28,800 bytes, and scratch as many entries; scratch is all zeros afterwards.
     pub fn snap(
         self,
-        tick: i32,
-        delta_tick: i32,
+        tick: Tick,
+        delta_tick: Distance,
         num_parts: i32,
         part: i32,
         crc: i32,
@@ -86,7 +88,7 @@ impl Manager {
         area: &mut [i32],
         scratch: &mut [i32],
     ) -> Handling
-        ensures { λ r. ⌜ (messageCall (now (sizes .entry)) (receiverOf (self .receiver)) (storeOf (self .storage)) (record { numbers = Snap tick «delta_tick» «num_parts» part crc; bytes = now («data» .entry) }) (now (parts .entry)) (now (joined .entry)) (now (delta .entry)) (now (area .entry)) (length (now (scratch .entry))) ≡ handlings r (now (parts .exit)) (now (joined .exit)) (now (delta .exit)) (now (area .exit))) × (now (scratch .exit) ≡ cleared (now (scratch .entry))) ⌝ }
+        ensures { λ r. ⌜ (messageCall (now (sizes .entry)) (receiverOf (self .receiver)) (storeOf (self .storage)) (record { numbers = Snap (tick .0) (distanceOf «delta_tick») «num_parts» part crc; bytes = now («data» .entry) }) (now (parts .entry)) (now (joined .entry)) (now (delta .entry)) (now (area .entry)) (length (now (scratch .entry))) ≡ handlings r (now (parts .exit)) (now (joined .exit)) (now (delta .exit)) (now (area .exit))) × (now (scratch .exit) ≡ cleared (now (scratch .entry))) ⌝ }
     {
         let m = SnapMsg::Snap {
             tick,
@@ -101,8 +103,8 @@ impl Manager {
     // Takes a whole delta. The areas need the same lengths as for a part.
     pub fn snap_single(
         self,
-        tick: i32,
-        delta_tick: i32,
+        tick: Tick,
+        delta_tick: Distance,
         crc: i32,
         data: &[u8],
         sizes: &[i32],
@@ -112,7 +114,7 @@ impl Manager {
         area: &mut [i32],
         scratch: &mut [i32],
     ) -> Handling
-        ensures { λ r. ⌜ (messageCall (now (sizes .entry)) (receiverOf (self .receiver)) (storeOf (self .storage)) (record { numbers = SnapSingle tick «delta_tick» crc; bytes = now («data» .entry) }) (now (parts .entry)) (now (joined .entry)) (now (delta .entry)) (now (area .entry)) (length (now (scratch .entry))) ≡ handlings r (now (parts .exit)) (now (joined .exit)) (now (delta .exit)) (now (area .exit))) × (now (scratch .exit) ≡ cleared (now (scratch .entry))) ⌝ }
+        ensures { λ r. ⌜ (messageCall (now (sizes .entry)) (receiverOf (self .receiver)) (storeOf (self .storage)) (record { numbers = SnapSingle (tick .0) (distanceOf «delta_tick») crc; bytes = now («data» .entry) }) (now (parts .entry)) (now (joined .entry)) (now (delta .entry)) (now (area .entry)) (length (now (scratch .entry))) ≡ handlings r (now (parts .exit)) (now (joined .exit)) (now (delta .exit)) (now (area .exit))) × (now (scratch .exit) ≡ cleared (now (scratch .entry))) ⌝ }
     {
         let m = SnapMsg::SnapSingle {
             tick,
@@ -125,15 +127,15 @@ impl Manager {
     // Takes an empty delta: the table equals its base. The areas need the same lengths as for a part.
     pub fn snap_empty(
         self,
-        tick: i32,
-        delta_tick: i32,
+        tick: Tick,
+        delta_tick: Distance,
         parts: &mut [u8],
         joined: &mut [u8],
         delta: &mut [i32],
         area: &mut [i32],
         scratch: &mut [i32],
     ) -> Handling
-        ensures { λ r. ⌜ ((sizes : List ℤ) → messageCall sizes (receiverOf (self .receiver)) (storeOf (self .storage)) (record { numbers = SnapEmpty tick «delta_tick»; bytes = [] }) (now (parts .entry)) (now (joined .entry)) (now (delta .entry)) (now (area .entry)) (length (now (scratch .entry))) ≡ handlings r (now (parts .exit)) (now (joined .exit)) (now (delta .exit)) (now (area .exit))) × (now (scratch .exit) ≡ cleared (now (scratch .entry))) ⌝ }
+        ensures { λ r. ⌜ ((sizes : List ℤ) → messageCall sizes (receiverOf (self .receiver)) (storeOf (self .storage)) (record { numbers = SnapEmpty (tick .0) (distanceOf «delta_tick»); bytes = [] }) (now (parts .entry)) (now (joined .entry)) (now (delta .entry)) (now (area .entry)) (length (now (scratch .entry))) ≡ handlings r (now (parts .exit)) (now (joined .exit)) (now (delta .exit)) (now (area .exit))) × (now (scratch .exit) ≡ cleared (now (scratch .entry))) ⌝ }
     {
         let m = SnapMsg::SnapEmpty { tick, delta_tick };
         let sizes = [0i32; 1];

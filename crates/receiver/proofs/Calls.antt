@@ -1,22 +1,24 @@
 -- The result of each call on a receiver, refusal by refusal. Assumes nothing.
 use mathlib.Core.Path.{_≡_, refl}
-use mathlib.Core.Bool.{Bool, true, false, cond, not}
+use mathlib.Core.Bool.{Bool, true, false, cond}
 use mathlib.Core.List.{List}
 use mathlib.Core.Option.{some, none}
-use Prim.Native.Nat.{ℕ, _*_, _≤_, _<_}
+use Prim.Native.Nat.{ℕ, _≤_, _<_}
 use borrow.Author.Tests.{lt-ltb, le-ltb, le-leb, lt-leb}
 use lib.IntN.{ℤ}
 use lib.ListN.{length}
-use Rattle.definitions.specs.Areas.{lay, layAt}
+use Rattle.definitions.specs.Areas.{lay}
 use Rattle.definitions.specs.Tables.{num}
-use Rattle.definitions.specs.Messages.{baseTick}
-use Rattle.definitions.specs.Refusals.{oldDelta, invalidNumParts, invalidPart, duplicatePart, scratchTooShort, partTooLong, notInForm}
-use Rattle.definitions.specs.Warnings.{DuplicateSnap, DifferingAttributes}
-use Rattle.definitions.specs.Outcome.{err, require, return, warnIf, _>>_}
-use Rattle.definitions.specs.Receiver.{Receiver, Part, Taken, Receives, noParts, finishedAt, isIn, receiverForm, isOld, isCurrent, opened, differs, withPart, putPart, takeSnap, takeSingle, takeEmpty, whole, leaves, snapCall, snapSingleCall, snapEmptyCall}
+use Rattle.definitions.specs.Messages.{Distance, baseTick}
+use Rattle.definitions.specs.Refusals.{oldDelta, invalidNumParts, invalidPart, scratchTooShort, partTooLong, notInForm}
+use Rattle.definitions.specs.Warnings.{DuplicateSnap, DifferingAttributes, one, none as no-warning}
+use Rattle.definitions.specs.Outcome.{require, return, warnIf, _>>_}
+use Rattle.definitions.specs.Receiver.{Receiver, Part, Taken, noParts, finishedAt, receiverForm, isOld, isCurrent, opened, differs, takeSnap, takeSingle, takeEmpty, whole, leaves, snapCall, snapSingleCall, snapEmptyCall}
+use Rattle.laws.specs.DifferingLaws.{counted}
 use Rattle.format.specs.Totals.{counts}
 use Rattle.format.specs.declared.Warnings.{Warnings}
 use Rattle.format.specs.Sources.{flagged}
+use Rattle.ticks.specs.declared.Tick.{Tick}
 use Rattle.receiver.specs.declared.checked.Ticks.{Ticks}
 use Rattle.receiver.specs.declared.Received.the-variants as received
 use Rattle.receiver.specs.States.{receiverWith}
@@ -24,13 +26,10 @@ use Rattle.receiver.specs.Answers.{taken, refusing, settled, taking}
 
 -- ---- a part
 
--- the end of a call that passed its tests
-part-ending : (r : Receiver) (area second : List ℕ) (t : Taken) (d i : Bool) → leaves r area second (require true notInForm >> (require true scratchTooShort >> (require true partTooLong >> (require true oldDelta >> (require true invalidNumParts >> (require true invalidPart >> (warnIf d DifferingAttributes >> (require (not i) duplicatePart >> return t)))))))) ≡ cond i (record { answer = err duplicatePart (flagged false d); receiver = r; parts = area; joined = second }) (settled (flagged false d) t)
-unfolding leaves settled
-part-ending r area second t true true = refl
-part-ending r area second t true false = refl
-part-ending r area second t false true = refl
-part-ending r area second t false false = refl
+-- the warning of a part whose numbers differ
+flagged-differing : (d : Bool) → flagged false d ≡ cond d (one DifferingAttributes) no-warning
+flagged-differing true = refl
+flagged-differing false = refl
 
 module _ (r : Receiver) (m : Part) (bytes area second : List ℕ) where
   pub refused-47 : receiverForm r ≡ false → snapCall r m bytes area second ≡ refusing notInForm r area second
@@ -71,10 +70,10 @@ module _ (r : Receiver) (m : Part) (bytes area second : List ℕ) where
                   rw (h, le-leb 28800 (length area) k, le-leb 28800 (length second) l, le-leb (length bytes) 900 b, o, le-leb (num (m .numParts)) 32 n, le-ltb (num (m .part)) (num (m .numParts)) p)
 
               pub judged : num (m .part) < num (m .numParts) → snapCall r m bytes area second ≡ taking r m (num (m .part)) bytes area second
-              unfolding takeSnap taking
+              unfolding taking settled
               judged p =
-                  rw (h, le-leb 28800 (length area) k, le-leb 28800 (length second) l, le-leb (length bytes) 900 b, o, le-leb (num (m .numParts)) 32 n, lt-ltb (num (m .part)) (num (m .numParts)) p)
-                  (part-ending r area second (putPart (r .previousTick) (withPart (opened r m) (num (m .part)) (length bytes)) (layAt (900 * num (m .part)) bytes area) second) (differs (opened r m .current) m) (isIn (opened r m .parts) (num (m .part))))
+                  rw (flagged-differing (differs (opened r m .current) m))
+                  (counted r m bytes area second h (rw (le-leb 28800 (length area) k, le-leb 28800 (length second) l)) (le-leb (length bytes) 900 b) o (le-leb (num (m .numParts)) 32 n) (lt-ltb (num (m .part)) (num (m .numParts)) p))
 
 -- ---- a single message
 
@@ -83,7 +82,7 @@ unfolding leaves settled
 single-ending r area second t true = refl
 single-ending r area second t false = refl
 
-module _ (r : Receiver) (tick distance crc : ℤ) (bytes second : List ℕ) where
+module _ (r : Receiver) (tick : ℤ) (distance : Distance) (crc : ℤ) (bytes second : List ℕ) where
   pub single-47 : receiverForm r ≡ false → (area : List ℕ) → snapSingleCall r tick distance crc bytes area second ≡ refusing notInForm r area second
   unfolding takeSingle leaves
   single-47 h area = rw h
@@ -111,14 +110,14 @@ module _ (r : Receiver) (tick distance crc : ℤ) (bytes second : List ℕ) wher
 
 -- ---- a whole delta was taken
 
-module _ (w : Warnings) (d : Bool) (tick distance : ℤ) (t b : ℤ) (f : Ticks) (e : counts w ≡ flagged d false) (i : t ≡ tick) (j : b ≡ baseTick tick distance) (v : receiverWith f noParts ≡ finishedAt tick) (area : List ℕ) where
-  pub single-settled : (n : ℕ) (s crc : ℤ) (second second' : List ℕ) → s ≡ crc → second' ≡ second → settled (flagged d false) (whole tick distance (some (record { length = n; crc = crc })) area second) ≡ taken (record { answer = received.Delta t b n s; warnings = w; ticks = f }) noParts area second'
+module _ (w : Warnings) (d : Bool) (tick : Tick) (distance : Distance) (b : Tick) (f : Ticks) (e : counts w ≡ flagged d false) (j : b .0 ≡ baseTick (tick .0) distance) (v : receiverWith f noParts ≡ finishedAt (tick .0)) (area : List ℕ) where
+  pub single-settled : (n : ℕ) (s crc : ℤ) (second second' : List ℕ) → s ≡ crc → second' ≡ second → settled (flagged d false) (whole (tick .0) distance (some (record { length = n; crc = crc })) area second) ≡ taken (record { answer = received.Delta tick b n s; warnings = w; ticks = f }) noParts area second'
   unfolding settled
-  single-settled n s crc second second' k l = rw (e, i, j, k, l, v)
+  single-settled n s crc second second' k l = rw (e, j, k, l, v)
 
-  pub empty-settled : (second : List ℕ) → settled (flagged d false) (whole tick distance none area second) ≡ taken (record { answer = received.Empty t b; warnings = w; ticks = f }) noParts area second
+  pub empty-settled : (second : List ℕ) → settled (flagged d false) (whole (tick .0) distance none area second) ≡ taken (record { answer = received.Empty tick b; warnings = w; ticks = f }) noParts area second
   unfolding settled
-  empty-settled second = rw (e, i, j, v)
+  empty-settled second = rw (e, j, v)
 
 -- ---- an empty message
 
@@ -127,7 +126,7 @@ unfolding leaves settled
 empty-ending r area second t true = refl
 empty-ending r area second t false = refl
 
-module _ (r : Receiver) (tick distance : ℤ) where
+module _ (r : Receiver) (tick : ℤ) (distance : Distance) where
   pub empty-47 : receiverForm r ≡ false → (area second : List ℕ) → snapEmptyCall r tick distance area second ≡ refusing notInForm r area second
   unfolding takeEmpty leaves
   empty-47 h area second = rw h

@@ -7,7 +7,7 @@ use native.Mathlib.Omega.{arith}
 use borrow.Author.Tests.{lt-ltb, le-ltb, le-leb, lt-leb}
 use lib.Dec.{ltb, eqb}
 use Rattle.definitions.specs.Receiver.{abovePrevious, countIn, receiverForm}
-use Rattle.format.specs.Ticks.{tickOf}
+use Rattle.ticks.specs.Ticks.{tickOf}
 use Rattle.receiver.specs.declared.CurrentDelta.{CurrentDelta}
 use Rattle.receiver.specs.declared.Current.the-variants as current
 use Rattle.receiver.specs.declared.checked.Ticks.{Ticks}
@@ -21,11 +21,11 @@ module _ (r : Ticks) (lengths : List ℕ) (n : ℕ) (e : n ≡ countIn lengths 3
 
   module _ (c : CurrentDelta) (p : r .current ≡ current.Some c) where
     -- the unfinished tick is not above the last finished one
-    pub not-above : abovePrevious (tickOf (r .«previous_tick»)) (c .tick) ≡ false → false ≡ receiverForm (receiverWith r lengths)
+    pub not-above : abovePrevious (tickOf (r .«previous_tick»)) (c .tick .0) ≡ false → false ≡ receiverForm (receiverWith r lengths)
     unfolding receiverForm
     not-above h = rw (p, h)
 
-    module _ (h : abovePrevious (tickOf (r .«previous_tick»)) (c .tick) ≡ true) where
+    module _ (h : abovePrevious (tickOf (r .«previous_tick»)) (c .tick .0) ≡ true) where
       -- too many parts
       pub too-many : 32 < c .«num_parts» → false ≡ receiverForm (receiverWith r lengths)
       unfolding receiverForm

@@ -13,9 +13,10 @@ use Rattle.definitions.specs.Receiver as Receiver
 use Rattle.format.specs.Totals.{counts}
 use Rattle.format.specs.declared.Warnings.{Warnings}
 use Rattle.format.specs.declared.Error.the-variants as error
-use Rattle.format.specs.declared.OptionTick.{OptionTick}
-use Rattle.format.specs.Ticks.{tickOf}
 use Rattle.format.specs.Sources.{flagged}
+use Rattle.ticks.specs.Ticks.{distanceOf, tickOf}
+use Rattle.ticks.specs.declared.OptionTick.{OptionTick}
+use Rattle.ticks.specs.declared.Tick.{Tick}
 use Rattle.receiver.specs.declared.CurrentDelta.{CurrentDelta}
 use Rattle.receiver.specs.declared.Current.the-variants as current
 use Rattle.receiver.specs.declared.checked.Ticks.{Ticks}
@@ -26,25 +27,16 @@ use Rattle.receiver.specs.Answers.{taken, settled, taking}
 
 -- ---- whether a part's numbers differ
 
-module _ (c : Receiver.Current) (m : Receiver.Part) where
-  pub other-base : Receiver.same (m .deltaTick) (c .deltaTick) ≡ false → true ≡ Receiver.differs c m
-  unfolding Receiver.differs
-  other-base h = rw h
-
-  module _ (h : Receiver.same (m .deltaTick) (c .deltaTick) ≡ true) where
-    pub other-count : (num (m .numParts) ≡ c .numParts → ⊥) → true ≡ Receiver.differs c m
-    unfolding Receiver.differs
-    other-count z = rw (h, ne-eqb (num (m .numParts)) (c .numParts) z)
-
-    pub by-sum : (b : Bool) → num (m .numParts) ≡ c .numParts → b ≡ Receiver.same (m .crc) (c .crc) → not b ≡ Receiver.differs c m
-    unfolding Receiver.differs
-    by-sum b z e = rw (h, eq-eqb (num (m .numParts)) (c .numParts) z, e)
+-- base and count are the first part's, so the sum decides
+pub by-sum : (c : Receiver.Current) (m : Receiver.Part) (b : Bool) → Receiver.same (baseTick (m .tick) (m .distance)) (c .deltaTick) ≡ true → num (m .numParts) ≡ c .numParts → b ≡ Receiver.same (m .crc) (c .crc) → not b ≡ Receiver.differs c m
+unfolding Receiver.differs
+by-sum c m b h z e = rw (h, eq-eqb (num (m .numParts)) (c .numParts) z, e)
 
 -- ---- the tick of a part
 
 -- what the first part of a tick fixes
-pub first-said : (m : Part) {t b k : ℤ} {n : ℕ} → t ≡ m .tick → b ≡ baseTick (m .tick) (m .«delta_tick») → n ≡ num (m .«num_parts») → k ≡ m .crc → currentIn (record { tick = t; «delta_tick» = b; «num_parts» = n; crc = k }) ≡ Receiver.firstSays (partOf m)
-first-said m t b n k = rw (t, b, n, k)
+pub first-said : (m : Part) {b : Tick} {n : ℕ} {k : ℤ} → b .0 ≡ baseTick (m .tick .0) (distanceOf (m .«delta_tick»)) → n ≡ num (m .«num_parts») → k ≡ m .crc → currentIn (record { tick = m .tick; «delta_tick» = b; «num_parts» = n; crc = k }) ≡ Receiver.firstSays (partOf m)
+first-said m b n k = rw (b, n, k)
 
 module _ (r : Ticks) (m : Part) where
   -- no tick is unfinished
@@ -54,12 +46,12 @@ module _ (r : Ticks) (m : Part) where
 
   module _ (c : CurrentDelta) (e : r .current ≡ current.Some c) where
     -- it is the unfinished one
-    pub still-open : Receiver.same (c .tick) (m .tick) ≡ true → Opens r m c
+    pub still-open : Receiver.same (c .tick .0) (m .tick .0) ≡ true → Opens r m c
     unfolding Receiver.isCurrent Receiver.opened
     still-open h lengths = rw (e, h)
 
     -- it is a new one
-    pub newly-open : (o : CurrentDelta) → Receiver.same (c .tick) (m .tick) ≡ false → currentIn o ≡ Receiver.firstSays (partOf m) → Opens r m o
+    pub newly-open : (o : CurrentDelta) → Receiver.same (c .tick .0) (m .tick .0) ≡ false → currentIn o ≡ Receiver.firstSays (partOf m) → Opens r m o
     unfolding Receiver.isCurrent Receiver.opened
     newly-open o h f lengths = rw (e, h, f)
 
@@ -72,14 +64,14 @@ module _ (previous : OptionTick) (o : CurrentDelta) (w : Warnings) (n : ℕ) (le
   waiting z = rw (ne-eqb (Receiver.countIn lengths 32) (o .«num_parts») (λ q. z (c ∙ q)))
 
   -- it was the last one missing
-  pub all-in : (k : ℕ) (second' : List ℕ) (t b s : ℤ) (f : Ticks) → n ≡ o .«num_parts» → k ≡ length (Receiver.joined lengths area 32) → second' ≡ lay (Receiver.joined lengths area 32) second → t ≡ o .tick → b ≡ o .«delta_tick» → s ≡ o .crc → receiverWith f Receiver.noParts ≡ Receiver.finishedAt (o .tick) → settled (counts w) (Receiver.putPart (tickOf previous) (openedWith o lengths) area second) ≡ taken (record { answer = received.Delta t b k s; warnings = w; ticks = f }) Receiver.noParts area second'
+  pub all-in : (k : ℕ) (second' : List ℕ) (s : ℤ) (f : Ticks) → n ≡ o .«num_parts» → k ≡ length (Receiver.joined lengths area 32) → second' ≡ lay (Receiver.joined lengths area 32) second → s ≡ o .crc → receiverWith f Receiver.noParts ≡ Receiver.finishedAt (o .tick .0) → settled (counts w) (Receiver.putPart (tickOf previous) (openedWith o lengths) area second) ≡ taken (record { answer = received.Delta (o .tick) (o .«delta_tick») k s; warnings = w; ticks = f }) Receiver.noParts area second'
   unfolding settled Receiver.putPart
-  all-in k second' t b s f z e d p q u v =
-      rw (eq-eqb (Receiver.countIn lengths 32) (o .«num_parts») (sym c ∙ z), e, d, p, q, u, v)
+  all-in k second' s f z e d u v =
+      rw (eq-eqb (Receiver.countIn lengths 32) (o .«num_parts») (sym c ∙ z), e, d, u, v)
 
 -- ---- a part whose numbers were judged
 
-module _ (r : Ticks) (m : Part) (p : ℕ) (lengths bytes area second : List ℕ) (b : Bool) (k : b ≡ Receiver.isCurrent (receiverWith r lengths) (m .tick)) (o : CurrentDelta) (w : Warnings) (q : Opens r m o) (e : counts w ≡ flagged false (Receiver.differs (currentIn o) (partOf m))) where
+module _ (r : Ticks) (m : Part) (p : ℕ) (lengths bytes area second : List ℕ) (b : Bool) (k : b ≡ Receiver.isCurrent (receiverWith r lengths) (m .tick .0)) (o : CurrentDelta) (w : Warnings) (q : Opens r m o) (e : counts w ≡ flagged false (Receiver.differs (currentIn o) (partOf m))) where
   opens : openedWith o (partsFor b lengths) ≡ Receiver.opened (receiverWith r lengths) (partOf m)
   opens = rw k (q lengths)
 

@@ -26,8 +26,8 @@ use Rattle.receiver.specs.declared.checked.Judged.the-variants as judged
 abbrev pub receivedWith : Received → Counts → Outcome (Option Receiver.ReceivedDelta)
 receivedWith received.NotYet w = ok none w
 receivedWith (received.Delta tick base n crc) w =
-    ok (some (record { deltaTick = base; tick = tick; dataAndCrc = some (record { length = n; crc = crc }) })) w
-receivedWith (received.Empty tick base) w = ok (some (record { deltaTick = base; tick = tick; dataAndCrc = none })) w
+    ok (some (record { deltaTick = base .0; tick = tick .0; dataAndCrc = some (record { length = n; crc = crc }) })) w
+receivedWith (received.Empty tick base) w = ok (some (record { deltaTick = base .0; tick = tick .0; dataAndCrc = none })) w
 receivedWith (received.Refused e) w = err (number e) w
 
 -- the result of a call, with both areas afterwards

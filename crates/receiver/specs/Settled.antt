@@ -4,7 +4,7 @@ use mathlib.Core.Option.{some, none}
 use Prim.Native.Nat.{ℕ}
 use native.Mathlib.Omega.{arith}
 use Rattle.definitions.specs.Receiver as Receiver
-use Rattle.format.specs.Ticks.{tick-settled}
+use Rattle.ticks.specs.Ticks.{tick-settled}
 use Rattle.receiver.specs.States.{currentIn, currentOf, receiverOf}
 use Rattle.receiver.specs.declared.Current.{Current}
 use Rattle.receiver.specs.declared.Current.the-variants as current
@@ -13,7 +13,7 @@ use Rattle.receiver.specs.declared.DeltaReceiver.{DeltaReceiver}
 
 opened-settled : (a b : CurrentDelta) → currentIn a ≡ currentIn b → a ≡ b
 opened-settled a b e =
-    ap (λ (c : Receiver.Current). record { tick = c .tick; «delta_tick» = c .deltaTick; «num_parts» = c .numParts; crc = c .crc }) e
+    ap (λ (c : Receiver.Current). record { tick = record { 0 = c .tick }; «delta_tick» = record { 0 = c .deltaTick }; «num_parts» = c .numParts; crc = c .crc }) e
 
 current-settled : (a b : Current) → currentOf a ≡ currentOf b → a ≡ b
 current-settled (current.Some c) (current.Some d) e =

@@ -5,7 +5,7 @@ use mathlib.Core.List.{List}
 use mathlib.Core.Option.{Option, some, none}
 use Prim.Native.Nat.{ℕ}
 use Rattle.definitions.specs.Receiver as Receiver
-use Rattle.format.specs.Ticks.{tickOf}
+use Rattle.ticks.specs.Ticks.{distanceOf, tickOf}
 use Rattle.receiver.specs.declared.Current.{Current}
 use Rattle.receiver.specs.declared.Current.the-variants as current
 use Rattle.receiver.specs.declared.CurrentDelta.{CurrentDelta}
@@ -16,7 +16,7 @@ use Rattle.receiver.specs.declared.checked.Part.{Part}
 -- the numbers of an unfinished tick
 abbrev pub currentIn : CurrentDelta → Receiver.Current
 currentIn c =
-    record { tick = c .tick; deltaTick = c .«delta_tick»; numParts = c .«num_parts»; crc = c .crc }
+    record { tick = c .tick .0; deltaTick = c .«delta_tick» .0; numParts = c .«num_parts»; crc = c .crc }
 
 -- the unfinished tick, if any
 abbrev pub currentOf : Current → Option Receiver.Current
@@ -48,8 +48,8 @@ partsFor current lengths = cond current lengths Receiver.noParts
 abbrev pub partOf : Part → Receiver.Part
 partOf m =
     record {
-      tick = m .tick;
-      deltaTick = m .«delta_tick»;
+      tick = m .tick .0;
+      distance = distanceOf (m .«delta_tick»);
       numParts = m .«num_parts»;
       part = m .part;
       crc = m .crc;
@@ -58,4 +58,4 @@ partOf m =
 -- o is the unfinished tick of r if that is the tick of the part m, else what m fixes
 abbrev pub Opens : Ticks → Part → CurrentDelta → Type 0
 Opens r m o =
-    (lengths : List ℕ) → openedWith o (partsFor (Receiver.isCurrent (receiverWith r lengths) (m .tick)) lengths) ≡ Receiver.opened (receiverWith r lengths) (partOf m)
+    (lengths : List ℕ) → openedWith o (partsFor (Receiver.isCurrent (receiverWith r lengths) (m .tick .0)) lengths) ≡ Receiver.opened (receiverWith r lengths) (partOf m)

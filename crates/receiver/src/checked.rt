@@ -9,7 +9,7 @@ ghost use Rattle.definitions.specs.Tables as Tables;
 ghost use Rattle.definitions.specs.Areas.{lay, layAt};
 ghost use Rattle.definitions.specs.Receiver as Receiver;
 ghost use Rattle.format.specs.Numbers.{number};
-ghost use Rattle.format.specs.Ticks.{tickOf};
+ghost use Rattle.ticks.specs.Ticks.{tickOf};
 ghost use Rattle.format.specs.Totals.{counts};
 ghost use Rattle.format.specs.Sources.{flagged};
 ghost use Rattle.receiver.specs.States.{ticksOf, receiverOf, receiverWith, currentIn, openedWith, partsFor, partOf, Opens};
@@ -20,8 +20,10 @@ use super::DeltaReceiver;
 use super::Received;
 use super::Receiving;
 use format::Error;
-use format::OptionTick;
 use format::Warnings;
+use ticks::Distance;
+use ticks::OptionTick;
+use ticks::Tick;
 
 // The ticks of a receiver, without the lengths of its parts.
 pub struct Ticks {
@@ -44,8 +46,8 @@ pub enum Judged {
 
 // The numbers of a part.
 pub struct Part {
-    pub tick: i32,
-    pub delta_tick: i32,
+    pub tick: Tick,
+    pub delta_tick: Distance,
     pub num_parts: i32,
     pub part: i32,
     pub crc: i32,
@@ -129,13 +131,13 @@ pub fn count_in(lengths: &[u16]) -> usize
 }
 
 // Whether a tick is above the last finished one.
-pub fn above_previous(previous: OptionTick, tick: i32) -> bool
-    ensures { λ b. ⌜ b ≡ Receiver.abovePrevious (tickOf previous) tick ⌝ }
+pub fn above_previous(previous: OptionTick, tick: Tick) -> bool
+    ensures { λ b. ⌜ b ≡ Receiver.abovePrevious (tickOf previous) (tick .0) ⌝ }
 {
     let OptionTick::Some(finished) = previous else {
         return true;
     };
-    ints::signed_less(finished, tick)
+    finished.is_before(tick)
 }
 
 // Whether a receiver with n parts in is in form.
@@ -147,7 +149,8 @@ pub fn ticks_form(r: Ticks, n: usize) -> bool
         return n == 0;
     };
     let previous = r.previous_tick;
-    if !above_previous(previous, c.tick) {
+    let tick = c.tick;
+    if !above_previous(previous, tick) {
         return false;
     }
     let k = c.num_parts as usize;
@@ -170,26 +173,28 @@ pub fn in_form(r: DeltaReceiver) -> bool
 }
 
 // Whether a tick is old.
-pub fn is_old(r: Ticks, tick: i32) -> bool
-    ensures { λ b. ⌜ ((lengths : List ℕ) → b ≡ Receiver.isOld (receiverWith r lengths) tick) ⌝ }
+pub fn is_old(r: Ticks, tick: Tick) -> bool
+    ensures { λ b. ⌜ ((lengths : List ℕ) → b ≡ Receiver.isOld (receiverWith r lengths) (tick .0)) ⌝ }
 {
     let current = r.current;
     let Current::Some(c) = current else {
         let previous = r.previous_tick;
         return !above_previous(previous, tick);
     };
-    ints::signed_less(tick, c.tick)
+    let unfinished = c.tick;
+    tick.is_before(unfinished)
 }
 
 // Whether a tick is the unfinished one.
-pub fn is_current(r: Ticks, tick: i32) -> bool
-    ensures { λ b. ⌜ ((lengths : List ℕ) → b ≡ Receiver.isCurrent (receiverWith r lengths) tick) ⌝ }
+pub fn is_current(r: Ticks, tick: Tick) -> bool
+    ensures { λ b. ⌜ ((lengths : List ℕ) → b ≡ Receiver.isCurrent (receiverWith r lengths) (tick .0)) ⌝ }
 {
     let current = r.current;
     let Current::Some(c) = current else {
         return false;
     };
-    ints::same(c.tick, tick)
+    let unfinished = c.tick;
+    unfinished.is_same(tick)
 }
 
 // What a part fixes if it is the first one of its tick.
@@ -197,10 +202,12 @@ pub fn first_says(m: Part) -> CurrentDelta
     requires { ⌜ Tables.num (m .«num_parts») ≤ 32 ⌝ }
     ensures { λ o. ⌜ currentIn o ≡ Receiver.firstSays (partOf m) ⌝ }
 {
-    let delta_tick = ints::wrapping_sub(m.tick, m.delta_tick);
+    let tick = m.tick;
+    let distance = m.delta_tick;
+    let delta_tick = tick.minus(distance);
     let num_parts = ints::num(m.num_parts) as u32;
     CurrentDelta {
-        tick: m.tick,
+        tick,
         delta_tick,
         num_parts,
         crc: m.crc,
@@ -216,17 +223,23 @@ pub fn opened(r: Ticks, m: Part) -> CurrentDelta
     let Current::Some(c) = current else {
         return first_says(m);
     };
-    if ints::same(c.tick, m.tick) {
+    let unfinished = c.tick;
+    let tick = m.tick;
+    if unfinished.is_same(tick) {
         return c;
     }
     first_says(m)
 }
 
-// Whether a part's count or sum differs from the fixed one, or its distance from the fixed base.
+// Whether a part's base, count or sum is not the first part's.
 pub fn differs(o: CurrentDelta, m: Part) -> bool
     ensures { λ b. ⌜ b ≡ Receiver.differs (currentIn o) (partOf m) ⌝ }
 {
-    if !ints::same(m.delta_tick, o.delta_tick) {
+    let tick = m.tick;
+    let distance = m.delta_tick;
+    let base = tick.minus(distance);
+    let first_base = o.delta_tick;
+    if !base.is_same(first_base) {
         return true;
     }
     let k = o.num_parts as usize;
@@ -350,16 +363,18 @@ pub fn put_part(
     }
     let len = join(lengths, parts, joined);
     *lengths = [901u16; 32];
+    let tick = o.tick;
+    let delta_tick = o.delta_tick;
     let answer = Received::Delta {
-        tick: o.tick,
-        delta_tick: o.delta_tick,
+        tick,
+        delta_tick,
         len,
         crc: o.crc,
     };
     Taking {
         answer,
         warnings,
-        ticks: without_current(OptionTick::Some(o.tick)),
+        ticks: without_current(OptionTick::Some(tick)),
     }
 }
 
@@ -378,7 +393,8 @@ pub fn take(
     requires { ⌜ (n ≡ Receiver.countIn (now lengths) 32) × (n ≤ 32) ⌝ }
     ensures { λ a. ⌜ taking (receiverWith r (now (lengths .entry))) (partOf m) p (now («data» .entry)) (now (parts .entry)) (now (joined .entry)) ≡ taken a (now (lengths .exit)) (now (parts .exit)) (now (joined .exit)) ⌝ }
 {
-    let current = is_current(r, m.tick);
+    let tick = m.tick;
+    let current = is_current(r, tick);
     let o = opened(r, m);
     let w = Warnings::received(false, differs(o, m));
     if is_in(current, lengths, p) {
@@ -412,7 +428,8 @@ pub fn judge(r: Ticks, n: usize, m: Part, data: &[u8], parts: &[u8], joined: &[u
     if DeltaReceiver::PART_SIZE < data.len() {
         return Judged::Refused(Error::PartTooLong);
     }
-    if is_old(r, m.tick) {
+    let tick = m.tick;
+    if is_old(r, tick) {
         return Judged::Refused(Error::OldDelta);
     }
     let k = ints::num(m.num_parts);

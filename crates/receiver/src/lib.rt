@@ -4,20 +4,23 @@ ghost use mathlib.Core.List.{List};
 ghost use Prim.Native.Nat.{ℕ};
 ghost use Rattle.definitions.specs.Receiver.{freshReceiver, snapCall, snapSingleCall, snapEmptyCall};
 ghost use Rattle.format.specs.Totals.{counts};
+ghost use Rattle.ticks.specs.Ticks.{distanceOf};
 ghost use Rattle.receiver.specs.States.{receiverOf};
 ghost use Rattle.receiver.specs.Answers.{receivedWith};
 use checked::Part;
 use format::Error;
-use format::OptionTick;
 use format::Warnings;
+use ticks::Distance;
+use ticks::OptionTick;
+use ticks::Tick;
 
 pub mod checked;
 pub mod whole;
 
 // What the first part of an unfinished tick fixed.
 pub struct CurrentDelta {
-    pub tick: i32,
-    pub delta_tick: i32,
+    pub tick: Tick,
+    pub delta_tick: Tick,
     pub num_parts: u32,
     pub crc: i32,
 }
@@ -39,14 +42,14 @@ pub struct DeltaReceiver {
 pub enum Received {
     NotYet,
     Delta {
-        tick: i32,
-        delta_tick: i32,
+        tick: Tick,
+        delta_tick: Tick,
         len: usize,
         crc: i32,
     },
     Empty {
-        tick: i32,
-        delta_tick: i32,
+        tick: Tick,
+        delta_tick: Tick,
     },
     Refused(Error),
 }
@@ -88,8 +91,8 @@ impl DeltaReceiver {
     // Takes a part of a delta; the last one missing joins them all in joined.
     pub fn snap(
         self,
-        tick: i32,
-        delta_tick: i32,
+        tick: Tick,
+        delta_tick: Distance,
         num_parts: i32,
         part: i32,
         crc: i32,
@@ -97,7 +100,7 @@ impl DeltaReceiver {
         parts: &mut [u8],
         joined: &mut [u8],
     ) -> Receiving
-        ensures { λ r. ⌜ snapCall (receiverOf self) (record { tick = tick; deltaTick = «delta_tick»; numParts = «num_parts»; part = part; crc = crc }) (now («data» .entry)) (now (parts .entry)) (now (joined .entry)) ≡ record { answer = receivedWith (r .answer) (counts (r .warnings)); receiver = receiverOf (r .receiver); parts = now (parts .exit); joined = now (joined .exit) } ⌝ }
+        ensures { λ r. ⌜ snapCall (receiverOf self) (record { tick = tick .0; distance = distanceOf «delta_tick»; numParts = «num_parts»; part = part; crc = crc }) (now («data» .entry)) (now (parts .entry)) (now (joined .entry)) ≡ record { answer = receivedWith (r .answer) (counts (r .warnings)); receiver = receiverOf (r .receiver); parts = now (parts .exit); joined = now (joined .exit) } ⌝ }
     {
         let m = Part {
             tick,
@@ -121,13 +124,13 @@ impl DeltaReceiver {
     // Takes a whole delta, copied to joined.
     pub fn snap_single(
         self,
-        tick: i32,
-        delta_tick: i32,
+        tick: Tick,
+        delta_tick: Distance,
         crc: i32,
         data: &[u8],
         joined: &mut [u8],
     ) -> Receiving
-        ensures { λ r. ⌜ ((area : List ℕ) → snapSingleCall (receiverOf self) tick «delta_tick» crc (now («data» .entry)) area (now (joined .entry)) ≡ record { answer = receivedWith (r .answer) (counts (r .warnings)); receiver = receiverOf (r .receiver); parts = area; joined = now (joined .exit) }) ⌝ }
+        ensures { λ r. ⌜ ((area : List ℕ) → snapSingleCall (receiverOf self) (tick .0) (distanceOf «delta_tick») crc (now («data» .entry)) area (now (joined .entry)) ≡ record { answer = receivedWith (r .answer) (counts (r .warnings)); receiver = receiverOf (r .receiver); parts = area; joined = now (joined .exit) }) ⌝ }
     {
         let t = checked::ticks_of(self);
         let mut lengths = self.parts;
@@ -136,8 +139,8 @@ impl DeltaReceiver {
     }
 
     // Takes an empty delta.
-    pub fn snap_empty(self, tick: i32, delta_tick: i32) -> Receiving
-        ensures { λ r. ⌜ ((area second : List ℕ) → snapEmptyCall (receiverOf self) tick «delta_tick» area second ≡ record { answer = receivedWith (r .answer) (counts (r .warnings)); receiver = receiverOf (r .receiver); parts = area; joined = second }) ⌝ }
+    pub fn snap_empty(self, tick: Tick, delta_tick: Distance) -> Receiving
+        ensures { λ r. ⌜ ((area second : List ℕ) → snapEmptyCall (receiverOf self) (tick .0) (distanceOf «delta_tick») area second ≡ record { answer = receivedWith (r .answer) (counts (r .warnings)); receiver = receiverOf (r .receiver); parts = area; joined = second }) ⌝ }
     {
         let t = checked::ticks_of(self);
         let mut lengths = self.parts;

@@ -3,6 +3,7 @@ ghost use mathlib.Core.Path.{_≡_};
 ghost use mathlib.Core.List.{List};
 ghost use Prim.Native.Nat.{ℕ};
 ghost use Rattle.definitions.specs.Receiver.{snapSingleCall, snapEmptyCall};
+ghost use Rattle.ticks.specs.Ticks.{distanceOf};
 ghost use Rattle.receiver.specs.States.{receiverWith};
 ghost use Rattle.receiver.specs.Answers.{taken};
 use super::DeltaReceiver;
@@ -11,20 +12,22 @@ use super::checked;
 use super::checked::Taking;
 use super::checked::Ticks;
 use format::Error;
-use format::OptionTick;
 use format::Warnings;
+use ticks::Distance;
+use ticks::OptionTick;
+use ticks::Tick;
 
 // Takes a single message, its bytes copied to joined; the lengths are changed in place.
 pub fn receive_single(
     r: Ticks,
-    tick: i32,
-    delta_tick: i32,
+    tick: Tick,
+    delta_tick: Distance,
     crc: i32,
     lengths: &mut [u16; 32],
     data: &[u8],
     joined: &mut [u8],
 ) -> Taking
-    ensures { λ a. ⌜ ((area : List ℕ) → snapSingleCall (receiverWith r (now (lengths .entry))) tick «delta_tick» crc (now («data» .entry)) area (now (joined .entry)) ≡ taken a (now (lengths .exit)) area (now (joined .exit))) ⌝ }
+    ensures { λ a. ⌜ ((area : List ℕ) → snapSingleCall (receiverWith r (now (lengths .entry))) (tick .0) (distanceOf «delta_tick») crc (now («data» .entry)) area (now (joined .entry)) ≡ taken a (now (lengths .exit)) area (now (joined .exit))) ⌝ }
 {
     let n = checked::count_in(lengths);
     if !checked::ticks_form(r, n) {
@@ -42,9 +45,10 @@ pub fn receive_single(
     let warnings = Warnings::received(checked::is_current(r, tick), false);
     *lengths = [901u16; 32];
     checked::put_bytes(joined, 0, data);
+    let base = tick.minus(delta_tick);
     let answer = Received::Delta {
         tick,
-        delta_tick: ints::wrapping_sub(tick, delta_tick),
+        delta_tick: base,
         len: data.len(),
         crc,
     };
@@ -56,8 +60,8 @@ pub fn receive_single(
 }
 
 // Takes an empty message; the lengths are changed in place.
-pub fn receive_empty(r: Ticks, tick: i32, delta_tick: i32, lengths: &mut [u16; 32]) -> Taking
-    ensures { λ a. ⌜ ((area second : List ℕ) → snapEmptyCall (receiverWith r (now (lengths .entry))) tick «delta_tick» area second ≡ taken a (now (lengths .exit)) area second) ⌝ }
+pub fn receive_empty(r: Ticks, tick: Tick, delta_tick: Distance, lengths: &mut [u16; 32]) -> Taking
+    ensures { λ a. ⌜ ((area second : List ℕ) → snapEmptyCall (receiverWith r (now (lengths .entry))) (tick .0) (distanceOf «delta_tick») area second ≡ taken a (now (lengths .exit)) area second) ⌝ }
 {
     let n = checked::count_in(lengths);
     if !checked::ticks_form(r, n) {
@@ -68,7 +72,7 @@ pub fn receive_empty(r: Ticks, tick: i32, delta_tick: i32, lengths: &mut [u16; 3
     }
     let duplicate = checked::is_current(r, tick);
     let warnings = Warnings::received(duplicate, false);
-    let base = ints::wrapping_sub(tick, delta_tick);
+    let base = tick.minus(delta_tick);
     *lengths = [901u16; 32];
     let answer = Received::Empty {
         tick,

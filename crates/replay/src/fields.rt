@@ -2,7 +2,6 @@
 ghost use Rattle.io.specs.Counts.{Counts};
 ghost use Rattle.replay_text.specs.Buffer.{CountsInts};
 use format::Error;
-use format::OptionTick;
 use format::Reading;
 use format::Stored;
 use format::WARNING_KINDS;
@@ -10,7 +9,11 @@ use format::Warnings;
 use format::row;
 use packer::IntWrite;
 use replay_text::line::Line;
+use replay_text::words::int;
 use replay_text::words::number;
+use ticks::Distance;
+use ticks::OptionTick;
+use ticks::Tick;
 
 // The letter of a case, or a zero for an empty line.
 pub fn letter(case: &[u8]) -> u8 {
@@ -83,10 +86,25 @@ pub fn differing(line: Line, key: i32) -> Line {
     refusal(line, Error::DeltaDifferingSizes).next_int(key)
 }
 
+// The tick in a word of a case.
+pub fn tick(case: &[u8], i: usize) -> Tick {
+    Tick(int(case, i))
+}
+
+// The distance in a word of a case.
+pub fn distance(case: &[u8], i: usize) -> Distance {
+    Distance(int(case, i))
+}
+
+// Adds a tick.
+pub fn next_tick(line: Line, tick: Tick) -> Line {
+    line.next_int(tick.0)
+}
+
 // Adds a tick, or a minus if there is none.
 pub fn tick_or_none(line: Line, tick: OptionTick) -> Line {
     match tick {
-        OptionTick::Some(n) => line.next_int(n),
+        OptionTick::Some(tick) => next_tick(line, tick),
         OptionTick::None => line.next_text(b"-"),
     }
 }

@@ -7,10 +7,13 @@
 //     l PLACE                                 looks up the table at a place
 // Answer: 13 warning counts, COUNT ACK (tables held, tick acknowledged or -), then more, tick TICK, or refused NUMBER. For l: TICK INT.., or end.
 use crate::fields::at_most;
+use crate::fields::distance;
 use crate::fields::letter;
+use crate::fields::next_tick;
 use crate::fields::part;
 use crate::fields::refusal;
 use crate::fields::room;
+use crate::fields::tick;
 use crate::fields::tick_or_none;
 use crate::fields::warnings;
 use crate::state::Answered;
@@ -37,7 +40,7 @@ fn head(w: Warnings, s: Storage) -> Line {
 // Adds the result of a message.
 fn handled(line: Line, answer: Handled) -> Line {
     match answer {
-        Handled::Tick(tick) => line.next_text(b"tick").next_int(tick),
+        Handled::Tick(tick) => next_tick(line.next_text(b"tick"), tick),
         Handled::NotYet => line.next_text(b"more"),
         Handled::Refused(e) => refusal(line, e),
     }
@@ -71,8 +74,8 @@ fn snap(
     let mut joined = part_area();
     let mut scratch = scratch();
     m.snap(
-        int(case, 1),
-        int(case, 2),
+        tick(case, 1),
+        distance(case, 2),
         int(case, 3),
         int(case, 4),
         int(case, 5),
@@ -99,8 +102,8 @@ fn single(
     let mut joined = part_area();
     let mut scratch = scratch();
     m.snap_single(
-        int(case, 1),
-        int(case, 2),
+        tick(case, 1),
+        distance(case, 2),
         int(case, 3),
         data,
         sizes,
@@ -123,8 +126,8 @@ fn empty(
     let mut joined = part_area();
     let mut scratch = scratch();
     m.snap_empty(
-        int(case, 1),
-        int(case, 2),
+        tick(case, 1),
+        distance(case, 2),
         parts,
         &mut joined,
         delta,

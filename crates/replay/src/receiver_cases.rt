@@ -5,8 +5,11 @@
 //     i TICK DIST CRC HEX            a single message
 //     e TICK DIST                    an empty message
 // An answer is DUPLICATE DIFFERING, the two warning counts, and then more, delta TICK BASE CRC LEN HEX, empty TICK BASE, or refused NUMBER.
+use crate::fields::distance;
 use crate::fields::letter;
+use crate::fields::next_tick;
 use crate::fields::refusal;
+use crate::fields::tick;
 use crate::fields::warnings;
 use crate::state::Answered;
 use crate::state::State;
@@ -30,11 +33,11 @@ fn received(line: Line, a: Received, joined: &[u8]) -> Line {
             len,
             crc,
         } => {
-            let line = line.next_text(b"delta").next_int(tick).next_int(delta_tick);
+            let line = next_tick(next_tick(line.next_text(b"delta"), tick), delta_tick);
             line.next_int(crc).next_number(len).bytes(joined, len)
         }
         Received::Empty { tick, delta_tick } => {
-            line.next_text(b"empty").next_int(tick).next_int(delta_tick)
+            next_tick(next_tick(line.next_text(b"empty"), tick), delta_tick)
         }
         Received::Refused(e) => refusal(line, e),
     }
@@ -54,8 +57,8 @@ fn snap(r: DeltaReceiver, case: &[u8], parts: &mut [u8; 28800], joined: &mut [u8
     let mut data = [0u8; 64];
     let len = replay_text::bytes(word(case, 6), &mut data);
     r.snap(
-        int(case, 1),
-        int(case, 2),
+        tick(case, 1),
+        distance(case, 2),
         int(case, 3),
         int(case, 4),
         int(case, 5),
@@ -69,15 +72,13 @@ fn snap(r: DeltaReceiver, case: &[u8], parts: &mut [u8; 28800], joined: &mut [u8
 fn single(r: DeltaReceiver, case: &[u8], joined: &mut [u8]) -> Receiving {
     let mut data = [0u8; 64];
     let len = replay_text::bytes(word(case, 4), &mut data);
-    let tick = int(case, 1);
-    let delta_tick = int(case, 2);
     let crc = int(case, 3);
-    r.snap_single(tick, delta_tick, crc, &data[..len], joined)
+    r.snap_single(tick(case, 1), distance(case, 2), crc, &data[..len], joined)
 }
 
 // An empty message.
 fn empty(r: DeltaReceiver, case: &[u8]) -> Receiving {
-    r.snap_empty(int(case, 1), int(case, 2))
+    r.snap_empty(tick(case, 1), distance(case, 2))
 }
 
 // Handles the call of a case.

@@ -10,11 +10,13 @@
 use crate::fields::at_most;
 use crate::fields::differing;
 use crate::fields::letter;
+use crate::fields::next_tick;
 use crate::fields::odd;
 use crate::fields::part;
 use crate::fields::refusal;
 use crate::fields::refused;
 use crate::fields::room;
+use crate::fields::tick;
 use crate::fields::tick_or_none;
 use crate::fields::warnings;
 use crate::state::Answered;
@@ -30,6 +32,7 @@ use storage::HeldTick;
 use storage::Set;
 use storage::Storage;
 use storage::Taken;
+use ticks::Tick;
 
 // A store after a call, and the answer.
 struct Called {
@@ -47,7 +50,7 @@ fn head(w: Warnings, s: Storage) -> Line {
 fn added(line: Line, answer: Added, delta: &[i32]) -> Line {
     match answer {
         Added::Delta { base, ints } => {
-            let line = line.next_text(b"delta").next_int(base).next_number(ints);
+            let line = next_tick(line.next_text(b"delta"), base).next_number(ints);
             line.ints(delta, ints)
         }
         Added::DifferingSizes(key) => differing(line, key),
@@ -58,7 +61,7 @@ fn added(line: Line, answer: Added, delta: &[i32]) -> Line {
 // Adds the tick of a table that was taken, or the refusal.
 fn taken(line: Line, answer: Taken) -> Line {
     match answer {
-        Taken::Tick(tick) => line.next_text(b"tick").next_int(tick),
+        Taken::Tick(tick) => next_tick(line.next_text(b"tick"), tick),
         Taken::Refused(e) => refusal(line, e),
     }
 }
@@ -85,7 +88,7 @@ fn fresh(area: &mut [i32]) -> Called {
 
 // Answers b.
 fn set_delta_tick(s: Storage, case: &[u8], area: &mut [i32]) -> Called {
-    let setting = s.set_delta_tick(int(case, 1), area);
+    let setting = s.set_delta_tick(tick(case, 1), area);
     let storage = setting.storage;
     let answer = setting.answer;
     let line = base_set(head(setting.warnings, storage), answer);
@@ -93,7 +96,7 @@ fn set_delta_tick(s: Storage, case: &[u8], area: &mut [i32]) -> Called {
 }
 
 // Answers s, with the table and a delta area of ROOM ints.
-fn add(s: Storage, tick: i32, table: &[i32], delta: &mut [i32], area: &mut [i32]) -> Called {
+fn add(s: Storage, tick: Tick, table: &[i32], delta: &mut [i32], area: &mut [i32]) -> Called {
     let adding = s.add_snap(tick, table, delta, area);
     let storage = adding.storage;
     let answer = adding.answer;
@@ -107,8 +110,13 @@ fn add_snap(s: Storage, case: &[u8], area: &mut [i32]) -> Called {
     let mut delta = [77i32; 128];
     let count = replay_text::ints(case, &mut given);
     let room = room(case, 2, &delta);
-    let tick = int(case, 1);
-    add(s, tick, part(&given, 2, count), &mut delta[..room], area)
+    add(
+        s,
+        tick(case, 1),
+        part(&given, 2, count),
+        &mut delta[..room],
+        area,
+    )
 }
 
 // Answers d, with the delta.
@@ -116,9 +124,8 @@ fn take(s: Storage, case: &[u8], delta: &[i32], area: &mut [i32]) -> Called {
     let mut scratch = scratch();
     let has_crc = number(case, 1) == 1;
     let crc = int(case, 2);
-    let base = int(case, 3);
-    let tick = int(case, 4);
-    let taking = s.add_delta(has_crc, crc, base, tick, delta, area, &mut scratch);
+    let base = tick(case, 3);
+    let taking = s.add_delta(has_crc, crc, base, tick(case, 4), delta, area, &mut scratch);
     let storage = taking.storage;
     let answer = taking.answer;
     let line = taken(head(taking.warnings, storage), answer);
@@ -135,11 +142,11 @@ fn add_delta(s: Storage, case: &[u8], area: &mut [i32]) -> Called {
 // Answers l.
 pub fn look(s: Storage, case: &[u8], area: &[i32]) -> Line {
     let i = number(case, 1);
-    let tick = s.snap_tick(area, i);
-    match tick {
-        HeldTick::At(n) => {
+    let held = s.snap_tick(area, i);
+    match held {
+        HeldTick::At(tick) => {
             let table = s.snap(area, i);
-            Line::new().int(n).ints(table, table.len())
+            Line::new().int(tick.0).ints(table, table.len())
         }
         HeldTick::End => Line::new().text(b"end"),
         HeldTick::Refused(e) => refused(e),

@@ -16,8 +16,9 @@ use Rattle.definitions.specs.Messages.{Message}
 use Rattle.definitions.specs.Receiver.{same}
 use Rattle.definitions.specs.Storage.{StoredSnap}
 use Rattle.definitions.specs.Logbook.{refused, notYet, acknowledges, Logbook, allCame, hasTick, late, cameOf, heldFor, complete, partCame, note, noteMessage}
+use Rattle.laws.specs.ListLaws.{among-nothing}
 use Rattle.session.specs.Statement.{tickOf, baseOf, partOf, countOf, Came, HeldAt, Completes}
-use Rattle.session.specs.Lists.{contra, either, among-nothing}
+use Rattle.session.specs.Lists.{contra, either}
 use Rattle.session.specs.PartsCame.{allCame-at, all-filled}
 use Rattle.session.specs.HeldTicks.{ticks, Falls, same-pos, hasTick-notBelow, hasTick-held, held-hasTick}
 use Rattle.session.specs.History.{note-numbers, UpTo, never-above, History, nothing, since, Knows}

@@ -15,7 +15,7 @@ use Rattle.definitions.specs.Warnings.{Counts, Warning, DuplicateSnap, Differin
 use Rattle.definitions.specs.Outcome.{Outcome, ok, err, require, warnIf, after, _>>_}
 use Rattle.definitions.specs.Tables.{num}
 use Rattle.definitions.specs.Deltas.{Delta, writtenDelta}
-use Rattle.definitions.specs.Messages.{SnapMsg, Snap, SnapEmpty, SnapSingle, Message}
+use Rattle.definitions.specs.Messages.{SnapMsg, Snap, SnapEmpty, SnapSingle, Message, Distance}
 use Rattle.definitions.specs.Receiver.{Receiver, receiverForm, isOld, isCurrent, isIn, Part, Opened, Taken, countIn, joined, opened, differs, withPart, finish, wait, putPart, takeSnap, takeSingle, takeEmpty, Receives, ReceivedDelta, leaves}
 use Rattle.definitions.specs.Storage.{Storage, Store, Keeps, AddedSnap}
 use Rattle.definitions.specs.StorageCalls.{StoreStep, heldStorage, afterJudging, judgeTable, addSnapStep, addStep, setDeltaTickCall}
@@ -84,7 +84,7 @@ module _ (area second : List ℕ) where
       (value (put-long (r .previousTick) (withPart (opened r m) (num (m .part)) (length bytes)) (900 * num (m .part)) bytes)))))))))
 
   -- a single message
-  single-long : (r : Receiver) (tick distance crc : ℤ) (bytes : List ℕ) → Yields TakenLong (takeSingle r tick distance crc bytes area second)
+  single-long : (r : Receiver) (tick : ℤ) (distance : Distance) (crc : ℤ) (bytes : List ℕ) → Yields TakenLong (takeSingle r tick distance crc bytes area second)
   unfolding takeSingle
   single-long r tick distance crc bytes =
       yields-require TakenLong (receiverForm r) notInForm _
@@ -95,7 +95,7 @@ module _ (area second : List ℕ) where
       (value (record { first = refl; other = length-lay bytes second }))))))
 
   -- an empty message
-  empty-long : (r : Receiver) (tick distance : ℤ) → Yields TakenLong (takeEmpty r tick distance area second)
+  empty-long : (r : Receiver) (tick : ℤ) (distance : Distance) → Yields TakenLong (takeEmpty r tick distance area second)
   unfolding takeEmpty
   empty-long r tick distance =
       yields-require TakenLong (receiverForm r) notInForm _

@@ -3,18 +3,18 @@ use mathlib.Core.Path.{_≡_, refl, sym, _∙_, ap, subst}
 use mathlib.Core.Bool.{true}
 use mathlib.Core.List.{List, [], _∷_}
 use mathlib.Core.Logic.{_⊎_, inl, inr}
-use Prim.Native.Nat.{ℕ, _≤_, _<_}
+use Prim.Native.Nat.{ℕ, _<_}
 use native.Mathlib.Omega.{arith}
 use borrow.Author.Tests.{eqb-true}
 use lib.Dec.{eqb}
 use lib.IntN.{ℤ, pos}
-use lib.ListN.{length}
 use Rattle.definitions.specs.Ints.{signedLess}
 use Rattle.definitions.specs.Receiver.{same}
 use Rattle.definitions.specs.Storage.{StoredSnap, dropOlder, oldestOr, oldestAt, isHeld}
 use Rattle.definitions.specs.Logbook.{hasTick}
+use Rattle.laws.specs.ListLaws.{among-first, among-nothing}
 use Rattle.session.specs.Statement.{Among, here, there, HeldAt}
-use Rattle.session.specs.Lists.{contra, either, among-first, among-nothing}
+use Rattle.session.specs.Lists.{contra, either}
 use Rattle.session.specs.HeldTicks.{Falls, next, same-pos, ticks-drop, falls-drop, dropped-atLeast, oldest-among, Found, found, missing, find-base, hasTick-notBelow, held-hasTick}
 
 -- a table of a newer tick before those that fall

@@ -14,8 +14,9 @@ use Rattle.definitions.specs.DeltaReading.{elem}
 use Rattle.definitions.specs.Messages.{SnapMsg, Snap, SnapEmpty, SnapSingle, Message}
 use Rattle.definitions.specs.Receiver.{same}
 use Rattle.definitions.specs.Logbook.{Logbook, allCame, hasTick, late, cameOf, heldFor, complete, partCame, note, noteMessage}
+use Rattle.laws.specs.ListLaws.{among-nothing}
 use Rattle.session.specs.Statement.{Among, here, tickOf, baseOf, partOf, countOf, Came}
-use Rattle.session.specs.Lists.{contra, either, eqb-self, or-true, among-nothing, among-left, among-right, one-more}
+use Rattle.session.specs.Lists.{contra, either, eqb-self, or-true, among-left, among-right, one-more}
 use Rattle.session.specs.PartsCame.{allCame-at}
 use Rattle.session.specs.HeldTicks.{pos-inj, same-pos}
 

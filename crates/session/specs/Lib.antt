@@ -33,6 +33,7 @@ pub mod ControllerRun
 pub mod ControllerClaims
 pub mod Demand
 pub mod Printing
+pub mod Alarms
 pub mod Sufficing
 pub mod Example
 pub mod ExampleKinds

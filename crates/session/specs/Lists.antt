@@ -7,6 +7,7 @@ use Prim.Native.Nat.{ℕ}
 use native.Mathlib.Omega.{arith}
 use borrow.Author.Tests.{eq-eqb}
 use lib.Dec.{eqb}
+use Rattle.laws.specs.ListLaws.{among-append, among-one}
 use Rattle.session.specs.Statement.{Among, here, there, All, none, more}
 
 -- a test that came out both ways
@@ -33,28 +34,6 @@ or-false true = refl
 or-false false = refl
 
 module _ {A : Type 0} where
-  -- one of a list is its first, or among the others
-  pub among-first : {a b : A} {l : List A} → Among a (b ∷ l) → (a ≡ b) ⊎ Among a l
-  among-first here = inl refl
-  among-first (there m) = inr m
-
-  -- nothing is among no entries
-  pub among-nothing : {a : A} → Among a [] → ⊥
-  among-nothing = elim [ ]
-
-  -- one of two lists, one behind the other, is among either
-  pub among-append : {a : A} (s : List A) {t : List A} → Among a (s ++ t) → Among a s ⊎ Among a t
-  among-append [] m = inr m
-  among-append {a} (x ∷ s) {t} m = go (among-first m) (λ k. among-append s k)
-    where
-      further : Among a s ⊎ Among a t → Among a (x ∷ s) ⊎ Among a t
-      further (inl k) = inl (there k)
-      further (inr k) = inr k
-
-      go : (a ≡ x) ⊎ Among a (s ++ t) → (Among a (s ++ t) → Among a s ⊎ Among a t) → Among a (x ∷ s) ⊎ Among a t
-      go (inl e) f = inl (subst (λ (z : A). Among a (z ∷ s)) e here)
-      go (inr k) f = further (f k)
-
   -- one of the first is among both
   pub among-left : {a : A} {s : List A} (t : List A) → Among a s → Among a (s ++ t)
   among-left t here = here
@@ -64,14 +43,6 @@ module _ {A : Type 0} where
   pub among-right : {a : A} (s : List A) {t : List A} → Among a t → Among a (s ++ t)
   among-right [] m = m
   among-right (x ∷ s) m = there (among-right s m)
-
-  -- the one of a list of one
-  pub among-one : {a b : A} → Among a (b ∷ []) → a ≡ b
-  among-one {a} {b} m = go (among-first m)
-    where
-      go : (a ≡ b) ⊎ Among a [] → a ≡ b
-      go (inl e) = e
-      go (inr k) = absurd (among-nothing k)
 
   -- what all entries of a list have, each has
   pub all-among : {P : A → Type 0} {a : A} {l : List A} → All P l → Among a l → P a

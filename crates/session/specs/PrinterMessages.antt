@@ -9,11 +9,10 @@ use Prim.Native.Nat.{ℕ, _≤_, _<_}
 use native.Mathlib.Omega.{arith}
 use lib.IntN.{ℤ, pos}
 use lib.ListN.{length}
-use Rattle.definitions.specs.Ints.{wrappingSub}
 use Rattle.definitions.specs.Areas.{lay}
 use Rattle.definitions.specs.Outcome.{return, _>>=_}
 use Rattle.definitions.specs.Tables.{Table, num, crc}
-use Rattle.definitions.specs.Messages.{Snap, SnapEmpty, SnapSingle, Message, numParts, partBytes}
+use Rattle.definitions.specs.Messages.{Snap, SnapEmpty, SnapSingle, Message, numParts, partBytes, baseTick, distance}
 use Rattle.definitions.specs.Applying.{applyDelta}
 use Rattle.definitions.specs.Types.{typed}
 use Rattle.definitions.specs.Receiver.{Receiver, takeSingle, takeEmpty}
@@ -44,8 +43,8 @@ module _ (sizes : List ℤ) (instead : ℤ → Bool) (es : List Accepted) (At : 
     k = numbered up m
 
     -- its distance leads back to its base
-    back : wrappingSub (pos (k .number)) (wrappingSub (pos (k .number)) (a .base)) ≡ a .base
-    back = base-back (k .number) nm (k .int) (y .named)
+    back : baseTick (pos (k .number)) (distance (pos (k .number)) (a .base)) ≡ a .base
+    back = base-back (k .number) nm (y .named)
 
     -- an empty delta makes the table, where the table is equal to its base or the delta is empty
     empty-made : Base At (a .base) (a .table) ⊎ (a .delta ≡ emptyDelta) → (applyDelta (y .base) emptyDelta >>= typed) ≡ return (a .table)
@@ -56,22 +55,22 @@ module _ (sizes : List ℤ) (instead : ℤ → Bool) (es : List Accepted) (At : 
     part : (p : ℕ) → isLarge sizes instead a ≡ true → p < numParts (packed sizes a) → Carried sizes a → Claim (partOfTable sizes instead a p)
     unfolding handle num
     part p large below carried =
-        subst (λ (t : ℤ). Claim (record { numbers = Snap t (wrappingSub t (a .base)) (pos (numParts (packed sizes a))) (pos p) (crc (a .table)); bytes = partBytes (packed sizes a) p })) (sym (k .tick-is))
+        subst (λ (t : ℤ). Claim (record { numbers = Snap t (distance t (a .base)) (pos (numParts (packed sizes a))) (pos p) (crc (a .table)); bytes = partBytes (packed sizes a) p })) (sym (k .tick-is))
         (λ s. rw back (part-same sizes instead es At n up nm m (k .tick-is) large carried y p below area second delta first other back agree s))
 
     -- the single message
     single : isLarge sizes instead a ≡ false → length (packed sizes a) ≤ 900 → Carried sizes a → Claim (singleOfTable sizes instead a)
     unfolding handle
     single small short carried =
-        subst (λ (t : ℤ). Claim (record { numbers = SnapSingle t (wrappingSub t (a .base)) (crc (a .table)); bytes = packed sizes a })) (sym (k .tick-is))
+        subst (λ (t : ℤ). Claim (record { numbers = SnapSingle t (distance t (a .base)) (crc (a .table)); bytes = packed sizes a })) (sym (k .tick-is))
         (λ s.
         rw back
         (whole-same sizes instead es At n up nm m (k .tick-is) small area second delta
-        (λ r. takeSingle r (pos (k .number)) (wrappingSub (pos (k .number)) (a .base)) (crc (a .table)) (packed sizes a) area second)
+        (λ r. takeSingle r (pos (k .number)) (distance (pos (k .number)) (a .base)) (crc (a .table)) (packed sizes a) area second)
         (some (record { length = length (packed sizes a); crc = crc (a .table) }))
         (lay (packed sizes a) second) (y .read) (y .base) (y .room)
-        (λ r form o. single-old r (pos (k .number)) (wrappingSub (pos (k .number)) (a .base)) (crc (a .table)) (packed sizes a) area second form other short o)
-        (λ r form o. rw back at (single-takes r (pos (k .number)) (wrappingSub (pos (k .number)) (a .base)) (crc (a .table)) (packed sizes a) area second form other short o))
+        (λ r form o. single-old r (pos (k .number)) (distance (pos (k .number)) (a .base)) (crc (a .table)) (packed sizes a) area second form other short o)
+        (λ r form o. rw back at (single-takes r (pos (k .number)) (distance (pos (k .number)) (a .base)) (crc (a .table)) (packed sizes a) area second form other short o))
         (rw (laid-there 0 (packed sizes a) second (omega arith)) (y .reads (carried .matches)))
         (same-self (crc (a .table))) (y .named) (rw (y .delta-is) (y .applies)) agree s))
 
@@ -79,14 +78,14 @@ module _ (sizes : List ℤ) (instead : ℤ → Bool) (es : List Accepted) (At : 
     empty : isLarge sizes instead a ≡ false → Base At (a .base) (a .table) ⊎ (a .delta ≡ emptyDelta) → Claim (emptyMessage a)
     unfolding handle
     empty small e =
-        subst (λ (t : ℤ). Claim (record { numbers = SnapEmpty t (wrappingSub t (a .base)); bytes = [] })) (sym (k .tick-is))
+        subst (λ (t : ℤ). Claim (record { numbers = SnapEmpty t (distance t (a .base)); bytes = [] })) (sym (k .tick-is))
         (λ s.
         rw back
         (whole-same sizes instead es At n up nm m (k .tick-is) small area second delta
-        (λ r. takeEmpty r (pos (k .number)) (wrappingSub (pos (k .number)) (a .base)) area second)
+        (λ r. takeEmpty r (pos (k .number)) (distance (pos (k .number)) (a .base)) area second)
         Option.none second emptyRead (y .base) (omega arith)
-        (λ r form o. empty-old r (pos (k .number)) (wrappingSub (pos (k .number)) (a .base)) area second form o)
-        (λ r form o. rw back at (empty-takes r (pos (k .number)) (wrappingSub (pos (k .number)) (a .base)) area second form o))
+        (λ r form o. empty-old r (pos (k .number)) (distance (pos (k .number)) (a .base)) area second form o)
+        (λ r form o. rw back at (empty-takes r (pos (k .number)) (distance (pos (k .number)) (a .base)) area second form o))
         refl refl (y .named) (empty-made e) agree s))
 
     -- a message of an accepted table

@@ -10,14 +10,13 @@ use borrow.Author.Tests.{ltb-true, ltb-false, eqb-true, eqb-false, lt-ltb, le-lt
 use lib.Dec.{ltb, eqb}
 use lib.IntN.{ℤ, pos, negsuc}
 use lib.ListN.{length, take, set}
-use Rattle.definitions.specs.Ints.{wrappingSub}
 use Rattle.definitions.specs.Areas.{lay, layAt}
 use Rattle.definitions.specs.Refusals.{oldDelta, duplicatePart}
 use Rattle.definitions.specs.Outcome.{Outcome, return}
 use Rattle.definitions.specs.Stream.{stream}
 use Rattle.definitions.specs.Tables.{Table, num, crc}
 use Rattle.definitions.specs.DeltaReading.{elem, readDelta}
-use Rattle.definitions.specs.Messages.{numParts, partBytes}
+use Rattle.definitions.specs.Messages.{numParts, partBytes, baseTick, distance}
 use Rattle.definitions.specs.Receiver.{Current, Receiver, noParts, freshReceiver, finishedAt, isIn, countIn, joined, abovePrevious, receiverForm, isOld, Taken, Part, Opened, opened, withPart, putPart, takeSnap, leaves}
 use Rattle.definitions.specs.Storage.{StoredSnap, Storage}
 use Rattle.definitions.specs.Manager.{afterReceiving}
@@ -107,13 +106,13 @@ module _ (sizes : List ℤ) (instead : ℤ → Bool) (es : List Accepted) (At : 
     put-same r x newest before g s =
         either (allCame count (p ∷ came)) (λ e. last-same r x newest before g e s) (λ e. wait-same r x newest before g e)
 
-  module _ (back : wrappingSub (pos t) (wrappingSub (pos t) (a .base)) ≡ a .base) where
+  module _ (back : baseTick (pos t) (distance (pos t) (a .base)) ≡ a .base) where
     -- the numbers of the part
     abbrev pub partNumbers : Part
     partNumbers =
         record {
           tick = pos t;
-          deltaTick = wrappingSub (pos t) (a .base);
+          distance = distance (pos t) (a .base);
           numParts = pos count;
           part = pos p;
           crc = crc (a .table);

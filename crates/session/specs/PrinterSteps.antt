@@ -10,7 +10,6 @@ use lib.IntN.{ℤ, pos, negsuc}
 use lib.ListN.{length}
 use mir.Syntax.{w32}
 use mir.Val.{SFits}
-use Rattle.definitions.specs.Ints.{wrappingSub}
 use Rattle.definitions.specs.Refusals.{capacityError}
 use Rattle.definitions.specs.Warnings.{Counts, plus}
 use Rattle.definitions.specs.Outcome.{Outcome, ok, return, _>>=_}
@@ -25,7 +24,8 @@ use Rattle.definitions.specs.Receiver.{Receiver, finishedAt, DataAndCrc, Receiv
 use Rattle.definitions.specs.Storage.{StoredSnap, Storage, sumFits, addDelta}
 use Rattle.definitions.specs.Manager.{Handled, emptyDelta, receivedDelta, fittingDelta, sumOf, afterReading, afterReceiving}
 use Rattle.definitions.specs.Logbook.{Logbook, Note, refused, allCame, heldFor, complete}
-use Rattle.laws.specs.IntLaws.{bits-wrappingSub, wrappingSub-fits, same-bits, bits-lt}
+use Rattle.definitions.specs.Messages.{baseTick, distance}
+use Rattle.laws.specs.IntLaws.{wrappingSub-wrappingSub}
 use Rattle.session.specs.Runs.{Accepted, packed, answerOf}
 use Rattle.session.specs.Statement.{Among, Rising, Base, empty, named}
 use Rattle.session.specs.Lists.{either}
@@ -74,17 +74,15 @@ one-base {At = At} nm p q = go _ p _ q
     go v (named at) w q = sym (from w q at refl)
 
 -- a distance leads back to the base
-distance-back : {a b : ℤ} → SFits w32 a → SFits w32 b → wrappingSub a (wrappingSub a b) ≡ b
-distance-back {a} {b} f g =
-    same-bits (wrappingSub-fits a (wrappingSub a b)) g
-    (omega (arith, bits-wrappingSub a (wrappingSub a b), bits-wrappingSub a b, bits-lt f, bits-lt g))
+distance-back : (a : ℤ) {b : ℤ} → SFits w32 b → baseTick a (distance a b) ≡ b
+distance-back a g = wrappingSub-wrappingSub a g
 
 -- a distance from a table's tick leads back to its base
-pub base-back : {es : List Accepted} {At : ℤ → Table → Type 0} {b : ℤ} {t : Table} (n : ℕ) → Naming es At → n ≤ 2147483647 → Base At b t → wrappingSub (pos n) (wrappingSub (pos n) b) ≡ b
-base-back n nm h empty = distance-back {a = pos n} {b = negsuc 0} (record { sfits = omega arith }) (record { sfits = omega arith })
-base-back n nm h (named at) =
+pub base-back : {es : List Accepted} {At : ℤ → Table → Type 0} {b : ℤ} {t : Table} (n : ℕ) → Naming es At → Base At b t → baseTick (pos n) (distance (pos n) b) ≡ b
+base-back n nm empty = distance-back (pos n) {b = negsuc 0} (record { sfits = omega arith })
+base-back n nm (named at) =
     let (k, q, i) = nm .number at in
-    rw q (distance-back {a = pos n} {b = pos k} (record { sfits = omega arith }) (record { sfits = omega arith }))
+    rw q (distance-back (pos n) {b = pos k} (record { sfits = omega arith }))
 
 -- ---- the steps after the receiver
 

@@ -13,6 +13,7 @@ use Rattle.definitions.specs.Tables.{Table, written, items, tableOf}
 use Rattle.definitions.specs.Storage.{StoredSnap, Storage, storageOf, Store}
 use Rattle.definitions.specs.StorageCalls.{Added, heldStorage, nthSnap, tickIn, tickCall, tableCall}
 use Rattle.definitions.specs.Rules.{winnerCall}
+use Rattle.laws.specs.ListLaws.{among-nothing}
 use Rattle.laws.specs.OutcomeLaws.{ok-value, ok-not-err}
 use Rattle.laws.specs.TableRoundTrip.{soundly, back}
 use Rattle.laws.specs.TableReadBack.{holds}
@@ -21,7 +22,6 @@ use Rattle.session.specs.Runs.{ControllerCall, addSnap, setDeltaTick, Co
 use Rattle.session.specs.Runs.{Accepted, acceptedBy, acceptedFrom, PrinterCall}
 use Rattle.session.specs.Statement.{Among, here, there, All, more, Session, acceptedIn, Answered, printerAfter, Demand3}
 use Rattle.session.specs.Statement as Statement
-use Rattle.session.specs.Lists.{among-nothing}
 
 -- a table area that a controller added at a tick, in one of its calls
 pub record AddedAt (c : Controller) (calls : List ControllerCall) (t : ℤ) (table : List ℤ) : Type 0 where

@@ -15,6 +15,7 @@ use Rattle.definitions.specs.Warnings.{Counts, none, DuplicateSnap, DifferingAt
 use Rattle.definitions.specs.Outcome.{Outcome, ok, err, return, require, after, _>>_}
 use Rattle.definitions.specs.Tables.{num}
 use Rattle.definitions.specs.Receiver.{Receiver, countIn, finish, wait, receiverForm, isOld, isCurrent, isIn, Part, Opened, Taken, opened, differs, withPart, putPart, whole, takeSnap, takeSingle, takeEmpty}
+use Rattle.definitions.specs.Messages.{Distance}
 use Rattle.session.specs.StoreSteps.{warned}
 
 -- an outcome is a value, with some warnings
@@ -90,7 +91,7 @@ module _ (r : Receiver) (m : Part) (bytes area second : List ℕ) (form : receiv
 
 -- ---- whole deltas
 
-module _ (r : Receiver) (tick distance crc : ℤ) (bytes area second : List ℕ) (form : receiverForm r ≡ true) (other : 28800 ≤ length second) (short : length bytes ≤ 900) where
+module _ (r : Receiver) (tick : ℤ) (distance : Distance) (crc : ℤ) (bytes area second : List ℕ) (form : receiverForm r ≡ true) (other : 28800 ≤ length second) (short : length bytes ≤ 900) where
   -- a single message of an old tick
   pub single-old : isOld r tick ≡ true → Refuses (takeSingle r tick distance crc bytes area second) oldDelta
   unfolding takeSingle
@@ -104,7 +105,7 @@ module _ (r : Receiver) (tick distance crc : ℤ) (bytes area second : List ℕ)
       let (w, e) = warned (isCurrent r tick) DuplicateSnap in
       rw (form, le-leb 28800 (length second) other, le-leb (length bytes) 900 short, new, e) (given _ _)
 
-module _ (r : Receiver) (tick distance : ℤ) (area second : List ℕ) (form : receiverForm r ≡ true) where
+module _ (r : Receiver) (tick : ℤ) (distance : Distance) (area second : List ℕ) (form : receiverForm r ≡ true) where
   -- an empty message of an old tick
   pub empty-old : isOld r tick ≡ true → Refuses (takeEmpty r tick distance area second) oldDelta
   unfolding takeEmpty

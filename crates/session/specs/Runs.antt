@@ -5,12 +5,11 @@ use mathlib.Core.Option.{Option, some, none}
 use Prim.Native.Nat.{ℕ}
 use lib.IntN.{ℤ, pos}
 use lib.ListN.{replicate}
-use Rattle.definitions.specs.Ints.{wrappingSub}
 use Rattle.definitions.specs.Outcome.{Outcome, ok, err, return, _>>=_}
 use Rattle.definitions.specs.Packed.{packInts}
 use Rattle.definitions.specs.Tables.{Table, items, crc}
 use Rattle.definitions.specs.Deltas.{Delta, isEmptyDelta, deltaInts, deltaIn}
-use Rattle.definitions.specs.Messages.{SnapEmpty, Message, deltaChunks}
+use Rattle.definitions.specs.Messages.{SnapEmpty, Message, deltaChunks, distance}
 use Rattle.definitions.specs.Receiver.{Receiver, freshReceiver}
 use Rattle.definitions.specs.Storage.{freshStorage, Store, beside}
 use Rattle.definitions.specs.StorageCalls.{Added, AddStep, StoreStep, addSnapCall, setDeltaTickCall}
@@ -96,7 +95,7 @@ packed sizes a = packInts (deltaInts sizes (a .delta))
 
 -- the empty message of a table
 abbrev pub emptyMessage : Accepted → Message
-emptyMessage a = record { numbers = SnapEmpty (a .tick) (wrappingSub (a .tick) (a .base)); bytes = [] }
+emptyMessage a = record { numbers = SnapEmpty (a .tick) (distance (a .tick) (a .base)); bytes = [] }
 
 -- the messages of a table's delta
 abbrev pub chunksOf : List ℤ → Accepted → List Message

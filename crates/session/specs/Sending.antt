@@ -3,33 +3,23 @@ use mathlib.Core.Path.{_≡_, refl, sym, _∙_, ap, subst}
 use mathlib.Core.Logic.{_⊎_, inl, inr}
 use mathlib.Core.Bool.{Bool, true, false, cond, not, _&&_}
 use mathlib.Core.List.{List, [], _∷_}
-use Prim.Native.Nat.{ℕ, zero, suc, _≤_, _<_}
+use Prim.Native.Nat.{ℕ, _≤_, _<_}
 use native.Mathlib.Omega.{arith}
 use borrow.Author.Tests.{leb-true, leb-false, eqb-true, lt-ltb, le-ltb}
 use lib.Dec.{ltb, leb, eqb}
 use lib.IntN.{ℤ}
 use lib.ListN.{length}
-use Rattle.definitions.specs.Ints.{wrappingSub}
-use Rattle.definitions.specs.Tables.{Table, list, crc}
+use Rattle.definitions.specs.Tables.{Table, crc}
 use Rattle.definitions.specs.Deltas.{Delta, isEmptyDelta, deltaInts}
 use Rattle.definitions.specs.Packed.{packInts}
-use Rattle.definitions.specs.Messages.{SnapSingle, Message, numParts, partMessage, deltaChunks}
+use Rattle.definitions.specs.Messages.{SnapSingle, Message, numParts, partMessage, deltaChunks, distance}
 use Rattle.definitions.specs.Manager.{emptyDelta}
 use Rattle.laws.specs.DeltaLaws.{delta-packs, empty-packs}
 use Rattle.laws.specs.SessionLaws.{empty-is}
+use Rattle.laws.specs.ListLaws.{among-nothing, among-append, among-one, among-list}
 use Rattle.session.specs.Runs.{Accepted, packed, chunksOf, emptyMessage, messagesOf}
 use Rattle.session.specs.Statement.{Among, Base, carries, Carried}
-use Rattle.session.specs.Lists.{either, among-nothing, among-append, among-one}
-
--- one of what is listed
-among-list : {A : Type 0} (f : ℕ → A) (k : ℕ) (m : A) → Among m (list f k) → (p : ℕ) × (p < k) × (m ≡ f p)
-unfolding list
-among-list f zero m h = absurd (among-nothing h)
-among-list {A} f (suc k) m h = go (among-append (list f k) h) (λ u. among-list f k m u)
-  where
-    go : Among m (list f k) ⊎ Among m (f k ∷ []) → (Among m (list f k) → (p : ℕ) × (p < k) × (m ≡ f p)) → (p : ℕ) × (p < suc k) × (m ≡ f p)
-    go (inl u) g = let (p, l, e) = g u in (p, omega arith, e)
-    go (inr u) g = (k, omega arith, among-one u)
+use Rattle.session.specs.Lists.{either}
 
 module _ (sizes : List ℤ) (instead : ℤ → Bool) where
   -- whether a table's tick takes several messages
@@ -42,13 +32,13 @@ module _ (sizes : List ℤ) (instead : ℤ → Bool) where
 
   -- part p of a table
   abbrev pub partOfTable : Accepted → ℕ → Message
-  partOfTable a p = partMessage (a .tick) (wrappingSub (a .tick) (a .base)) (packed sizes a) (crc (a .table)) p
+  partOfTable a p = partMessage (a .tick) (distance (a .tick) (a .base)) (packed sizes a) (crc (a .table)) p
 
   -- the single message of a table
   abbrev pub singleOfTable : Accepted → Message
   singleOfTable a =
       record {
-        numbers = SnapSingle (a .tick) (wrappingSub (a .tick) (a .base)) (crc (a .table));
+        numbers = SnapSingle (a .tick) (distance (a .tick) (a .base)) (crc (a .table));
         bytes = packed sizes a;
       }
 

@@ -9,7 +9,6 @@ use borrow.Author.Tests.{le-leb}
 use lib.IntN.{ℤ}
 use lib.ListN.{length, take}
 use lib.Seq.{take-all}
-use Rattle.definitions.specs.Ints.{wrappingSub}
 use Rattle.definitions.specs.Areas.{lay}
 use Rattle.definitions.specs.Outcome.{Outcome, return}
 use Rattle.definitions.specs.Packed.{packInts}
@@ -18,7 +17,7 @@ use Rattle.definitions.specs.Tables.{Table, tableOf, crc}
 use Rattle.definitions.specs.TableCalls.{held}
 use Rattle.definitions.specs.Deltas.{Delta, deltaInts, deltaOf}
 use Rattle.definitions.specs.DeltaCalls.{heldDelta, sizesMatch, writing, writeCall}
-use Rattle.definitions.specs.Messages.{SnapEmpty, Message, nthMessage, deltaChunks, chunkCall}
+use Rattle.definitions.specs.Messages.{SnapEmpty, Message, nthMessage, deltaChunks, chunkCall, distance}
 use Rattle.laws.specs.AreaLaws.{laid-there}
 use Rattle.session.specs.SendingCalls.{andThen, askedFor, cutCalls, sendCalls}
 
@@ -52,7 +51,7 @@ cut-gives tick base x sum h =
     rw (q, asked-are (chunkCall tick base x sum) l (length l) f (omega arith)) (ap (λ (z : List Message). return z) (take-all (length l) l (omega arith)))
 
 -- no bytes are cut into the empty message
-pub empty-cut : (tick base sum : ℤ) → cutCalls tick base [] sum ≡ return (record { numbers = SnapEmpty tick (wrappingSub tick base); bytes = [] } ∷ [])
+pub empty-cut : (tick base sum : ℤ) → cutCalls tick base [] sum ≡ return (record { numbers = SnapEmpty tick (distance tick base); bytes = [] } ∷ [])
 empty-cut tick base sum = cut-gives tick base [] sum (omega arith) ∙ unfold deltaChunks in refl
 
 -- ---- a table that was added

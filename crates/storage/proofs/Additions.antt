@@ -37,10 +37,11 @@ use Rattle.laws.specs.AddingLaws.{addingTo}
 use Rattle.delta_making.specs.Answers.{madeInts, madeClash}
 use Rattle.delta_making.specs.declared.Made.{Made}
 use Rattle.delta_making.specs.declared.Made.the-variants as made
+use Rattle.ticks.specs.declared.Tick.{Tick}
 use Rattle.storage.specs.Answers.{addedIn}
 use Rattle.storage.specs.Steps.{making, addedOf, storeAfter, tablesAfter}
 
-module _ (s : Store.Store) (l : List Store.StoredSnap) (x : Store.StoredSnap) (base : ℤ) (n : ℕ) where
+module _ (s : Store.Store) (l : List Store.StoredSnap) (x : Store.StoredSnap) (base : Tick) (n : ℕ) where
   -- what a delta that was not made leaves
   refused-by : (m : Made) → err n Warnings.none ≡ madeInts m → (err n Warnings.none ≡ addedIn (addedOf base m)) × (s ≡ storeAfter s m) × (tablesAfter l x m ≡ l)
   refused-by (made.Ints k) e = let z : _≡_ {A = ℕ} 0 1 = cc in absurd (omega arith)
@@ -49,8 +50,8 @@ module _ (s : Store.Store) (l : List Store.StoredSnap) (x : Store.StoredSnap) (b
 
   -- what one that was made does
   made-by : (m : Made) → ok n Warnings.none ≡ madeInts m
-      → (return (record { base = base; ints = n }) ≡ addedIn (addedOf base m)) × (record { count = s .count + 1; ackTick = s .ackTick; deltaTick = s .deltaTick } ≡ storeAfter s m) × (tablesAfter l x m ≡ x ∷ l)
-  made-by (made.Ints k) e = let d : n ≡ k = cc in (ap (λ (i : ℕ). return (record { base = base; ints = i })) d, refl, refl)
+      → (return (record { base = base .0; ints = n }) ≡ addedIn (addedOf base m)) × (record { count = s .count + 1; ackTick = s .ackTick; deltaTick = s .deltaTick } ≡ storeAfter s m) × (tablesAfter l x m ≡ x ∷ l)
+  made-by (made.Ints k) e = let d : n ≡ k = cc in (ap (λ (i : ℕ). return (record { base = base .0; ints = i })) d, refl, refl)
   made-by (made.DifferingSizes k) e = let z : _≡_ {A = ℕ} 0 1 = cc in absurd (omega arith)
   made-by (made.Refused k) e = let z : _≡_ {A = ℕ} 0 1 = cc in absurd (omega arith)
 
@@ -91,13 +92,13 @@ module _ (h : Store.Storage) (x : Store.StoredSnap) (a delta : List ℤ) (few : 
 
   module _ (room : Bool) (rm : room ≡ Room) (m : Made) (out : List ℤ)
       (e : making room delta (createdInts (B .snap) (x .snap)) ≡ record { answer = madeInts m; out = out }) (area : List ℤ)
-      (laid : LaidIn (length a) (tablesAfter (h .snaps) x m) area) where
+      (laid : LaidIn (length a) (tablesAfter (h .snaps) x m) area) (base : Tick) (at : base .0 ≡ B .tick) where
     -- the result of the call, by what was made
     abbrev Result : Type 0
-    Result = Comes area (addedIn (addedOf (B .tick) m)) (storeAfter (Store.beside h) m) out
+    Result = Comes area (addedIn (addedOf base m)) (storeAfter (Store.beside h) m) out
 
     -- with equal parts
-    same-result : (o : Outcome Calls.Added) (s : Store.Store) (d : List ℤ) → o ≡ addedIn (addedOf (B .tick) m) → s ≡ storeAfter (Store.beside h) m
+    same-result : (o : Outcome Calls.Added) (s : Store.Store) (d : List ℤ) → o ≡ addedIn (addedOf base m) → s ≡ storeAfter (Store.beside h) m
         → d ≡ out → Comes area o s d → Result
     same-result o s d p q r c = c ∙ rw (p, q, r)
 
@@ -105,7 +106,7 @@ module _ (h : Store.Storage) (x : Store.StoredSnap) (a delta : List ℤ) (few : 
     refused : (n : ℕ) → (LaidIn (length a) (h .snaps) area → Comes area (refuse n) (Store.beside h) delta)
         → _≡_ {A = Wrote ℕ ℤ} (record { answer = refuse n; out = delta }) (record { answer = madeInts m; out = out }) → Result
     refused n c f =
-        let r = refused-by (Store.beside h) (h .snaps) x (B .tick) n m (ap (λ (w : Wrote ℕ ℤ). w .answer) f) in
+        let r = refused-by (Store.beside h) (h .snaps) x base n m (ap (λ (w : Wrote ℕ ℤ). w .answer) f) in
         same-result _ _ _ (r .0) (r .1) (ap (λ (w : Wrote ℕ ℤ). w .out) f) (c (rw (r .2) at laid))
 
     -- by whether the tables agree, and by the room
@@ -115,8 +116,9 @@ module _ (h : Store.Storage) (x : Store.StoredSnap) (a delta : List ℤ) (few : 
     by-alike true false p q = refused capacityError (adding-40 area p q) (rw (p, rm, q) at e)
     by-alike true true p q =
         let f : _≡_ {A = Wrote ℕ ℤ} (record { answer = ok (length D) Warnings.none; out = lay D delta }) (record { answer = madeInts m; out = out }) = rw (p, rm, q) at e in
-        let r = made-by (Store.beside h) (h .snaps) x (B .tick) (length D) m (ap (λ (w : Wrote ℕ ℤ). w .answer) f) in
-        same-result _ _ _ (r .0) (r .1) (ap (λ (w : Wrote ℕ ℤ). w .out) f) (adding-done area p q (rw (r .2) at laid))
+        let r = made-by (Store.beside h) (h .snaps) x base (length D) m (ap (λ (w : Wrote ℕ ℤ). w .answer) f) in
+        let o = ap (λ (t : ℤ). return (record { base = t; ints = length D })) (sym at) ∙ r .0 in
+        same-result _ _ _ o (r .1) (ap (λ (w : Wrote ℕ ℤ). w .out) f) (adding-done area p q (rw (r .2) at laid))
 
     -- the result of the call, by the delta that was to be made
     pub added-by : Result

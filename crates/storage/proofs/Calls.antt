@@ -23,6 +23,7 @@ use Rattle.laws.specs.AddingLaws.{addingTo}
 use Rattle.delta_making.specs.Answers.{madeInts, madeClash}
 use Rattle.delta_making.specs.declared.Made.{Made}
 use Rattle.delta_making.specs.declared.Made.the-variants as made
+use Rattle.ticks.specs.declared.Tick.{Tick}
 use Rattle.storage.specs.States.{storeOf}
 use Rattle.storage.specs.Answers.{addings, addedIn, addedClash}
 use Rattle.format.specs.Numbers.{number}
@@ -59,7 +60,7 @@ room-is x l n k m e f =
 -- ---- the key beside the answer
 
 -- it is that of the delta
-pub made-key : (base : ℤ) (m : Made) (b t : Table) → madeClash m ≡ clashOf (madeInts m) b t
+pub made-key : (base : Tick) (m : Made) (b t : Table) → madeClash m ≡ clashOf (madeInts m) b t
     → addedClash (addedOf base m) ≡ clashOf (addedIn (addedOf base m)) b t
 made-key base (made.Ints n) b t c = refl
 made-key base (made.DifferingSizes k) b t c = c
@@ -80,7 +81,7 @@ with-key s a tick table delta r e c =
 
 -- ---- the steps of adding
 
-module _ (s : Store.Store) (a : List ℤ) (l : List Store.StoredSnap) (tick base : ℤ) where
+module _ (s : Store.Store) (a : List ℤ) (l : List Store.StoredSnap) (tick : ℤ) (base : Tick) where
   -- what is promised of a call that ends
   abbrev pub Ends : List ℤ → List ℤ → Added → Store.Store → Made → Type 0
   Ends table out r t m = (r ≡ addedOf base m) × (t ≡ storeAfter s m) × ((u : Table) → table ≡ written u → LaidIn (length a) (tablesAfter l (record { tick = tick; snap = u }) m) out)
@@ -113,10 +114,10 @@ module _ (s : Store.Store) (a delta : List ℤ) (k : ℕ) (h : Holds s a k) (x :
   -- a table that is added, in all its steps
   pub adding-ends : s .count < 100 → room ≡ leb (storeRoom (x ∷ L)) (length a)
       → making room delta (createdInts (B .snap) (x .snap)) ≡ record { answer = madeInts m; out = out } → (r : Adding) (area : List ℤ)
-      → r .answer ≡ addedOf (B .tick) m → storeOf (r .storage) ≡ storeAfter s m → LaidIn (length a) (tablesAfter L x m) area
+      (base : Tick) → base .0 ≡ B .tick → r .answer ≡ addedOf base m → storeOf (r .storage) ≡ storeAfter s m → LaidIn (length a) (tablesAfter L x m) area
       → addingTo (holdsIn s a) x a delta ≡ addings r area out
-  adding-ends c i e r area f g laid =
-      added-by (holdsIn s a) x a delta (omega (arith, h .held .many)) room i m out e area laid
+  adding-ends c i e r area base at f g laid =
+      added-by (holdsIn s a) x a delta (omega (arith, h .held .many)) room i m out e area laid base at
       ∙ rw (beside-is s a k h, f, g)
 
 -- a call that adds nothing

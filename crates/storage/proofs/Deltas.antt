@@ -36,6 +36,7 @@ use Rattle.typed_applying.specs.Answers as Applied
 use Rattle.typed_applying.specs.declared.checked.Table.{Table}
 use Rattle.typed_applying.specs.declared.checked.Table.the-variants as table
 use Rattle.typed_applying.specs.declared.checked.Typed.{Typed}
+use Rattle.ticks.specs.declared.Tick.{Tick}
 use Rattle.storage.specs.States.{storeOf, deltaOf}
 use Rattle.storage.specs.Taking.{sumOf, takings, baseIn, warned, Applies}
 use Rattle.storage.specs.declared.Storage.{Storage}
@@ -149,30 +150,30 @@ unfolding Store.addTable
 wrong-sum s t a k h n sum tick w x o q f g = rw (q, f, g, ← h .held .stands .area-is, h .held .many)
 
 module _ (s : Storage) (a : List ℤ) (k : ℕ) (h : Holds (storeOf s) a k) (n used : ℕ) (i : n ≤ s .count)
-    (u : used ≡ storeRoom (take n (snapsIn (s .count) a))) (z : take n (snapsIn (s .count) a) ≡ take 99 (snapsIn (s .count) a)) (tick : ℤ)
+    (u : used ≡ storeRoom (take n (snapsIn (s .count) a))) (z : take n (snapsIn (s .count) a) ≡ take 99 (snapsIn (s .count) a)) (tick : Tick)
     (x : Tables.Table) (long : ℕ) (y : long ≡ length (Tables.written x)) (w : Warnings) (sum : Option ℤ) (f : Store.sumFits sum x ≡ true) where
   -- the table that comes
   abbrev new : Store.StoredSnap
-  new = record { tick = tick; snap = x }
+  new = record { tick = tick .0; snap = x }
 
   -- how many ints the tables take then
-  then-long : storeRoom (Store.pushSnap tick x (snapsIn (s .count) a)) ≡ used + (long + 2)
+  then-long : storeRoom (Store.pushSnap (tick .0) x (snapsIn (s .count) a)) ≡ used + (long + 2)
   then-long = rw (← z) (omega (arith, room-cons new (take n (snapsIn (s .count) a))))
 
   -- there is no room
   pub hold-40 : length a < used + (long + 2)
-      → Calls.laidOut a (Store.addTable (length a) sum tick (holdsIn (storeOf s) a) (ok x (counts w))) ≡ takings (record { answer = taken.Refused error.CapacityError; warnings = w; storage = s }) a
+      → Calls.laidOut a (Store.addTable (length a) sum (tick .0) (holdsIn (storeOf s) a) (ok x (counts w))) ≡ takings (record { answer = taken.Refused error.CapacityError; warnings = w; storage = s }) a
   unfolding Store.addTable
-  hold-40 r = rw (f, lt-leb (storeRoom (Store.pushSnap tick x (snapsIn (s .count) a))) (length a) (omega (arith, then-long)), ← h .held .stands .area-is, h .held .many)
+  hold-40 r = rw (f, lt-leb (storeRoom (Store.pushSnap (tick .0) x (snapsIn (s .count) a))) (length a) (omega (arith, then-long)), ← h .held .stands .area-is, h .held .many)
 
   -- there is
-  pub hold-done : (t : Storage) (out : List ℤ) (at : ℤ) → used + (long + 2) ≤ length a → LaidIn (length a) (new ∷ take n (snapsIn (s .count) a)) out
-      → at ≡ tick → storeOf t ≡ record { count = n + 1; ackTick = some tick; deltaTick = deltaOf s }
-      → Calls.laidOut a (Store.addTable (length a) sum tick (holdsIn (storeOf s) a) (ok x (counts w))) ≡ takings (record { answer = taken.Tick at; warnings = w; storage = t }) out
+  pub hold-done : (t : Storage) (out : List ℤ) → used + (long + 2) ≤ length a → LaidIn (length a) (new ∷ take n (snapsIn (s .count) a)) out
+      → storeOf t ≡ record { count = n + 1; ackTick = some (tick .0); deltaTick = deltaOf s }
+      → Calls.laidOut a (Store.addTable (length a) sum (tick .0) (holdsIn (storeOf s) a) (ok x (counts w))) ≡ takings (record { answer = taken.Tick tick; warnings = w; storage = t }) out
   unfolding Store.addTable
-  hold-done t out at r o v g =
+  hold-done t out r o g =
       let c : length (take 99 (snapsIn (s .count) a)) ≡ n = ap length (sym z) ∙ length-take-le n (snapsIn (s .count) a) (omega (arith, h .held .many)) in
-      rw (f, le-leb (storeRoom (Store.pushSnap tick x (snapsIn (s .count) a))) (length a) (omega (arith, then-long)), g, o, z, v, c, add-one n)
+      rw (f, le-leb (storeRoom (Store.pushSnap (tick .0) x (snapsIn (s .count) a))) (length a) (omega (arith, then-long)), g, o, z, c, add-one n)
 
 -- ---- what a delta made
 

@@ -14,8 +14,9 @@ use Rattle.definitions.specs.Receiver.{same}
 use Rattle.definitions.specs.Storage as Store
 use Rattle.definitions.specs.StorageCalls as Calls
 use Rattle.store_area.specs.Held.{snapsIn, snapAt, noSnap, HeldStore}
-use Rattle.format.specs.declared.OptionTick.the-variants as tick
 use Rattle.store_area.specs.Stores.{holdsIn}
+use Rattle.ticks.specs.declared.OptionTick.the-variants as tick
+use Rattle.ticks.specs.declared.Tick.{Tick}
 use Rattle.storage.specs.States.{deltaOf}
 use Rattle.storage.specs.declared.Storage.{Storage}
 
@@ -125,7 +126,7 @@ module _ (s : Storage) (x : Store.StoredSnap) (l : List Store.StoredSnap) where
   pub chosen-empty : s .«delta_tick» ≡ tick.None → Store.chosenBase (deltaOf s) x l ≡ noSnap
   chosen-empty e = rw e
 
-  module _ (n : ℕ) {t : ℤ} (e : s .«delta_tick» ≡ tick.Some t) (m : length l ≡ n) where
+  module _ (n : ℕ) {t : Tick} (e : s .«delta_tick» ≡ tick.Some t) (m : length l ≡ n) where
     -- nothing is held: the table itself
     pub chosen-itself : n ≡ 0 → Store.chosenBase (deltaOf s) x l ≡ x
     chosen-itself z = rw e (none-held x l (m ∙ z))

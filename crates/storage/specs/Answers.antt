@@ -20,7 +20,7 @@ use Rattle.storage.specs.declared.Adding.{Adding}
 
 -- the tick of a held table
 abbrev pub heldTick : HeldTick → Outcome (Option ℤ)
-heldTick (heldAt.At t) = return (some t)
+heldTick (heldAt.At t) = return (some (t .0))
 heldTick heldAt.End = return none
 heldTick (heldAt.Refused e) = refuse (number e)
 
@@ -40,7 +40,7 @@ settings r area =
 
 -- the answer
 abbrev pub addedIn : Added → Outcome Calls.Added
-addedIn (added.Delta base ints) = return (record { base = base; ints = ints })
+addedIn (added.Delta base ints) = return (record { base = base .0; ints = ints })
 addedIn (added.DifferingSizes k) = refuse deltaDifferingSizes
 addedIn (added.Refused e) = refuse (number e)
 

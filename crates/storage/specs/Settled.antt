@@ -1,7 +1,7 @@
 -- What a store holds determines every field of it. Assumes nothing.
 use mathlib.Core.Path.{_≡_, ap}
 use Rattle.definitions.specs.Storage as Store
-use Rattle.format.specs.Ticks.{tick-settled}
+use Rattle.ticks.specs.Ticks.{tick-settled}
 use Rattle.storage.specs.States.{storeOf}
 use Rattle.storage.specs.declared.Storage.{Storage}
 

@@ -2,7 +2,7 @@
 use mathlib.Core.Option.{Option}
 use lib.IntN.{ℤ}
 use Rattle.definitions.specs.Storage as Store
-use Rattle.format.specs.Ticks.{tickOf}
+use Rattle.ticks.specs.Ticks.{tickOf}
 use Rattle.storage.specs.declared.Storage.{Storage}
 
 -- the tick acknowledged last, if any

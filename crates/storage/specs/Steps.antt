@@ -11,6 +11,7 @@ use Rattle.definitions.specs.Outcome.{Outcome, ok, err, Wrote}
 use Rattle.definitions.specs.Storage as Store
 use Rattle.delta_making.specs.declared.Made.{Made}
 use Rattle.delta_making.specs.declared.Made.the-variants as made
+use Rattle.ticks.specs.declared.Tick.{Tick}
 use Rattle.storage.specs.declared.Added.{Added}
 use Rattle.storage.specs.declared.Added.the-variants as added
 
@@ -23,7 +24,7 @@ making room out (ok xs w) =
 making room out (err n w) = record { answer = err n w; out = out }
 
 -- the answer to a table whose delta was to be made
-abbrev pub addedOf : ℤ → Made → Added
+abbrev pub addedOf : Tick → Made → Added
 addedOf base (made.Ints n) = added.Delta base n
 addedOf base (made.DifferingSizes k) = added.DifferingSizes k
 addedOf base (made.Refused e) = added.Refused e

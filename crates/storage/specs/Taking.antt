@@ -27,7 +27,7 @@ sumOf m = cond (m .«has_crc») (some (m .crc)) none
 
 -- an answer together with its warning counts
 abbrev pub takenWith : Taken → Counts → Outcome ℤ
-takenWith (taken.Tick t) w = ok t w
+takenWith (taken.Tick t) w = ok (t .0) w
 takenWith (taken.Refused e) w = err (number e) w
 
 -- the result of the call, with the area afterwards

@@ -44,7 +44,6 @@ use delta_form::checked::DeltaForm;
 use delta_making::Made;
 use delta_making::checked::create;
 use format::Error;
-use format::OptionTick;
 use format::Warnings;
 use store_area::checked::Left;
 use store_area::checked::StoreForm;
@@ -55,6 +54,8 @@ use store_area::checked::push;
 use store_area::checked::table_at;
 use store_area::checked::tick_at;
 use store_area::checked::used;
+use ticks::OptionTick;
+use ticks::Tick;
 use typed_applying::checked::Table;
 use typed_applying::checked::Typed;
 use typed_applying::checked::apply_typed;
@@ -63,23 +64,23 @@ use typed_applying::checked::apply_typed;
 pub struct Sent {
     pub has_crc: bool,
     pub crc: i32,
-    pub delta_tick: i32,
-    pub tick: i32,
+    pub delta_tick: Tick,
+    pub tick: Tick,
 }
 
 // Whether a base tick is negative and not -1.
-pub fn is_weird(tick: i32) -> bool
-    ensures { λ r. ⌜ r ≡ Store.isNegative tick && not (Receiver.same tick (negsuc 0)) ⌝ }
+pub fn is_weird(tick: Tick) -> bool
+    ensures { λ r. ⌜ r ≡ Store.isNegative (tick .0) && not (Receiver.same (tick .0) (negsuc 0)) ⌝ }
 {
-    if ints::signed_less(tick, 0) {
-        return !ints::same(tick, -1);
+    if tick.is_negative() {
+        return !tick.is_same(Tick(-1));
     }
     false
 }
 
 // The warnings for a base tick.
-pub fn weird(tick: i32) -> Warnings
-    ensures { λ r. ⌜ Store.warnWeird tick ≡ ok tt (counts r) ⌝ }
+pub fn weird(tick: Tick) -> Warnings
+    ensures { λ r. ⌜ Store.warnWeird (tick .0) ≡ ok tt (counts r) ⌝ }
 {
     Warnings::taken(is_weird(tick), false, 0)
 }
@@ -95,8 +96,8 @@ pub fn form(s: Storage, area: &[i32]) -> StoreForm
 }
 
 // The store with so many tables and a base tick.
-pub fn with_delta(s: Storage, count: usize, tick: i32) -> Storage
-    ensures { λ r. ⌜ storeOf r ≡ record { count = count; ackTick = ackOf s; deltaTick = some tick } ⌝ }
+pub fn with_delta(s: Storage, count: usize, tick: Tick) -> Storage
+    ensures { λ r. ⌜ storeOf r ≡ record { count = count; ackTick = ackOf s; deltaTick = some (tick .0) } ⌝ }
 {
     let ack_tick = s.ack_tick;
     Storage {
@@ -132,20 +133,21 @@ pub fn with_count(s: Storage, count: usize) -> Storage
 }
 
 // Whether the oldest of so many tables has this tick.
-pub fn is_oldest(area: &[i32], count: usize, tick: i32) -> bool
+pub fn is_oldest(area: &[i32], count: usize, tick: Tick) -> bool
     requires { ⌜ HeldStore (now area) count ⌝ }
-    ensures { λ r. ⌜ r ≡ Store.isHeld (Store.oldestAt tick (snapsIn count (now (area .entry)))) ⌝ }
+    ensures { λ r. ⌜ r ≡ Store.isHeld (Store.oldestAt (tick .0) (snapsIn count (now (area .entry)))) ⌝ }
 {
     if count == 0 {
         return false;
     }
-    ints::same(tick_at(area, count, count - 1), tick)
+    let oldest = tick_at(area, count, count - 1);
+    oldest.is_same(tick)
 }
 
 // Drops the tables older than a tick that is not negative, and sets it as the base tick if its table is then the oldest.
-pub fn set_base(s: Storage, tick: i32, area: &mut [i32], ints: usize) -> Setting
-    requires { ⌜ Holds (storeOf s) (now area) ints × (Store.isNegative tick ≡ false) ⌝ }
-    ensures { λ r. ⌜ laidOut (now (area .entry)) (Store.setDeltaTick tick (holdsIn (storeOf s) (now (area .entry)))) ≡ settings r (now (area .exit)) ⌝ }
+pub fn set_base(s: Storage, tick: Tick, area: &mut [i32], ints: usize) -> Setting
+    requires { ⌜ Holds (storeOf s) (now area) ints × (Store.isNegative (tick .0) ≡ false) ⌝ }
+    ensures { λ r. ⌜ laidOut (now (area .entry)) (Store.setDeltaTick (tick .0) (holdsIn (storeOf s) (now (area .entry)))) ≡ settings r (now (area .exit)) ⌝ }
 {
     let left = drop_older(area, s.count, ints, tick);
     if is_oldest(area, left.count, tick) {
@@ -217,13 +219,13 @@ pub fn make_delta(
 }
 
 // The tick of that base for a table with this tick; -1 for the empty table.
-pub fn base_tick(s: Storage, area: &[i32], tick: i32) -> i32
+pub fn base_tick(s: Storage, area: &[i32], tick: Tick) -> Tick
     requires { ⌜ HeldStore (now area) (s .count) ⌝ }
-    ensures { λ r. ⌜ ((t : Tables.Table) → r ≡ Store.chosenBase (deltaOf s) (record { tick = tick; snap = t }) (snapsIn (s .count) (now (area .entry))) .tick) ⌝ }
+    ensures { λ r. ⌜ ((t : Tables.Table) → r .0 ≡ Store.chosenBase (deltaOf s) (record { tick = tick .0; snap = t }) (snapsIn (s .count) (now (area .entry))) .tick) ⌝ }
 {
     let delta_tick = s.delta_tick;
     let OptionTick::Some(_) = delta_tick else {
-        return -1;
+        return Tick(-1);
     };
     if s.count == 0 {
         return tick;
@@ -232,7 +234,7 @@ pub fn base_tick(s: Storage, area: &[i32], tick: i32) -> i32
 }
 
 // The answer for an added table: its base and its delta's length, the key that clashes, or why it is refused.
-pub fn answer(base: i32, result: Made) -> Added
+pub fn answer(base: Tick, result: Made) -> Added
     ensures { λ r. ⌜ r ≡ addedOf base result ⌝ }
 {
     match result {
@@ -246,13 +248,13 @@ pub fn answer(base: i32, result: Made) -> Added
 pub fn store(
     s: Storage,
     answer: Added,
-    tick: i32,
+    tick: Tick,
     table: &[i32],
     area: &mut [i32],
     ints: usize,
 ) -> Adding
     requires { ⌜ Holds (storeOf s) (now area) ints × (s .count < 100) × (length (now table) ≤ 16384) × (ints + (length (now table) + 2) ≤ length (now area)) ⌝ }
-    ensures { λ r. ⌜ (r .answer ≡ answer) × (storeOf (r .storage) ≡ record { count = s .count + 1; ackTick = ackOf s; deltaTick = deltaOf s }) × ((t : Tables.Table) → now (table .entry) ≡ written t → LaidIn (length (now (area .entry))) (record { tick = tick; snap = t } ∷ snapsIn (s .count) (now (area .entry))) (now (area .exit))) ⌝ }
+    ensures { λ r. ⌜ (r .answer ≡ answer) × (storeOf (r .storage) ≡ record { count = s .count + 1; ackTick = ackOf s; deltaTick = deltaOf s }) × ((t : Tables.Table) → now (table .entry) ≡ written t → LaidIn (length (now (area .entry))) (record { tick = tick .0; snap = t } ∷ snapsIn (s .count) (now (area .entry))) (now (area .exit))) ⌝ }
 {
     push(area, s.count, ints, tick, table);
     Adding {
@@ -264,15 +266,15 @@ pub fn store(
 // Adds a table if its delta was made; else adds nothing.
 pub fn finish(
     s: Storage,
-    base: i32,
+    base: Tick,
     result: Made,
-    tick: i32,
+    tick: Tick,
     table: &[i32],
     area: &mut [i32],
     ints: usize,
 ) -> Adding
     requires { ⌜ Holds (storeOf s) (now area) ints × (s .count < 100) × (length (now table) ≤ 16384) × ((n : ℕ) → result ≡ made.Ints n → ints + (length (now table) + 2) ≤ length (now area)) ⌝ }
-    ensures { λ r. ⌜ (r .answer ≡ addedOf base result) × (storeOf (r .storage) ≡ storeAfter (storeOf s) result) × ((t : Tables.Table) → now (table .entry) ≡ written t → LaidIn (length (now (area .entry))) (tablesAfter (snapsIn (s .count) (now (area .entry))) (record { tick = tick; snap = t }) result) (now (area .exit))) ⌝ }
+    ensures { λ r. ⌜ (r .answer ≡ addedOf base result) × (storeOf (r .storage) ≡ storeAfter (storeOf s) result) × ((t : Tables.Table) → now (table .entry) ≡ written t → LaidIn (length (now (area .entry))) (tablesAfter (snapsIn (s .count) (now (area .entry))) (record { tick = tick .0; snap = t }) result) (now (area .exit))) ⌝ }
 {
     let answer = answer(base, result);
     match result {
@@ -285,7 +287,7 @@ pub fn finish(
 // Adds a table of so many items and ints to a store that is not full.
 pub fn add(
     s: Storage,
-    tick: i32,
+    tick: Tick,
     table: &[i32],
     items: usize,
     size: usize,
@@ -294,8 +296,8 @@ pub fn add(
     ints: usize,
 ) -> Adding
     requires { ⌜ Holds (storeOf s) (now area) ints × (s .count < 100) × (tableForm.Table items size ≡ formOf (tableOf (now table))) ⌝ }
-    ensures { λ r. ⌜ addingTo (holdsIn (storeOf s) (now (area .entry))) (record { tick = tick; snap = Tables.items (now (table .entry)) }) (now (area .entry)) (now (delta .entry)) ≡ addings r (now (area .exit)) (now (delta .exit)) ⌝ }
-    ensures { λ r. ⌜ addedClash (r .answer) ≡ clashWith (addedIn (r .answer)) (record { tick = tick; snap = Tables.items (now (table .entry)) })
+    ensures { λ r. ⌜ addingTo (holdsIn (storeOf s) (now (area .entry))) (record { tick = tick .0; snap = Tables.items (now (table .entry)) }) (now (area .entry)) (now (delta .entry)) ≡ addings r (now (area .exit)) (now (delta .exit)) ⌝ }
+    ensures { λ r. ⌜ addedClash (r .answer) ≡ clashWith (addedIn (r .answer)) (record { tick = tick .0; snap = Tables.items (now (table .entry)) })
         (some (holdsIn (storeOf s) (now (area .entry)))) ⌝ }
 {
     let room = ints + (size + 2) <= area.len();
@@ -316,30 +318,31 @@ pub fn not_taken(s: Storage, error: Error) -> Taking
 }
 
 // Whether a tick is above that of the newest of so many tables, or above -1 if there are none.
-pub fn is_newer(area: &[i32], count: usize, tick: i32) -> bool
+pub fn is_newer(area: &[i32], count: usize, tick: Tick) -> bool
     requires { ⌜ HeldStore (now area) count ⌝ }
-    ensures { λ r. ⌜ r ≡ signedLess (Store.newestTick (snapsIn count (now (area .entry)))) tick ⌝ }
+    ensures { λ r. ⌜ r ≡ signedLess (Store.newestTick (snapsIn count (now (area .entry)))) (tick .0) ⌝ }
 {
-    ints::signed_less(newest_tick(area, count), tick)
+    let newest = newest_tick(area, count);
+    newest.is_before(tick)
 }
 
 // Drops the tables older than a base; a negative tick names the empty table and drops nothing.
-pub fn drop_for(area: &mut [i32], count: usize, ints: usize, tick: i32) -> Left
+pub fn drop_for(area: &mut [i32], count: usize, ints: usize, tick: Tick) -> Left
     requires { ⌜ HeldStore (now area) count × (ints ≡ storeRoom (snapsIn count (now area))) ⌝ }
-    ensures { λ r. ⌜ Leaves (now (area .entry)) (Store.dropFor tick (snapsIn count (now (area .entry)))) (r .count) (r .ints) (now (area .exit)) ⌝ }
+    ensures { λ r. ⌜ Leaves (now (area .entry)) (Store.dropFor (tick .0) (snapsIn count (now (area .entry)))) (r .count) (r .ints) (now (area .exit)) ⌝ }
 {
-    if ints::signed_less(tick, 0) {
+    if tick.is_negative() {
         return Left { count, ints };
     }
     drop_older(area, count, ints, tick)
 }
 
 // Whether the base of a tick is held: the oldest of so many tables, or the empty one.
-pub fn has_base(area: &[i32], count: usize, tick: i32) -> bool
+pub fn has_base(area: &[i32], count: usize, tick: Tick) -> bool
     requires { ⌜ HeldStore (now area) count ⌝ }
-    ensures { λ r. ⌜ r ≡ Store.isHeld (baseIn tick (snapsIn count (now (area .entry)))) ⌝ }
+    ensures { λ r. ⌜ r ≡ Store.isHeld (baseIn (tick .0) (snapsIn count (now (area .entry)))) ⌝ }
 {
-    if ints::signed_less(tick, 0) {
+    if tick.is_negative() {
         return true;
     }
     is_oldest(area, count, tick)
@@ -349,16 +352,16 @@ pub fn has_base(area: &[i32], count: usize, tick: i32) -> bool
 pub fn apply_on(
     area: &[i32],
     count: usize,
-    tick: i32,
+    tick: Tick,
     delta: &[i32],
     deleted: usize,
     updated: usize,
     scratch: &mut [i32],
 ) -> Typed
-    requires { ⌜ HeldStore (now area) count × (Store.isHeld (baseIn tick (snapsIn count (now area))) ≡ true) × HeldDelta [] (now delta) deleted updated × (16384 ≤ length (now scratch)) ⌝ }
-    ensures { λ r. ⌜ Applies (baseIn tick (snapsIn count (now (area .entry)))) (deltaIn [] (now (delta .entry))) (now (scratch .exit)) r ⌝ }
+    requires { ⌜ HeldStore (now area) count × (Store.isHeld (baseIn (tick .0) (snapsIn count (now area))) ≡ true) × HeldDelta [] (now delta) deleted updated × (16384 ≤ length (now scratch)) ⌝ }
+    ensures { λ r. ⌜ Applies (baseIn (tick .0) (snapsIn count (now (area .entry)))) (deltaIn [] (now (delta .entry))) (now (scratch .exit)) r ⌝ }
 {
-    if ints::signed_less(tick, 0) {
+    if tick.is_negative() {
         let empty = [0i32; 2];
         return apply_typed(&empty, 0, delta, deleted, updated, scratch);
     }
@@ -368,8 +371,8 @@ pub fn apply_on(
 }
 
 // The warnings of a delta that was applied to the base of a tick.
-pub fn taken_warnings(tick: i32, made: Typed) -> Warnings
-    ensures { λ r. ⌜ ((t : Tables.Table) → warned tick (typedTable t made) ≡ tableWith t (made .table) (counts r)) ⌝ }
+pub fn taken_warnings(tick: Tick, made: Typed) -> Warnings
+    ensures { λ r. ⌜ ((t : Tables.Table) → warned (tick .0) (typedTable t made) ≡ tableWith t (made .table) (counts r)) ⌝ }
 {
     Warnings::taken(is_weird(tick), made.unknown_delete, made.excess)
 }
@@ -397,8 +400,8 @@ pub fn stay(count: usize) -> usize
 }
 
 // The store with so many tables, and a tick acknowledged.
-pub fn with_ack(s: Storage, count: usize, tick: i32) -> Storage
-    ensures { λ r. ⌜ storeOf r ≡ record { count = count; ackTick = some tick; deltaTick = deltaOf s } ⌝ }
+pub fn with_ack(s: Storage, count: usize, tick: Tick) -> Storage
+    ensures { λ r. ⌜ storeOf r ≡ record { count = count; ackTick = some (tick .0); deltaTick = deltaOf s } ⌝ }
 {
     let delta_tick = s.delta_tick;
     Storage {
@@ -423,14 +426,14 @@ pub fn without_ack(s: Storage, count: usize) -> Storage
 // Adds and acknowledges a table whose sum is right, if the area has room; the 101st pushes out the oldest.
 pub fn hold(
     s: Storage,
-    tick: i32,
+    tick: Tick,
     table: &[i32],
     area: &mut [i32],
     ints: usize,
     warnings: Warnings,
 ) -> Taking
     requires { ⌜ Holds (storeOf s) (now area) ints × (length (now table) ≤ 16384) ⌝ }
-    ensures { λ r. ⌜ ((t : Tables.Table) (sum : Option ℤ) → now (table .entry) ≡ written t → Store.sumFits sum t ≡ true → laidOut (now (area .entry)) (Store.addTable (length (now (area .entry))) sum tick (holdsIn (storeOf s) (now (area .entry))) (ok t (counts warnings))) ≡ takings r (now (area .exit))) ⌝ }
+    ensures { λ r. ⌜ ((t : Tables.Table) (sum : Option ℤ) → now (table .entry) ≡ written t → Store.sumFits sum t ≡ true → laidOut (now (area .entry)) (Store.addTable (length (now (area .entry))) sum (tick .0) (holdsIn (storeOf s) (now (area .entry))) (ok t (counts warnings))) ≡ takings r (now (area .exit))) ⌝ }
 {
     let kept = stay(s.count);
     let used = used(area, s.count, kept);
@@ -460,9 +463,10 @@ pub fn hold_made(
     scratch: &[i32],
 ) -> Taking
     requires { ⌜ Holds (storeOf s) (now area) ints × Stands (now scratch) (made .table) ⌝ }
-    ensures { λ r. ⌜ laidOut (now (area .entry)) (Store.addTable (length (now (area .entry))) (sumOf m) (m .tick) (holdsIn (storeOf s) (now (area .entry))) (warned (m .«delta_tick») (typedTable (Tables.items (now (scratch .entry))) made))) ≡ takings r (now (area .exit)) ⌝ }
+    ensures { λ r. ⌜ laidOut (now (area .entry)) (Store.addTable (length (now (area .entry))) (sumOf m) (m .tick .0) (holdsIn (storeOf s) (now (area .entry))) (warned (m .«delta_tick» .0) (typedTable (Tables.items (now (scratch .entry))) made))) ≡ takings r (now (area .exit)) ⌝ }
 {
-    let warnings = taken_warnings(m.delta_tick, made);
+    let base = m.delta_tick;
+    let warnings = taken_warnings(base, made);
     let table = made.table;
     match table {
         Table::Refused(error) => Taking {
@@ -472,7 +476,8 @@ pub fn hold_made(
         },
         Table::Made { items, ints: size } => {
             if sum_fits(m, scratch, items) {
-                return hold(s, m.tick, &scratch[..size], area, ints, warnings);
+                let tick = m.tick;
+                return hold(s, tick, &scratch[..size], area, ints, warnings);
             }
             Taking {
                 answer: Taken::Refused(Error::InvalidCrc),
@@ -495,25 +500,18 @@ pub fn take_on(
     scratch: &mut [i32],
 ) -> Taking
     requires { ⌜ Holds (storeOf s) (now area) ints × HeldDelta [] (now delta) deleted updated × (16384 ≤ length (now scratch)) ⌝ }
-    ensures { λ r. ⌜ laidOut (now (area .entry)) (addingOn (length (now (area .entry))) (sumOf m) (m .«delta_tick») (m .tick) (deltaIn [] (now (delta .entry))) (holdsIn (storeOf s) (now (area .entry)))) ≡ takings r (now (area .exit)) ⌝ }
+    ensures { λ r. ⌜ laidOut (now (area .entry)) (addingOn (length (now (area .entry))) (sumOf m) (m .«delta_tick» .0) (m .tick .0) (deltaIn [] (now (delta .entry))) (holdsIn (storeOf s) (now (area .entry)))) ≡ takings r (now (area .exit)) ⌝ }
 {
-    let left = drop_for(area, s.count, ints, m.delta_tick);
-    if !has_base(area, left.count, m.delta_tick) {
+    let base = m.delta_tick;
+    let left = drop_for(area, s.count, ints, base);
+    if !has_base(area, left.count, base) {
         return Taking {
             answer: Taken::Refused(Error::UnknownSnap),
             warnings: Warnings::none(),
             storage: without_ack(s, left.count),
         };
     }
-    let made = apply_on(
-        area,
-        left.count,
-        m.delta_tick,
-        delta,
-        deleted,
-        updated,
-        scratch,
-    );
+    let made = apply_on(area, left.count, base, delta, deleted, updated, scratch);
     hold_made(with_count(s, left.count), m, made, area, left.ints, scratch)
 }
 
@@ -529,9 +527,10 @@ pub fn take_judged(
     scratch: &mut [i32],
 ) -> Taking
     requires { ⌜ Holds (storeOf s) (now area) ints × HeldDelta [] (now delta) deleted updated × (16384 ≤ length (now scratch)) ⌝ }
-    ensures { λ r. ⌜ laidOut (now (area .entry)) (Store.addDelta (length (now (area .entry))) (sumOf m) (m .«delta_tick») (m .tick) (deltaIn [] (now (delta .entry))) (holdsIn (storeOf s) (now (area .entry)))) ≡ takings r (now (area .exit)) ⌝ }
+    ensures { λ r. ⌜ laidOut (now (area .entry)) (Store.addDelta (length (now (area .entry))) (sumOf m) (m .«delta_tick» .0) (m .tick .0) (deltaIn [] (now (delta .entry))) (holdsIn (storeOf s) (now (area .entry)))) ≡ takings r (now (area .exit)) ⌝ }
 {
-    if !is_newer(area, s.count, m.tick) {
+    let tick = m.tick;
+    if !is_newer(area, s.count, tick) {
         return not_taken(s, Error::StoreOldDelta);
     }
     take_on(s, m, delta, deleted, updated, area, ints, scratch)
@@ -539,7 +538,7 @@ pub fn take_judged(
 
 // Takes a delta for a tick. Leaves scratch in any state.
 pub fn take(s: Storage, m: Sent, delta: &[i32], area: &mut [i32], scratch: &mut [i32]) -> Taking
-    ensures { λ r. ⌜ addDeltaCall (storeOf s) (now (area .entry)) (sumOf m) (m .«delta_tick») (m .tick) (now (delta .entry)) (length (now (scratch .entry))) ≡ takings r (now (area .exit)) ⌝ }
+    ensures { λ r. ⌜ addDeltaCall (storeOf s) (now (area .entry)) (sumOf m) (m .«delta_tick» .0) (m .tick .0) (now (delta .entry)) (length (now (scratch .entry))) ≡ takings r (now (area .exit)) ⌝ }
 {
     let StoreForm::Tables(ints) = form(s, area) else {
         return not_taken(s, Error::NotInForm);

@@ -9,14 +9,15 @@ ghost use Rattle.definitions.specs.Storage as Store;
 ghost use Rattle.definitions.specs.StorageCalls.{addDeltaCall, resetCall, setDeltaTickCall, addSnapCall, addSnapClash, tickCall, tableCall};
 ghost use Rattle.storage.specs.States.{storeOf};
 ghost use Rattle.storage.specs.Taking.{takings};
-ghost use Rattle.format.specs.Ticks.{tickOf};
+ghost use Rattle.ticks.specs.Ticks.{tickOf};
 ghost use Rattle.storage.specs.Answers.{heldTick, settings, addings, addedClash};
 use checked::Sent;
 use format::Error;
-use format::OptionTick;
 use format::Warnings;
 use store_area::checked::StoreForm;
 use table::checked::TableForm;
+use ticks::OptionTick;
+use ticks::Tick;
 
 pub mod checked;
 
@@ -29,7 +30,7 @@ pub struct Storage {
 
 // The tick of a held table, or that there are fewer tables.
 pub enum HeldTick {
-    At(i32),
+    At(Tick),
     End,
     Refused(Error),
 }
@@ -50,7 +51,7 @@ pub struct Setting {
 // The base of an added table and how many ints its delta takes; or the least key, read as unsigned, whose two items differ in length; or why it is
 // refused.
 pub enum Added {
-    Delta { base: i32, ints: usize },
+    Delta { base: Tick, ints: usize },
     DifferingSizes(i32),
     Refused(Error),
 }
@@ -63,7 +64,7 @@ pub struct Adding {
 
 // The tick of the table that a delta made, or why the delta is refused.
 pub enum Taken {
-    Tick(i32),
+    Tick(Tick),
     Refused(Error),
 }
 
@@ -140,8 +141,8 @@ impl Storage {
     }
 
     // Sets the base of the tables that are added: drops older tables; the base must then be the oldest. A negative tick sets none.
-    pub fn set_delta_tick(self, tick: i32, area: &mut [i32]) -> Setting
-        ensures { λ r. ⌜ setDeltaTickCall (storeOf self) (now (area .entry)) tick ≡ settings r (now (area .exit)) ⌝ }
+    pub fn set_delta_tick(self, tick: Tick, area: &mut [i32]) -> Setting
+        ensures { λ r. ⌜ setDeltaTickCall (storeOf self) (now (area .entry)) (tick .0) ≡ settings r (now (area .exit)) ⌝ }
     {
         let StoreForm::Tables(ints) = checked::form(self, area) else {
             return Setting {
@@ -150,7 +151,7 @@ impl Storage {
                 storage: self,
             };
         };
-        if tick < 0 {
+        if tick.is_negative() {
             return Setting {
                 answer: Set::Done,
                 warnings: checked::weird(tick),
@@ -166,13 +167,13 @@ impl Storage {
         self,
         has_crc: bool,
         crc: i32,
-        delta_tick: i32,
-        tick: i32,
+        delta_tick: Tick,
+        tick: Tick,
         delta: &[i32],
         area: &mut [i32],
         scratch: &mut [i32],
     ) -> Taking
-        ensures { λ r. ⌜ (addDeltaCall (storeOf self) (now (area .entry)) (cond «has_crc» (some crc) none) «delta_tick» tick (now (delta .entry)) (length (now (scratch .entry))) ≡ takings r (now (area .exit))) × (now (scratch .exit) ≡ cleared (now (scratch .entry))) ⌝ }
+        ensures { λ r. ⌜ (addDeltaCall (storeOf self) (now (area .entry)) (cond «has_crc» (some crc) none) («delta_tick» .0) (tick .0) (now (delta .entry)) (length (now (scratch .entry))) ≡ takings r (now (area .exit))) × (now (scratch .exit) ≡ cleared (now (scratch .entry))) ⌝ }
     {
         let m = Sent {
             has_crc,
@@ -187,9 +188,9 @@ impl Storage {
 
     // Adds a table, and makes its delta: against the oldest table then held if a base tick is set, else against the empty table.
     // If items of one key differ in length, returns the least such key, read as unsigned. A refused call leaves both areas unchanged.
-    pub fn add_snap(self, tick: i32, table: &[i32], delta: &mut [i32], area: &mut [i32]) -> Adding
-        ensures { λ r. ⌜ addSnapCall (storeOf self) (now (area .entry)) tick (now (table .entry)) (now (delta .entry)) ≡ addings r (now (area .exit)) (now (delta .exit)) ⌝ }
-        ensures { λ r. ⌜ addedClash (r .answer) ≡ addSnapClash (storeOf self) (now (area .entry)) tick (now (table .entry)) (now (delta .entry)) ⌝ }
+    pub fn add_snap(self, tick: Tick, table: &[i32], delta: &mut [i32], area: &mut [i32]) -> Adding
+        ensures { λ r. ⌜ addSnapCall (storeOf self) (now (area .entry)) (tick .0) (now (table .entry)) (now (delta .entry)) ≡ addings r (now (area .exit)) (now (delta .exit)) ⌝ }
+        ensures { λ r. ⌜ addedClash (r .answer) ≡ addSnapClash (storeOf self) (now (area .entry)) (tick .0) (now (table .entry)) (now (delta .entry)) ⌝ }
     {
         let StoreForm::Tables(ints) = checked::form(self, area) else {
             return checked::not_added(self, Error::NotInForm);

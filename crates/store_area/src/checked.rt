@@ -10,6 +10,7 @@ ghost use Rattle.definitions.specs.Storage.{snapsOf, newestTick, dropOlder, all
 ghost use Rattle.laws.specs.StoreForm.{storeRoom, LaidIn};
 ghost use Rattle.store_area.specs.Held.{formOf, sizeOf, firstTable, snapsIn, snapAt, HeldStore, Leaves, placeOf};
 use table::checked::TableForm;
+use ticks::Tick;
 
 // Whether an area holds tables and then zeros, and how many ints the tables take.
 pub enum StoreForm {
@@ -111,21 +112,21 @@ pub fn used(area: &[i32], count: usize, left: usize) -> usize
 }
 
 // The tick of the i-th table, the newest first.
-pub fn tick_at(area: &[i32], count: usize, i: usize) -> i32
+pub fn tick_at(area: &[i32], count: usize, i: usize) -> Tick
     requires { ⌜ HeldStore (now area) count × (i < count) ⌝ }
-    ensures { λ r. ⌜ r ≡ snapAt (snapsIn count (now (area .entry))) i .tick ⌝ }
+    ensures { λ r. ⌜ r .0 ≡ snapAt (snapsIn count (now (area .entry))) i .tick ⌝ }
 {
     let p = place(area, count, i);
-    area[p]
+    Tick(area[p])
 }
 
 // The tick of the newest table, or -1 if there is none.
-pub fn newest_tick(area: &[i32], count: usize) -> i32
+pub fn newest_tick(area: &[i32], count: usize) -> Tick
     requires { ⌜ HeldStore (now area) count ⌝ }
-    ensures { λ r. ⌜ r ≡ newestTick (snapsIn count (now (area .entry))) ⌝ }
+    ensures { λ r. ⌜ r .0 ≡ newestTick (snapsIn count (now (area .entry))) ⌝ }
 {
     if count == 0 {
-        return -1;
+        return Tick(-1);
     }
     tick_at(area, count, 0)
 }
@@ -142,14 +143,15 @@ pub fn table_at(area: &[i32], count: usize, i: usize) -> &[i32]
 }
 
 // How many tables are before the first one that is older than a tick.
-fn count_newer(area: &[i32], count: usize, tick: i32) -> usize
+fn count_newer(area: &[i32], count: usize, tick: Tick) -> usize
     requires { ⌜ HeldStore (now area) count ⌝ }
-    ensures { λ r. ⌜ (r ≤ count) × (dropOlder tick (snapsIn count (now (area .entry))) ≡ take r (snapsIn count (now (area .entry)))) ⌝ }
+    ensures { λ r. ⌜ (r ≤ count) × (dropOlder (tick .0) (snapsIn count (now (area .entry))) ≡ take r (snapsIn count (now (area .entry)))) ⌝ }
 {
     let mut i = 0;
     let mut p = 0;
     while i < count {
-        if ints::signed_less(area[p], tick) {
+        let held = Tick(area[p]);
+        if held.is_before(tick) {
             return i;
         }
         p += 2 + table::checked::nat_at(area, p + 1);
@@ -169,9 +171,9 @@ pub fn cut(area: &mut [i32], count: usize, ints: usize, left: usize) -> usize
 }
 
 // Drops the first table that is older than a tick, and all after it.
-pub fn drop_older(area: &mut [i32], count: usize, ints: usize, tick: i32) -> Left
+pub fn drop_older(area: &mut [i32], count: usize, ints: usize, tick: Tick) -> Left
     requires { ⌜ HeldStore (now area) count × (ints ≡ storeRoom (snapsIn count (now area))) ⌝ }
-    ensures { λ r. ⌜ Leaves (now (area .entry)) (dropOlder tick (snapsIn count (now (area .entry)))) (r .count) (r .ints) (now (area .exit)) ⌝ }
+    ensures { λ r. ⌜ Leaves (now (area .entry)) (dropOlder (tick .0) (snapsIn count (now (area .entry)))) (r .count) (r .ints) (now (area .exit)) ⌝ }
 {
     let left = count_newer(area, count, tick);
     let kept = cut(area, count, ints, left);
@@ -183,13 +185,14 @@ pub fn drop_older(area: &mut [i32], count: usize, ints: usize, tick: i32) -> Lef
 
 // Adds a table, which takes up its whole slice, as the newest: moves the tables held up as one block, and writes the tick, the
 // int count and the ints of the new table before them. ints is how many the tables held take.
-pub fn push(area: &mut [i32], count: usize, ints: usize, tick: i32, table: &[i32])
+pub fn push(area: &mut [i32], count: usize, ints: usize, tick: Tick, table: &[i32])
     requires { ⌜ HeldStore (now area) count × (ints ≡ storeRoom (snapsIn count (now area)))
         × (ints + (length (now table) + 2) ≤ length (now area)) × (length (now table) ≤ 16384) ⌝ }
-    ensures { λ _. ⌜ ((t : Table) → now (table .entry) ≡ written t → LaidIn (length (now (area .entry))) (record { tick = tick; snap = t } ∷ snapsIn count (now (area .entry))) (now (area .exit))) ⌝ }
+    ensures { λ _. ⌜ ((t : Table) → now (table .entry) ≡ written t → LaidIn (length (now (area .entry))) (record { tick = tick .0; snap = t } ∷ snapsIn count (now (area .entry))) (now (area .exit))) ⌝ }
 {
     ints::checked::shift(area, 0, ints, table.len() + 2);
-    area[0] = tick;
+    let number = tick.0;
+    area[0] = number;
     table::checked::put(area, 1, table.len());
     ints::copy_into(area, 2, table);
 }

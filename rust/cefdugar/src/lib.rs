@@ -85,6 +85,7 @@ impl Warnings {
     pub const EXCESS_SNAP_DATA: usize = 8;
     pub const EXCESS_UUID_ITEM_DATA: usize = 9;
     pub const DUPLICATE_SNAP: usize = 10;
+    /// A part whose base, part count or sum is not the first part's.
     pub const DIFFERING_ATTRIBUTES: usize = 11;
     pub const WEIRD_NEGATIVE_DELTA_TICK: usize = 12;
 

@@ -1,6 +1,10 @@
 //! The manager of a printer: a receiver and a store.
 
 use crate::answer;
+use crate::messages::Snap;
+use crate::messages::SnapEmpty;
+use crate::messages::SnapSingle;
+use crate::messages::Tick;
 use crate::receiver::Receiver;
 use crate::storage::Storage;
 use crate::sys;
@@ -46,7 +50,7 @@ pub struct Outputs {
 
 /// The tick that was acknowledged, or none where parts are missing; with the
 /// warnings.
-pub type Handled = (Result<Option<i32>, Refusal>, Warnings);
+pub type Handled = (Result<Option<Tick>, Refusal>, Warnings);
 
 /// What a call said.
 fn handled(call: impl FnOnce(&mut Outputs) -> u32) -> Handled {
@@ -56,7 +60,7 @@ fn handled(call: impl FnOnce(&mut Outputs) -> u32) -> Handled {
         warnings: Warnings::default(),
     };
     let number = call(&mut outputs);
-    let ack = (outputs.taken != 0).then_some(outputs.ack);
+    let ack = (outputs.taken != 0).then_some(Tick(outputs.ack));
     (answer(number, ack), outputs.warnings)
 }
 
@@ -103,31 +107,31 @@ impl Manager {
         }
     }
     /// The tick acknowledged last.
-    pub fn ack_tick(&self) -> Option<i32> {
+    pub fn ack_tick(&self) -> Option<Tick> {
         self.storage.ack_tick()
     }
 
-    /// Takes a part of a delta: tick, distance, part count, part number and
-    /// sum, and its bytes. With the last part the delta is read and goes to
-    /// the store.
-    pub fn snap(&mut self, numbers: [i32; 5], data: &[u8], lent: Lent) -> Handled {
-        handled(|outputs| self.plain_snap(numbers, data, lent, outputs))
+    /// Takes a part of a delta. With the last part missing the delta is read
+    /// and goes to the store.
+    pub fn snap(&mut self, snap: Snap<'_>, lent: Lent) -> Handled {
+        handled(|outputs| self.plain_snap(snap.numbers(), snap.data, lent, outputs))
     }
-    /// Takes a whole delta: tick, distance and sum, and its bytes.
-    pub fn snap_single(&mut self, numbers: [i32; 3], data: &[u8], lent: Lent) -> Handled {
-        handled(|outputs| self.plain_single(numbers, data, lent, outputs))
+    /// Takes a whole delta.
+    pub fn snap_single(&mut self, snap: SnapSingle<'_>, lent: Lent) -> Handled {
+        handled(|outputs| self.plain_single(snap.numbers(), snap.data, lent, outputs))
     }
-    /// Takes an empty delta: tick and distance.
-    pub fn snap_empty(&mut self, numbers: [i32; 2], lent: Lent) -> Handled {
-        handled(|outputs| self.plain_empty(numbers, lent, outputs))
+    /// Takes an empty delta.
+    pub fn snap_empty(&mut self, snap: SnapEmpty, lent: Lent) -> Handled {
+        handled(|outputs| self.plain_empty(snap.numbers(), lent, outputs))
     }
 }
 
 // Every call below is sound: references are valid, not null and do not
 // overlap, and the lengths are those of the slices.
 impl Manager {
-    /// `cef_manager_snap`. `scratch` is always zeros. Refused: `outputs` are
-    /// left but for the warnings.
+    /// `cef_manager_snap`, with tick, distance, part count, part number and
+    /// sum. `scratch` is always zeros. Refused: `outputs` are left but for the
+    /// warnings.
     pub fn plain_snap(
         &mut self,
         numbers: [i32; 5],
@@ -167,7 +171,8 @@ impl Manager {
             )
         }
     }
-    /// `cef_manager_snap_single`, as [`Manager::plain_snap`].
+    /// `cef_manager_snap_single`, with tick, distance and sum, as
+    /// [`Manager::plain_snap`].
     pub fn plain_single(
         &mut self,
         numbers: [i32; 3],
@@ -175,7 +180,7 @@ impl Manager {
         lent: Lent,
         outputs: &mut Outputs,
     ) -> u32 {
-        let [tick, delta_tick, crc] = numbers;
+        let [tick, distance, crc] = numbers;
         unsafe {
             sys::cef_manager_snap_single(
                 &mut self.receiver.ticks,
@@ -184,7 +189,7 @@ impl Manager {
                 &mut self.storage.ticks,
                 &mut self.storage.counts,
                 tick,
-                delta_tick,
+                distance,
                 crc,
                 data.as_ptr(),
                 data.len(),
@@ -206,9 +211,10 @@ impl Manager {
             )
         }
     }
-    /// `cef_manager_snap_empty`, as [`Manager::plain_snap`].
+    /// `cef_manager_snap_empty`, with tick and distance, as
+    /// [`Manager::plain_snap`].
     pub fn plain_empty(&mut self, numbers: [i32; 2], lent: Lent, outputs: &mut Outputs) -> u32 {
-        let [tick, delta_tick] = numbers;
+        let [tick, distance] = numbers;
         unsafe {
             sys::cef_manager_snap_empty(
                 &mut self.receiver.ticks,
@@ -217,7 +223,7 @@ impl Manager {
                 &mut self.storage.ticks,
                 &mut self.storage.counts,
                 tick,
-                delta_tick,
+                distance,
                 lent.parts.as_mut_ptr(),
                 lent.parts.len(),
                 lent.joined.as_mut_ptr(),

@@ -1,4 +1,4 @@
-//! The messages that carry the bytes of a delta.
+//! Ticks, distances, and the messages that carry the bytes of a delta.
 
 use crate::answer;
 use crate::sys;
@@ -7,28 +7,92 @@ use crate::Refusal;
 /// The most bytes of a message.
 pub const PART_BYTES: usize = 900;
 
-/// The numbers of a message, beside its bytes. `delta_tick` is the distance
-/// from the base's tick.
+/// The tick of a table. Ticks are ordered as signed numbers.
+#[derive(Clone, Copy, Debug, Eq, Hash, Ord, PartialEq, PartialOrd)]
+pub struct Tick(pub i32);
+
+/// How far a table's tick lies past its base's. It is another sort of count
+/// than a tick, and the two can't be compared. A distance may wrap, so
+/// distances have no order.
+#[derive(Clone, Copy, Debug, Eq, Hash, PartialEq)]
+pub struct Distance(pub i32);
+
+impl Tick {
+    /// The tick that lies `distance` before this one, wrapping: of a message's
+    /// tick and distance, the tick of its base.
+    #[inline]
+    pub fn minus(self, distance: Distance) -> Tick {
+        Tick(self.0.wrapping_sub(distance.0))
+    }
+    /// The distance from the tick `base` to this one, wrapping.
+    #[inline]
+    pub fn since(self, base: Tick) -> Distance {
+        Distance(self.0.wrapping_sub(base.0))
+    }
+}
+
+/// A part of a delta. Here and in the other messages `delta_tick` has libtw2's
+/// name; it is the distance from the base's tick.
+#[derive(Clone, Copy, Debug, Eq, PartialEq)]
+pub struct Snap<'a> {
+    pub tick: Tick,
+    pub delta_tick: Distance,
+    pub num_parts: i32,
+    pub part: i32,
+    pub crc: i32,
+    pub data: &'a [u8],
+}
+
+/// A delta without bytes: the table is its base again.
+#[derive(Clone, Copy, Debug, Eq, PartialEq)]
+pub struct SnapEmpty {
+    pub tick: Tick,
+    pub delta_tick: Distance,
+}
+
+/// A whole delta.
+#[derive(Clone, Copy, Debug, Eq, PartialEq)]
+pub struct SnapSingle<'a> {
+    pub tick: Tick,
+    pub delta_tick: Distance,
+    pub crc: i32,
+    pub data: &'a [u8],
+}
+
+/// A message of any of the three kinds.
 #[derive(Clone, Copy, Debug, Eq, PartialEq)]
 pub enum Message<'a> {
-    Snap {
-        tick: i32,
-        delta_tick: i32,
-        num_parts: i32,
-        part: i32,
-        crc: i32,
-        data: &'a [u8],
-    },
-    SnapEmpty {
-        tick: i32,
-        delta_tick: i32,
-    },
-    SnapSingle {
-        tick: i32,
-        delta_tick: i32,
-        crc: i32,
-        data: &'a [u8],
-    },
+    Snap(Snap<'a>),
+    SnapEmpty(SnapEmpty),
+    SnapSingle(SnapSingle<'a>),
+}
+
+impl Snap<'_> {
+    /// The numbers in the order of the C calls.
+    #[inline]
+    pub(crate) fn numbers(&self) -> [i32; 5] {
+        [
+            self.tick.0,
+            self.delta_tick.0,
+            self.num_parts,
+            self.part,
+            self.crc,
+        ]
+    }
+}
+
+impl SnapEmpty {
+    #[inline]
+    pub(crate) fn numbers(&self) -> [i32; 2] {
+        [self.tick.0, self.delta_tick.0]
+    }
+}
+
+impl SnapSingle<'_> {
+    #[inline]
+    pub(crate) fn numbers(&self) -> [i32; 3] {
+        [self.tick.0, self.delta_tick.0, self.crc]
+    }
 }
 
 /// `cef_num_chunks`. Refused (42): `count` is left.
@@ -81,16 +145,16 @@ pub fn num_chunks(data: &[u8]) -> Result<usize, Refusal> {
 /// `INPUT_TOO_LONG`.
 #[inline]
 pub fn chunk(
-    tick: i32,
-    delta_tick: i32,
+    tick: Tick,
+    delta_tick: Tick,
     data: &[u8],
     crc: i32,
     i: usize,
 ) -> Result<Option<Message<'_>>, Refusal> {
     let (mut kind, mut numbers, mut len) = (0, [0; 5], 0);
     let number = plain_chunk(
-        tick,
-        delta_tick,
+        tick.0,
+        delta_tick.0,
         data,
         crc,
         i,
@@ -99,23 +163,24 @@ pub fn chunk(
         &mut len,
     );
     answer(number, ())?;
-    let [tick, delta_tick, num_parts, part, crc] = numbers;
+    let [tick, distance, num_parts, part, crc] = numbers;
+    let (tick, delta_tick) = (Tick(tick), Distance(distance));
     Ok(match kind {
         0 => None,
-        1 => Some(Message::Snap {
+        1 => Some(Message::Snap(Snap {
             tick,
             delta_tick,
             num_parts,
             part,
             crc,
             data: &data[PART_BYTES * i..][..len],
-        }),
-        2 => Some(Message::SnapEmpty { tick, delta_tick }),
-        _ => Some(Message::SnapSingle {
+        })),
+        2 => Some(Message::SnapEmpty(SnapEmpty { tick, delta_tick })),
+        _ => Some(Message::SnapSingle(SnapSingle {
             tick,
             delta_tick,
             crc,
             data: &data[PART_BYTES * i..][..len],
-        }),
+        })),
     })
 }

@@ -1,6 +1,10 @@
 //! The receiver of the parts of deltas.
 
 use crate::answer;
+use crate::messages::Snap;
+use crate::messages::SnapEmpty;
+use crate::messages::SnapSingle;
+use crate::messages::Tick;
 use crate::sys;
 use crate::Refusal;
 use crate::Warnings;
@@ -27,12 +31,13 @@ pub struct Outputs {
     pub len: usize,
 }
 
-/// A delta that was received; `data_and_crc` has how many bytes were joined
-/// and their sum, unless its message was empty.
+/// A delta that was received: the ticks of its base and of its table.
+/// `data_and_crc` has how many bytes were joined and the table's sum, unless
+/// the message was empty.
 #[derive(Clone, Copy, Debug, Eq, PartialEq)]
 pub struct ReceivedDelta {
-    pub delta_tick: i32,
-    pub tick: i32,
+    pub delta_tick: Tick,
+    pub tick: Tick,
     pub data_and_crc: Option<(usize, i32)>,
 }
 
@@ -47,8 +52,8 @@ fn received(number: u32, outputs: Outputs, warnings: Warnings) -> Received {
         len,
     } = outputs;
     let delta = (kind != 0).then_some(ReceivedDelta {
-        delta_tick,
-        tick,
+        delta_tick: Tick(delta_tick),
+        tick: Tick(tick),
         data_and_crc: (kind == 1).then_some((len, crc)),
     });
     (answer(number, delta), warnings)
@@ -94,38 +99,42 @@ impl Receiver {
         unsafe { sys::cef_receiver_reset(&mut self.ticks, &mut self.counts, &mut self.lengths) }
     }
 
-    /// Takes a part of a delta: tick, distance, part count, part number and
-    /// sum, and its bytes. `parts` and `joined` are the two part areas; the
-    /// last part missing joins all in the second.
+    /// Takes a part of a delta. `parts` and `joined` are the two part areas;
+    /// the last part missing joins all in the second. The first part of a tick
+    /// fixes base, part count and sum; a part with another one counts
+    /// `DIFFERING_ATTRIBUTES`.
     #[inline]
-    pub fn snap(
-        &mut self,
-        numbers: [i32; 5],
-        data: &[u8],
-        parts: &mut [u8],
-        joined: &mut [u8],
-    ) -> Received {
+    pub fn snap(&mut self, snap: Snap<'_>, parts: &mut [u8], joined: &mut [u8]) -> Received {
         let (mut outputs, mut warnings) = (Outputs::NONE, Warnings::default());
-        let number = self.plain_snap(numbers, data, parts, joined, &mut outputs, &mut warnings);
+        let numbers = snap.numbers();
+        let number = self.plain_snap(
+            numbers,
+            snap.data,
+            parts,
+            joined,
+            &mut outputs,
+            &mut warnings,
+        );
         received(number, outputs, warnings)
     }
-    /// Takes a whole delta: tick, distance and sum, and its bytes.
+    /// Takes a whole delta, whose bytes go to the front of `joined`.
     #[inline]
-    pub fn snap_single(&mut self, numbers: [i32; 3], data: &[u8], joined: &mut [u8]) -> Received {
+    pub fn snap_single(&mut self, snap: SnapSingle<'_>, joined: &mut [u8]) -> Received {
         let (mut outputs, mut warnings) = (Outputs::NONE, Warnings::default());
-        let number = self.plain_single(numbers, data, joined, &mut outputs, &mut warnings);
+        let numbers = snap.numbers();
+        let number = self.plain_single(numbers, snap.data, joined, &mut outputs, &mut warnings);
         received(number, outputs, warnings)
     }
-    /// Takes an empty delta: tick and distance.
+    /// Takes an empty delta.
     #[inline]
-    pub fn snap_empty(&mut self, numbers: [i32; 2]) -> Received {
+    pub fn snap_empty(&mut self, snap: SnapEmpty) -> Received {
         let (mut outputs, mut warnings) = (Outputs::NONE, Warnings::default());
-        let number = self.plain_empty(numbers, &mut outputs, &mut warnings);
+        let number = self.plain_empty(snap.numbers(), &mut outputs, &mut warnings);
         received(number, outputs, warnings)
     }
 
-    /// `cef_receiver_snap`. Refused (47, 41, 43, 20 to 23): all but `warnings`
-    /// is left.
+    /// `cef_receiver_snap`, with tick, distance, part count, part number and
+    /// sum. Refused (47, 41, 43, 20 to 23): all but `warnings` is left.
     #[inline]
     pub fn plain_snap(
         &mut self,
@@ -136,14 +145,14 @@ impl Receiver {
         outputs: &mut Outputs,
         warnings: &mut Warnings,
     ) -> u32 {
-        let [tick, delta_tick, num_parts, part, crc] = numbers;
+        let [tick, distance, num_parts, part, crc] = numbers;
         unsafe {
             sys::cef_receiver_snap(
                 &mut self.ticks,
                 &mut self.counts,
                 &mut self.lengths,
                 tick,
-                delta_tick,
+                distance,
                 num_parts,
                 part,
                 crc,
@@ -160,8 +169,8 @@ impl Receiver {
             )
         }
     }
-    /// `cef_receiver_snap_single`. Refused (47, 41, 43, 20): all but `warnings`
-    /// is left.
+    /// `cef_receiver_snap_single`, with tick, distance and sum. Refused (47,
+    /// 41, 43, 20): all but `warnings` is left.
     #[inline]
     pub fn plain_single(
         &mut self,
@@ -171,14 +180,14 @@ impl Receiver {
         outputs: &mut Outputs,
         warnings: &mut Warnings,
     ) -> u32 {
-        let [tick, delta_tick, crc] = numbers;
+        let [tick, distance, crc] = numbers;
         unsafe {
             sys::cef_receiver_snap_single(
                 &mut self.ticks,
                 &mut self.counts,
                 &mut self.lengths,
                 tick,
-                delta_tick,
+                distance,
                 crc,
                 data.as_ptr(),
                 data.len(),
@@ -191,7 +200,8 @@ impl Receiver {
             )
         }
     }
-    /// `cef_receiver_snap_empty`. Refused (47, 20): all but `warnings` is left.
+    /// `cef_receiver_snap_empty`, with tick and distance. Refused (47, 20): all
+    /// but `warnings` is left.
     #[inline]
     pub fn plain_empty(
         &mut self,
@@ -199,14 +209,14 @@ impl Receiver {
         outputs: &mut Outputs,
         warnings: &mut Warnings,
     ) -> u32 {
-        let [tick, delta_tick] = numbers;
+        let [tick, distance] = numbers;
         unsafe {
             sys::cef_receiver_snap_empty(
                 &mut self.ticks,
                 &mut self.counts,
                 &mut self.lengths,
                 tick,
-                delta_tick,
+                distance,
                 &mut outputs.kind,
                 &mut outputs.received,
                 &mut outputs.len,

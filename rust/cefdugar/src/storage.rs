@@ -2,6 +2,7 @@
 
 use crate::answer;
 use crate::delta::NoDelta;
+use crate::messages::Tick;
 use crate::sys;
 use crate::Refusal;
 use crate::Warnings;
@@ -36,7 +37,7 @@ pub struct Outputs {
 /// how many ints its delta takes.
 #[derive(Clone, Copy, Debug, Eq, PartialEq)]
 pub struct Added {
-    pub base: i32,
+    pub base: Tick,
     pub ints: usize,
 }
 
@@ -47,8 +48,8 @@ impl Default for Storage {
 }
 
 /// A tick, where the flag says that there is one.
-fn flagged(has: u32, tick: i32) -> Option<i32> {
-    (has != 0).then_some(tick)
+fn flagged(has: u32, tick: i32) -> Option<Tick> {
+    (has != 0).then_some(Tick(tick))
 }
 
 impl Storage {
@@ -79,20 +80,20 @@ impl Storage {
         self.counts[0] as usize
     }
     /// The tick acknowledged last.
-    pub fn ack_tick(&self) -> Option<i32> {
+    pub fn ack_tick(&self) -> Option<Tick> {
         flagged(self.counts[1], self.ticks[0])
     }
     /// The tick of the base that is set.
-    pub fn delta_tick(&self) -> Option<i32> {
+    pub fn delta_tick(&self) -> Option<Tick> {
         flagged(self.counts[2], self.ticks[1])
     }
 
     /// The tick of table `i`, the newest first, or none past the oldest.
     /// Refused: `NOT_IN_FORM`.
-    pub fn snap_tick(&self, area: &[i32], i: usize) -> Result<Option<i32>, Refusal> {
+    pub fn snap_tick(&self, area: &[i32], i: usize) -> Result<Option<Tick>, Refusal> {
         let (mut tick, mut end) = (0, 0);
         let number = self.plain_snap_tick(area, i, &mut tick, &mut end);
-        answer(number, (end == 0).then_some(tick))
+        answer(number, (end == 0).then_some(Tick(tick)))
     }
     /// Copies table `i`, the newest first, to the front of `out` and gives how
     /// many ints; 0 where there is none. Refused: `CAPACITY_ERROR`; `out` is
@@ -107,11 +108,11 @@ impl Storage {
     /// `NOT_IN_FORM`, `UNKNOWN_SNAP`.
     pub fn set_delta_tick(
         &mut self,
-        tick: i32,
+        tick: Tick,
         area: &mut [i32],
     ) -> (Result<(), Refusal>, Warnings) {
         let mut warnings = Warnings::default();
-        let number = self.plain_set_delta_tick(tick, area, &mut warnings);
+        let number = self.plain_set_delta_tick(tick.0, area, &mut warnings);
         (answer(number, ()), warnings)
     }
     /// Adds a table and makes its delta in the front of `delta`: against the
@@ -119,7 +120,7 @@ impl Storage {
     /// one. A refused call leaves the store and both areas.
     pub fn add_snap(
         &mut self,
-        tick: i32,
+        tick: Tick,
         table: &[i32],
         delta: &mut [i32],
         area: &mut [i32],
@@ -129,9 +130,9 @@ impl Storage {
             count: 0,
             clash: 0,
         };
-        let number = self.plain_add_snap(tick, table, delta, area, &mut outputs);
+        let number = self.plain_add_snap(tick.0, table, delta, area, &mut outputs);
         let added = Added {
-            base: outputs.base,
+            base: Tick(outputs.base),
             ints: outputs.count,
         };
         match answer(number, added) {
@@ -140,22 +141,23 @@ impl Storage {
             Err(refusal) => Err(NoDelta::Refused(refusal)),
         }
     }
-    /// Takes a delta for a tick, with the sum of its table where one was sent:
-    /// tables older than the base are dropped, and it must then be the oldest.
-    /// The table that comes of it is held, and its tick acknowledged.
-    /// `scratch`, of [`table::SCRATCH`](crate::table::SCRATCH) ints or more,
-    /// is zeros afterwards.
+    /// Takes a delta for a tick, with the tick of its base, `delta_tick`, and
+    /// the sum of its table where one was sent: tables older than the base are
+    /// dropped, and it must then be the oldest. The table that comes of it is
+    /// held, and its tick acknowledged. `scratch`, of
+    /// [`table::SCRATCH`](crate::table::SCRATCH) ints or more, is zeros
+    /// afterwards.
     pub fn add_delta(
         &mut self,
         crc: Option<i32>,
-        delta_tick: i32,
-        tick: i32,
+        delta_tick: Tick,
+        tick: Tick,
         delta: &[i32],
         area: &mut [i32],
         scratch: &mut [i32],
     ) -> (Result<(), Refusal>, Warnings) {
         let mut warnings = Warnings::default();
-        let ticks = [delta_tick, tick];
+        let ticks = [delta_tick.0, tick.0];
         let number = self.plain_add_delta(crc, ticks, delta, area, scratch, &mut warnings);
         (answer(number, ()), warnings)
     }

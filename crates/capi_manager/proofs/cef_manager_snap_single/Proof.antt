@@ -27,8 +27,8 @@ settle-requires c κs =
     let f = c .before .before .before .before .before .before .before .before .before .before .before .before .before .before .before .before .before .before .before .before .before .before .before .before .before .before .before .before .before .before .before .fits in
     let l = c .before .before .before .before .before .before .before .before .before .before .before .before .before .before .before .before .before .before .before .before .before .load-storage in
     let h = c .before .before .before .before .before .before .before .before .before .before .before .before .before .before .before .snap-single in
-    let e = moved (now (a .sizes)) (now (a .«data»)) (now (a .parts)) (now (a .joined)) (now (a .delta)) (now (a .area)) (length (now (a .scratch))) (c .before .before .before .before .before .before .before .before .before .before .before .before .before .before .before .before .before .before .before .before .before .before .before .before .load-receiver .ensures) (l .ensures .0) (single-named (toZ-ofZ (f .tick)) (toZ-ofZ (f .delta-tick)) (toZ-ofZ (f .crc))) (h .ensures .0) in
-    fits-after (messageCall (now (a .sizes)) (heldReceiver (now (a .receiver-ticks)) (now (a .receiver-counts)) (now (a .lengths))) (heldStore (now (a .ticks)) (now (a .counts))) (record { numbers = SnapSingle (a .tick) (a .delta-tick) (a .crc); bytes = (now (a .«data»)) }) (now (a .parts)) (now (a .joined)) (now (a .delta)) (now (a .area)) (length (now (a .scratch)))) (h .result) e (message-fits (now (a .sizes)) (heldReceiver (now (a .receiver-ticks)) (now (a .receiver-counts)) (now (a .lengths))) (heldStore (now (a .ticks)) (now (a .counts))) (record { numbers = SnapSingle (a .tick) (a .delta-tick) (a .crc); bytes = (now (a .«data»)) }) (now (a .parts)) (now (a .joined)) (now (a .delta)) (now (a .area)) (length (now (a .scratch))) (fits-before (l .ensures .0) (l .ensures .1)))
+    let e = moved (now (a .sizes)) (now (a .«data»)) (now (a .parts)) (now (a .joined)) (now (a .delta)) (now (a .area)) (length (now (a .scratch))) (c .before .before .before .before .before .before .before .before .before .before .before .before .before .before .before .before .before .before .before .before .before .before .before .before .load-receiver .ensures) (l .ensures .0) (single-named (toZ-ofZ (f .tick)) (toZ-ofZ (f .distance)) (toZ-ofZ (f .crc))) (h .ensures .0) in
+    fits-after (messageCall (now (a .sizes)) (heldReceiver (now (a .receiver-ticks)) (now (a .receiver-counts)) (now (a .lengths))) (heldStore (now (a .ticks)) (now (a .counts))) (record { numbers = SnapSingle (a .tick) (record { ticks = a .distance }) (a .crc); bytes = (now (a .«data»)) }) (now (a .parts)) (now (a .joined)) (now (a .delta)) (now (a .area)) (length (now (a .scratch)))) (h .result) e (message-fits (now (a .sizes)) (heldReceiver (now (a .receiver-ticks)) (now (a .receiver-counts)) (now (a .lengths))) (heldStore (now (a .ticks)) (now (a .counts))) (record { numbers = SnapSingle (a .tick) (record { ticks = a .distance }) (a .crc); bytes = (now (a .«data»)) }) (now (a .parts)) (now (a .joined)) (now (a .delta)) (now (a .area)) (length (now (a .scratch))) (fits-before (l .ensures .0) (l .ensures .1)))
 
 same-length : tie.Need-same-length
 same-length c = search needs
@@ -51,8 +51,8 @@ returns c =
     let f = c .before .before .before .before .before .before .before .before .before .before .before .before .before .before .before .before .before .before .before .before .before .before .before .before .before .before .before .before .before .before .before .before .fits in
     let l = c .before .before .before .before .before .before .before .before .before .before .before .before .before .before .before .before .before .before .before .before .before .before .load-storage in
     let h = c .before .before .before .before .before .before .before .before .before .before .before .before .before .before .before .before .snap-single in
-    let e = moved (now (a .sizes)) (now (a .«data»)) (now (a .parts)) (now (a .joined)) (now (a .delta)) (now (a .area)) (length (now (a .scratch))) (c .before .before .before .before .before .before .before .before .before .before .before .before .before .before .before .before .before .before .before .before .before .before .before .before .before .load-receiver .ensures) (l .ensures .0) (single-named (toZ-ofZ (f .tick)) (toZ-ofZ (f .delta-tick)) (toZ-ofZ (f .crc))) (h .ensures .0) in
-    (told (messageCall (now (a .sizes)) (heldReceiver (now (a .receiver-ticks)) (now (a .receiver-counts)) (now (a .lengths))) (heldStore (now (a .ticks)) (now (a .counts))) (record { numbers = SnapSingle (a .tick) (a .delta-tick) (a .crc); bytes = (now (a .«data»)) }) (now (a .parts)) (now (a .joined)) (now (a .delta)) (now (a .area)) (length (now (a .scratch)))) (h .result) e _ _ _ _ (c .settle .ensures), h .ensures .1)
+    let e = moved (now (a .sizes)) (now (a .«data»)) (now (a .parts)) (now (a .joined)) (now (a .delta)) (now (a .area)) (length (now (a .scratch))) (c .before .before .before .before .before .before .before .before .before .before .before .before .before .before .before .before .before .before .before .before .before .before .before .before .before .load-receiver .ensures) (l .ensures .0) (single-named (toZ-ofZ (f .tick)) (toZ-ofZ (f .distance)) (toZ-ofZ (f .crc))) (h .ensures .0) in
+    (told (messageCall (now (a .sizes)) (heldReceiver (now (a .receiver-ticks)) (now (a .receiver-counts)) (now (a .lengths))) (heldStore (now (a .ticks)) (now (a .counts))) (record { numbers = SnapSingle (a .tick) (record { ticks = a .distance }) (a .crc); bytes = (now (a .«data»)) }) (now (a .parts)) (now (a .joined)) (now (a .delta)) (now (a .area)) (length (now (a .scratch)))) (h .result) e _ _ _ _ (c .settle .ensures), h .ensures .1)
 
 pub cef-manager-snap-single-spec : {M : Type 1} → statement M
 cef-manager-snap-single-spec =

@@ -19,7 +19,7 @@ error-number-requires : tie.Need-error-number-requires
 error-number-requires c κs = search needs
 
 returns : tie.Need-returns
-returns c = tells-tick _ (c .before .a .given .1) (toZ-ofZ {w = w32} (record { sfits = c .known-told .given .0 .1 })) _ _
+returns c = tells-tick _ (c .before .before .a .given .1) (toZ-ofZ {w = w32} (record { sfits = c .struct-told .given .0 .1 })) _ _
 
 returns-2 : tie.Need-returns-2
 returns-2 c = tells-not-yet _ (c .enum-told .given .1) _ _

@@ -1,5 +1,5 @@
 -- `capi_receiver::cef_chunk` meets its contract: by what `chunk_numbers` and `chunk_data` answered. Assumes nothing.
-use mathlib.Core.Path.{_≡_, refl, ap, _∙_}
+use mathlib.Core.Path.{ap, _∙_}
 use mir.Facts.{toZ-ofZ}
 use denote.Ref.{now}
 use Rattle.definitions.specs.Messages.{chunkCall}

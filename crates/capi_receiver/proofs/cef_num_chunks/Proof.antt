@@ -1,5 +1,5 @@
 -- `capi_receiver::cef_num_chunks` meets its contract: by what `num_chunks` answered. Assumes nothing.
-use mathlib.Core.Path.{_≡_, refl, ap, _∙_}
+use mathlib.Core.Path.{refl, ap, _∙_}
 use Prim.Native.Nat.{ℕ}
 use lib.IntN.{pos}
 use Rattle.delta_chunks.specs.Answers.{chunkCount}

@@ -1,14 +1,11 @@
 -- `capi_receiver::cef_receiver_snap` meets its contract: by what `receive` answered. Assumes nothing.
-use mathlib.Core.Path.{_≡_, refl}
-use mathlib.Core.List.{List, []}
-use Prim.Native.Nat.{ℕ}
 use mir.Facts.{toZ-ofZ}
 use denote.Ref.{now}
 use Rattle.definitions.specs.Receiver.{snapCall}
 use Rattle.format.specs.Totals.{counts}
 use Rattle.receiver.specs.Moves.{snap-moved}
 use Rattle.boundary_states.specs.Rows.{heldReceiver}
-use Rattle.capi_receiver.proofs.Calls.{taken}
+use Rattle.capi_receiver.proofs.Calls.{same-distance, taken}
 use borrow.Author.Needs.{needs}
 use Rattle.capi_receiver.proofs.cef_receiver_snap.Statement.{statement}
 use Rattle.capi_receiver.proofs.cef_receiver_snap.Tie as tie
@@ -42,9 +39,9 @@ returns c =
     let a = s .args in
     let f = s .fits in
     let h = heldReceiver (now (a .ticks)) (now (a .counts)) (now (a .lengths)) in
-    let o = snapCall h (record { tick = a .tick; deltaTick = a .delta-tick; numParts = a .num-parts; part = a .part; crc = a .crc }) (now (a .«data»)) (now (a .parts)) (now (a .joined)) in
+    let o = snapCall h (record { tick = a .tick; distance = record { ticks = a .distance }; numParts = a .num-parts; part = a .part; crc = a .crc }) (now (a .«data»)) (now (a .parts)) (now (a .joined)) in
     let r = m .receive .result in
-    let e = snap-moved (now (a .«data»)) (now (a .parts)) (now (a .joined)) (k .load-ticks .ensures (now (a .lengths))) (toZ-ofZ (f .tick)) (toZ-ofZ (f .delta-tick)) (toZ-ofZ (f .num-parts)) (toZ-ofZ (f .part)) (toZ-ofZ (f .crc)) (m .receive .ensures) in
+    let e = snap-moved (now (a .«data»)) (now (a .parts)) (now (a .joined)) (k .load-ticks .ensures (now (a .lengths))) (toZ-ofZ (f .tick)) (same-distance (toZ-ofZ (f .distance))) (toZ-ofZ (f .num-parts)) (toZ-ofZ (f .part)) (toZ-ofZ (f .crc)) (m .receive .ensures) in
     taken o (r .answer) (counts (r .warnings)) (r .ticks) e _ (now (a .kind)) _ (now (a .received)) _ (now (a .len)) _ (now (a .ticks)) _ (now (a .counts)) _ _
     (c .tell .ensures) (c .before .before .before .before .put-ticks .ensures) (c .before .before .before .before .before .before .before .row .ensures)
 

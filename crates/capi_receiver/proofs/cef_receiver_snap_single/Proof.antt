@@ -1,14 +1,12 @@
 -- `capi_receiver::cef_receiver_snap_single` meets its contract: by what `receive_single` answered. Assumes nothing.
-use mathlib.Core.Path.{_≡_, refl}
-use mathlib.Core.List.{List, []}
-use Prim.Native.Nat.{ℕ}
+use mathlib.Core.List.{[]}
 use mir.Facts.{toZ-ofZ}
 use denote.Ref.{now}
 use Rattle.definitions.specs.Receiver.{snapSingleCall}
 use Rattle.format.specs.Totals.{counts}
 use Rattle.receiver.specs.Moves.{single-moved}
 use Rattle.boundary_states.specs.Rows.{heldReceiver}
-use Rattle.capi_receiver.proofs.Calls.{taken-single}
+use Rattle.capi_receiver.proofs.Calls.{same-distance, taken-single}
 use borrow.Author.Needs.{needs}
 use Rattle.capi_receiver.proofs.cef_receiver_snap_single.Statement.{statement}
 use Rattle.capi_receiver.proofs.cef_receiver_snap_single.Tie as tie
@@ -39,9 +37,9 @@ returns c =
     let a = s .args in
     let f = s .fits in
     let h = heldReceiver (now (a .ticks)) (now (a .counts)) (now (a .lengths)) in
-    let o = snapSingleCall h (a .tick) (a .delta-tick) (a .crc) (now (a .«data»)) [] (now (a .joined)) in
+    let o = snapSingleCall h (a .tick) (record { ticks = a .distance }) (a .crc) (now (a .«data»)) [] (now (a .joined)) in
     let r = m .receive-single .result in
-    let e = single-moved (now (a .«data»)) [] (now (a .joined)) (k .load-ticks .ensures (now (a .lengths))) (toZ-ofZ (f .tick)) (toZ-ofZ (f .delta-tick)) (toZ-ofZ (f .crc)) (m .receive-single .ensures []) in
+    let e = single-moved (now (a .«data»)) [] (now (a .joined)) (k .load-ticks .ensures (now (a .lengths))) (toZ-ofZ (f .tick)) (same-distance (toZ-ofZ (f .distance))) (toZ-ofZ (f .crc)) (m .receive-single .ensures []) in
     taken-single o (r .answer) (counts (r .warnings)) (r .ticks) e _ (now (a .kind)) _ (now (a .received)) _ (now (a .len)) _ (now (a .ticks)) _ (now (a .counts)) _ _
     (c .tell .ensures) (c .before .before .before .before .put-ticks .ensures) (c .before .before .before .before .before .before .before .row .ensures)
 

@@ -25,10 +25,14 @@ returns : tie.Need-returns
 returns c = tells-nothing _ (c .enum-told .given .1) _ _ _
 
 returns-2 : tie.Need-returns-2
-returns-2 c = tells-delta _ (c .before .before .a .given .1) (toZ-ofZ {w = w32} (record { sfits = c .before .known-told .given .0 .1 })) (toZ-ofZ {w = w32} (record { sfits = c .before .known-told .given .1 .0 .1 })) (toZ-ofZ {w = w32} (record { sfits = c .before .known-told .given .1 .1 .1 .0 .1 })) _ _ _
+returns-2 c =
+    let t = c .before .before in
+    tells-delta _ (t .before .before .a .given .1) (toZ-ofZ {w = w32} (record { sfits = t .struct-told .given .0 .1 })) (toZ-ofZ {w = w32} (record { sfits = c .before .struct-told2 .given .0 .1 })) (toZ-ofZ {w = w32} (record { sfits = t .before .known-told .given .1 .1 .1 .0 .1 })) _ _ _
 
 returns-3 : tie.Need-returns-3
-returns-3 c = tells-empty _ (c .before .before .a2 .given .1) (toZ-ofZ {w = w32} (record { sfits = c .before .known-told2 .given .0 .1 })) (toZ-ofZ {w = w32} (record { sfits = c .before .known-told2 .given .1 .0 .1 })) _ _ _
+returns-3 c =
+    let t = c .before .before in
+    tells-empty _ (t .before .before .a2 .given .1) (toZ-ofZ {w = w32} (record { sfits = t .struct-told3 .given .0 .1 })) (toZ-ofZ {w = w32} (record { sfits = c .before .struct-told4 .given .0 .1 })) _ _ _
 
 returns-4 : tie.Need-returns-4
 returns-4 c = tells-refused _ (c .before .before .a3 .given .1) _ _ _ _ (c .error-number .ensures)

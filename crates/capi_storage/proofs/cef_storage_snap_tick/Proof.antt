@@ -29,7 +29,12 @@ error-number-requires : tie.Need-error-number-requires
 error-number-requires c κs = search needs
 
 returns : tie.Need-returns
-returns c = walk-found _ (tick-moved (now (c .before .before .before .before .before .args .area)) (c .before .before .before .before .before .args .i) (c .before .before .before .before .load-storage .ensures .0) (c .before .before .before .snap-tick .ensures) ∙ ap heldTick (c .before .t .given .1)) _ _ _ (toZ-ofZ {w = w32} (record { sfits = c .known-told .given .0 .1 }))
+returns c =
+    let t = c .before .before in
+    let k = t .before .before in
+    let l = k .before in
+    let a = l .before .args in
+    walk-found _ (tick-moved (now (a .area)) (a .i) (l .load-storage .ensures .0) (k .snap-tick .ensures) ∙ ap heldTick (t .t .given .1)) _ _ _ (toZ-ofZ {w = w32} (record { sfits = c .struct-told .given .0 .1 }))
 
 returns-2 : tie.Need-returns-2
 returns-2 c = walk-found _ (tick-moved (now (c .before .before .before .before .args .area)) (c .before .before .before .before .args .i) (c .before .before .before .load-storage .ensures .0) (c .before .before .snap-tick .ensures) ∙ ap heldTick (c .enum-told .given .1)) _ _ _ refl

@@ -22,7 +22,7 @@ error-number-requires-2 : tie.Need-error-number-requires-2
 error-number-requires-2 c κs = search needs
 
 returns : tie.Need-returns
-returns c = tells-delta _ (c .before .a .given .1) (toZ-ofZ {w = w32} (record { sfits = c .known-told .given .0 .1 })) _ _ _
+returns c = tells-delta _ (c .before .before .a .given .1) (toZ-ofZ {w = w32} (record { sfits = c .struct-told .given .0 .1 })) _ _ _
 
 returns-2 : tie.Need-returns-2
 returns-2 c = tells-clash _ (c .before .before .a2 .given .1) (toZ-ofZ {w = w32} (record { sfits = c .before .known-told2 .given .0 .1 })) _ _ _ _ (c .error-number .ensures)

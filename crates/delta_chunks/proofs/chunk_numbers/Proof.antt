@@ -1,53 +1,42 @@
 -- `delta_chunks::chunk_numbers` meets its contract: by the length of the bytes and the place. Assumes nothing.
-use mathlib.Core.Path.{_≡_, _∙_}
 use borrow.Author.Needs.{needs}
-use mir.Syntax.{w32}
-use mir.Val.{ofZ, toZ}
 use mir.Facts.{toZ-ofZ}
-use Rattle.definitions.specs.Ints.{wrappingSub}
 use Rattle.delta_chunks.proofs.Cuts.{too-long, no-second, no-part, empty-told, single-told, part-told}
 use Rattle.delta_chunks.proofs.chunk_numbers.Statement.{statement}
 use Rattle.delta_chunks.proofs.chunk_numbers.Tie as tie
-
--- the distance
-distance : (c : tie.After-wrapping-sub) → let s = c .before .before .before in toZ w32 (ofZ w32 (c .wrapping-sub .result)) ≡ wrappingSub (s .args .tick) (s .args .delta-tick)
-distance c =
-    let s = c .before .before .before in
-    toZ-ofZ (record { sfits = c .wrapping-sub .ok })
-    ∙ rw (toZ-ofZ (s .fits .tick), toZ-ofZ (s .fits .delta-tick)) at (c .wrapping-sub .ensures)
 
 returns : tie.Need-returns
 returns c =
     let s = c .before .before in
     let a = s .args in
-    too-long (a .tick) (a .delta-tick) (a .«data» .now) (a .crc) (a .i) (c .if1 .taken)
+    too-long (a .tick .0) (a .delta-tick .0) (a .«data» .now) (a .crc) (a .i) (c .if1 .taken)
 
-wrapping-sub-requires : tie.Need-wrapping-sub-requires
-wrapping-sub-requires c κs = search needs
+since-requires : tie.Need-since-requires
+since-requires c κs = search needs
 
 returns-2 : tie.Need-returns-2
 returns-2 c =
     let s = c .before .before .before .before .before in
     let a = s .args in
-    empty-told (a .tick) (a .delta-tick) (a .«data» .now) (a .crc) (c .before .before .before .if1 .left) (a .i) _ _ (c .before .if2 .taken) (c .if3 .taken) (toZ-ofZ (s .fits .tick)) (distance (c .before .before))
+    empty-told (a .tick .0) (a .delta-tick .0) (a .«data» .now) (a .crc) (c .before .before .before .if1 .left) (a .i) _ (c .before .if2 .taken) (c .if3 .taken) (c .before .before .since .ensures)
 
 returns-3 : tie.Need-returns-3
 returns-3 c =
     let s = c .before .before .before .before .before in
     let a = s .args in
-    no-second (a .tick) (a .delta-tick) (a .«data» .now) (a .crc) (c .before .before .before .if1 .left) (a .i) (search needs) (c .if3 .left)
+    no-second (a .tick .0) (a .delta-tick .0) (a .«data» .now) (a .crc) (c .before .before .before .if1 .left) (a .i) (search needs) (c .if3 .left)
 
 returns-4 : tie.Need-returns-4
 returns-4 c =
     let s = c .before .before .before .before .before .before in
     let a = s .args in
-    single-told (a .tick) (a .delta-tick) (a .«data» .now) (a .crc) (c .before .before .before .before .if1 .left) (a .i) _ _ _ (c .before .before .if2 .left) (c .before .if4 .taken) (c .if5 .taken) (toZ-ofZ (s .fits .tick)) (distance (c .before .before .before)) (toZ-ofZ (s .fits .crc))
+    single-told (a .tick .0) (a .delta-tick .0) (a .«data» .now) (a .crc) (c .before .before .before .before .if1 .left) (a .i) _ _ (c .before .before .if2 .left) (c .before .if4 .taken) (c .if5 .taken) (c .before .before .before .since .ensures) (toZ-ofZ (s .fits .crc))
 
 returns-5 : tie.Need-returns-5
 returns-5 c =
     let s = c .before .before .before .before .before .before in
     let a = s .args in
-    no-second (a .tick) (a .delta-tick) (a .«data» .now) (a .crc) (c .before .before .before .before .if1 .left) (a .i) (c .before .if4 .taken) (c .if5 .left)
+    no-second (a .tick .0) (a .delta-tick .0) (a .«data» .now) (a .crc) (c .before .before .before .before .if1 .left) (a .i) (c .before .if4 .taken) (c .if5 .left)
 
 add-n : tie.Need-add-n
 add-n c = search needs
@@ -59,7 +48,7 @@ returns-6 : tie.Need-returns-6
 returns-6 c =
     let s = c .before .before .before .before .before .before in
     let a = s .args in
-    no-part (a .tick) (a .delta-tick) (a .«data» .now) (a .crc) (c .before .before .before .before .if1 .left) (a .i) (c .before .if4 .left) (c .if6 .taken)
+    no-part (a .tick .0) (a .delta-tick .0) (a .«data» .now) (a .crc) (c .before .before .before .before .if1 .left) (a .i) (c .before .if4 .left) (c .if6 .taken)
 
 cast-t17 : tie.Need-cast-t17
 cast-t17 c = search needs
@@ -71,14 +60,14 @@ returns-7 : tie.Need-returns-7
 returns-7 c =
     let s = c .before .before .before .before .before .before in
     let a = s .args in
-    part-told (a .tick) (a .delta-tick) (a .«data» .now) (a .crc) (c .before .before .before .before .if1 .left) (a .i) _ _ _ (c .before .if4 .left) (c .if6 .left) (toZ-ofZ (s .fits .tick)) (distance (c .before .before .before)) (toZ-ofZ (s .fits .crc))
+    part-told (a .tick .0) (a .delta-tick .0) (a .«data» .now) (a .crc) (c .before .before .before .before .if1 .left) (a .i) _ _ (c .before .if4 .left) (c .if6 .left) (c .before .before .before .since .ensures) (toZ-ofZ (s .fits .crc))
 
 pub chunk-numbers-spec : {M : Type 1} → statement M
 chunk-numbers-spec =
     tie.close
     (tie.spec
     returns
-    wrapping-sub-requires
+    since-requires
     returns-2
     returns-3
     returns-4

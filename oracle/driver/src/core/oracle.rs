@@ -18,6 +18,13 @@ impl Tally {
     }
 }
 
+/// The counts that are held against the Rust's: all but `DifferingAttributes`,
+/// which the Rust counts by another rule.
+pub fn comparable(mut warnings: Warnings) -> Warnings {
+    warnings.0[Warnings::DIFFERING_ATTRIBUTES] = 0;
+    warnings
+}
+
 impl Warn<libtw2_packer::Warning> for Tally {
     fn warn(&mut self, warning: libtw2_packer::Warning) {
         self.count(match warning {

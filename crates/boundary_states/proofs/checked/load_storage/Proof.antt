@@ -16,27 +16,28 @@ size-requires c κs = search needs
 element-copy-out-tick-in : tie.Need-element-copy-out-tick-in
 element-copy-out-tick-in c = search needs
 
-element-copy-out-tick-in-2 : tie.Need-element-copy-out-tick-in-2
-element-copy-out-tick-in-2 c = search needs
+element-copy-out-t13 : tie.Need-element-copy-out-t13
+element-copy-out-t13 c = search needs
 
 tick-in-requires : tie.Need-tick-in-requires
 tick-in-requires c κs = search needs
 
-element-copy-out-tick-in-3 : tie.Need-element-copy-out-tick-in-3
-element-copy-out-tick-in-3 c = search needs
+element-copy-out-tick-in-2 : tie.Need-element-copy-out-tick-in-2
+element-copy-out-tick-in-2 c = search needs
 
-element-copy-out-tick-in-4 : tie.Need-element-copy-out-tick-in-4
-element-copy-out-tick-in-4 c = search needs
+element-copy-out-t13-2 : tie.Need-element-copy-out-t13-2
+element-copy-out-t13-2 c = search needs
 
 tick-in-requires-2 : tie.Need-tick-in-requires-2
 tick-in-requires-2 c κs = search needs
 
 returns : tie.Need-returns
 returns c =
-    let a = c .before .before .before .before .before .before .before .before .args in
-    let n = c .before .before .before .before .before .before .size .ensures in
-    (storage-loaded (record { count = c .before .before .before .before .before .before .size .result; «ack_tick» = c .before .before .before .tick-in .result; «delta_tick» = c .tick-in2 .result }) (now (a .ticks)) (now (a .counts)) (n .0) (c .before .before .before .tick-in .ensures) (c .tick-in2 .ensures) (toZ-ofZ {w = w32} (record { sfits = c .before .before .before .before .tick-in-arg2 .given })) (toZ-ofZ {w = w32} (record { sfits = c .before .tick-in-arg4 .given })), n .1)
+    let t = c .before .before .before in
+    let s = t .before .before .before in
+    let a = s .before .before .args in
+    (storage-loaded (record { count = s .size .result; «ack_tick» = t .tick-in .result; «delta_tick» = c .tick-in2 .result }) (now (a .ticks)) (now (a .counts)) (s .size .ensures .0) (t .tick-in .ensures) (c .tick-in2 .ensures) (toZ-ofZ {w = w32} (record { sfits = t .before .t13 .given })) (toZ-ofZ {w = w32} (record { sfits = c .before .t132 .given })), s .size .ensures .1)
 
 pub load-storage-spec : {M : Type 1} → statement M
 load-storage-spec =
-    tie.close (tie.spec element-copy-out-size size-requires element-copy-out-tick-in element-copy-out-tick-in-2 tick-in-requires element-copy-out-tick-in-3 element-copy-out-tick-in-4 tick-in-requires-2 returns)
+    tie.close (tie.spec element-copy-out-size size-requires element-copy-out-tick-in element-copy-out-t13 tick-in-requires element-copy-out-tick-in-2 element-copy-out-t13-2 tick-in-requires-2 returns)

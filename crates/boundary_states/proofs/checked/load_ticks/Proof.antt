@@ -10,23 +10,23 @@ use Rattle.boundary_states.proofs.checked.load_ticks.Tie as tie
 element-copy-out-tick-in : tie.Need-element-copy-out-tick-in
 element-copy-out-tick-in c = search needs
 
-element-copy-out-tick-in-2 : tie.Need-element-copy-out-tick-in-2
-element-copy-out-tick-in-2 c = search needs
+element-copy-out-crc : tie.Need-element-copy-out-crc
+element-copy-out-crc c = search needs
 
 tick-in-requires : tie.Need-tick-in-requires
 tick-in-requires c κs = search needs
 
-element-copy-out-tick : tie.Need-element-copy-out-tick
-element-copy-out-tick c = search needs
+element-copy-out-crc-2 : tie.Need-element-copy-out-crc-2
+element-copy-out-crc-2 c = search needs
 
-element-copy-out-delta-tick : tie.Need-element-copy-out-delta-tick
-element-copy-out-delta-tick c = search needs
+element-copy-out-crc-3 : tie.Need-element-copy-out-crc-3
+element-copy-out-crc-3 c = search needs
 
 element-copy-out-num-parts : tie.Need-element-copy-out-num-parts
 element-copy-out-num-parts c = search needs
 
-element-copy-out-crc : tie.Need-element-copy-out-crc
-element-copy-out-crc c = search needs
+element-copy-out-crc-4 : tie.Need-element-copy-out-crc-4
+element-copy-out-crc-4 c = search needs
 
 element-copy-out-current-in : tie.Need-element-copy-out-current-in
 element-copy-out-current-in c = search needs
@@ -36,9 +36,10 @@ current-in-requires c κs = search needs
 
 returns : tie.Need-returns
 returns c =
-    let a = c .before .before .before .before .before .before .before .before .before .args in
-    ticks-loaded (record { «previous_tick» = c .before .before .before .before .before .before .tick-in .result; current = c .current-in .result }) (now (a .ticks)) (now (a .counts)) (c .before .before .before .before .before .before .tick-in .ensures) (c .current-in .ensures) (toZ-ofZ {w = w32} (record { sfits = c .before .before .before .before .before .before .before .tick-in-arg2 .given })) (toZ-ofZ {w = w32} (record { sfits = c .before .before .before .before .before .tick .given })) (toZ-ofZ {w = w32} (record { sfits = c .before .before .before .before .delta-tick .given })) (toZ-ofZ {w = w32} (record { sfits = c .before .before .crc .given }))
+    let s = c .before .before .before .before .before .before in
+    let a = s .before .before .before .args in
+    ticks-loaded (record { «previous_tick» = s .tick-in .result; current = c .current-in .result }) (now (a .ticks)) (now (a .counts)) (s .tick-in .ensures) (c .current-in .ensures) (toZ-ofZ {w = w32} (record { sfits = s .before .crc .given })) (toZ-ofZ {w = w32} (record { sfits = c .before .before .before .before .before .crc2 .given })) (toZ-ofZ {w = w32} (record { sfits = c .before .before .before .before .crc3 .given })) (toZ-ofZ {w = w32} (record { sfits = c .before .before .crc4 .given }))
 
 pub load-ticks-spec : {M : Type 1} → statement M
 load-ticks-spec =
-    tie.close (tie.spec element-copy-out-tick-in element-copy-out-tick-in-2 tick-in-requires element-copy-out-tick element-copy-out-delta-tick element-copy-out-num-parts element-copy-out-crc element-copy-out-current-in current-in-requires returns)
+    tie.close (tie.spec element-copy-out-tick-in element-copy-out-crc tick-in-requires element-copy-out-crc-2 element-copy-out-crc-3 element-copy-out-num-parts element-copy-out-crc-4 element-copy-out-current-in current-in-requires returns)

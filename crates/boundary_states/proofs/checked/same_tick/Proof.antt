@@ -1,8 +1,8 @@
 -- `boundary_states::checked::same_tick` meets its contract: by what is there. Assumes nothing.
 use mathlib.Core.Path.{ap}
 use borrow.Author.Needs.{needs}
-use Rattle.format.specs.Ticks.{tickOf}
-use Rattle.boundary_states.proofs.Comparing.{same-tick, both-there, first-there, second-there, none-there}
+use Rattle.ticks.specs.Ticks.{tickOf}
+use Rattle.boundary_states.proofs.Comparing.{same-int, both-there, first-there, second-there, none-there}
 use Rattle.boundary_states.proofs.checked.same_tick.Statement.{statement}
 use Rattle.boundary_states.proofs.checked.same_tick.Tie as tie
 
@@ -33,9 +33,15 @@ enum-told-4 c = search needs
 returns-3 : tie.Need-returns-3
 returns-3 c = first-there (ap tickOf (c .before .before .before .a .given .1)) (ap tickOf (c .enum-told4 .given .1))
 
+is-same-requires : tie.Need-is-same-requires
+is-same-requires c κs = search needs
+
 returns-4 : tie.Need-returns-4
-returns-4 c = both-there (ap tickOf (c .before .before .before .before .a .given .1)) (ap tickOf (c .before .b .given .1)) (same-tick (record { sfits = c .before .before .before .known-told .given .0 .1 }) (record { sfits = c .known-told2 .given .0 .1 }))
+returns-4 c =
+    let b = c .before in
+    let a = b .before .before .before in
+    both-there (ap tickOf (a .before .a .given .1)) (ap tickOf (b .before .b .given .1)) (rw (c .is-same .ensures) (same-int (record { sfits = a .known-told .given .0 .1 .1 .0 .1 }) (record { sfits = b .known-told2 .given .0 .1 .1 .0 .1 })))
 
 pub same-tick-spec : {M : Type 1} → statement M
 same-tick-spec =
-    tie.close (tie.spec enum-known-a enum-told enum-told-2 enum-told-3 returns returns-2 enum-known-b enum-told-4 returns-3 returns-4)
+    tie.close (tie.spec enum-known-a enum-told enum-told-2 enum-told-3 returns returns-2 enum-known-b enum-told-4 returns-3 is-same-requires returns-4)

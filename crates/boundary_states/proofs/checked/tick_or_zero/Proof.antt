@@ -1,7 +1,5 @@
 -- `boundary_states::checked::tick_or_zero` meets its contract: by whether there is one. Assumes nothing.
 use borrow.Author.Needs.{needs}
-use mir.Syntax.{w32}
-use mir.Facts.{toZ-ofZ}
 use Rattle.boundary_states.proofs.checked.tick_or_zero.Statement.{statement}
 use Rattle.boundary_states.proofs.checked.tick_or_zero.Tie as tie
 
@@ -12,7 +10,7 @@ enum-told : tie.Need-enum-told
 enum-told c = search needs
 
 returns : tie.Need-returns
-returns c = rw (c .before .tick .given .1, toZ-ofZ {w = w32} {z = c .before .tick .given .0 .0} (record { sfits = c .known-told .given .0 .1 }))
+returns c = rw (c .before .tick .given .1)
 
 returns-2 : tie.Need-returns-2
 returns-2 c = rw (c .enum-told .given .1)

@@ -24,7 +24,9 @@ tick-flag-requires-2 c κs = search needs
 
 returns : tie.Need-returns
 returns c =
-    storage-written (c .before .before .before .before .before .before .before .args .s) (toZ-ofZ {w = w32} (record { sfits = c .before .before .before .before .before .tick-or-zero .ok }) ∙ c .before .before .before .before .before .tick-or-zero .ensures) (toZ-ofZ {w = w32} (record { sfits = c .before .before .before .before .tick-or-zero2 .ok }) ∙ c .before .before .before .before .tick-or-zero2 .ensures) (c .before .before .tick-flag .ensures) (c .before .tick-flag2 .ensures)
+    let d = c .before .before .before .before in
+    let t = d .before .before .before in
+    storage-written (t .before .before .args .s) (toZ-ofZ {w = w32} (record { sfits = d .before .struct-told .given .0 .1 }) ∙ t .tick-or-zero .ensures) (toZ-ofZ {w = w32} (record { sfits = d .struct-told2 .given .0 .1 }) ∙ d .before .before .tick-or-zero2 .ensures) (c .before .before .tick-flag .ensures) (c .before .tick-flag2 .ensures)
 
 pub write-storage-spec : {M : Type 1} → statement M
 write-storage-spec =

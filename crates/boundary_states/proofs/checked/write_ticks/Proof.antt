@@ -21,9 +21,10 @@ current-or-zeros-requires c κs = search needs
 
 returns : tie.Need-returns
 returns c =
-    let o = c .before .before .before .current-or-zeros in
-    let t = c .before .before .struct-told .given in
-    ticks-written (c .before .before .before .before .before .before .before .args .r) (o .result) (o .ensures) (toZ-ofZ {w = w32} (record { sfits = c .before .before .before .before .before .before .tick-or-zero .ok }) ∙ c .before .before .before .before .before .before .tick-or-zero .ensures) (toZ-ofZ {w = w32} (record { sfits = t .0 .1 })) (toZ-ofZ {w = w32} (record { sfits = t .1 .0 .1 })) (toZ-ofZ {w = w32} (record { sfits = t .1 .1 .1 .0 .1 })) (c .before .before .before .before .before .tick-flag .ensures) (c .before .before .before .before .current-flag .ensures)
+    let r = c .before .before in
+    let o = r .before .before .before .before .before .before in
+    let p = o .before .before .before in
+    ticks-written (p .before .args .r) (o .current-or-zeros .result) (o .current-or-zeros .ensures) (toZ-ofZ {w = w32} (record { sfits = r .before .before .before .struct-told .given .0 .1 }) ∙ p .tick-or-zero .ensures) (toZ-ofZ {w = w32} (record { sfits = r .before .before .struct-told2 .given .0 .1 })) (toZ-ofZ {w = w32} (record { sfits = r .before .struct-told3 .given .0 .1 })) (toZ-ofZ {w = w32} (record { sfits = r .struct-told4 .given .1 .1 .1 .0 .1 })) (o .before .before .tick-flag .ensures) (o .before .current-flag .ensures)
 
 pub write-ticks-spec : {M : Type 1} → statement M
 write-ticks-spec =

@@ -1,6 +1,5 @@
 -- `checked::complete` meets its contract: by whether the base is held. Assumes nothing.
 use mathlib.Core.Path.{sym, _∙_}
-use mir.Facts.{toZ-ofZ}
 use Rattle.logbook.proofs.Notes.{complete-held, complete-unknown}
 use borrow.Author.Needs.{needs}
 use Rattle.logbook.proofs.checked.complete.Statement.{statement}
@@ -17,19 +16,18 @@ same-length c = search needs
 
 returns : tie.Need-returns
 returns c =
-    let s = c .before .before .before .before .before .before .before in
-    let e = rw (toZ-ofZ (s .fits .base)) at (c .before .before .before .before .has-base .ensures) in
-    let h = rw (toZ-ofZ (s .fits .tick)) at (c .before .holding .ensures) in
-    rw (toZ-ofZ (s .fits .tick)) (complete-held (s .args .tick) (s .args .base) _ _ (sym e ∙ c .before .before .before .if1 .taken) h)
+    let b = c .before .before .before .before in
+    let a = b .before .before .before .args in
+    complete-held (a .tick .0) (a .base .0) _ _ (sym (b .has-base .ensures) ∙ c .before .before .before .if1 .taken) (c .before .holding .ensures)
 
 same-length-2 : tie.Need-same-length-2
 same-length-2 c = search needs
 
 returns-2 : tie.Need-returns-2
 returns-2 c =
-    let s = c .before .before .before .before in
-    let e = rw (toZ-ofZ (s .fits .base)) at (c .before .has-base .ensures) in
-    rw (toZ-ofZ (s .fits .tick)) (complete-unknown (s .args .tick) (s .args .base) _ _ (sym e ∙ c .if1 .left))
+    let b = c .before in
+    let a = b .before .before .before .args in
+    complete-unknown (a .tick .0) (a .base .0) _ _ (sym (b .has-base .ensures) ∙ c .if1 .left)
 
 pub complete-spec : {M : Type 1} → statement M
 complete-spec =

@@ -1,23 +1,20 @@
 -- `checked::late` meets its contract. Assumes nothing.
 use mathlib.Core.Path.{sym, _∙_}
-use mir.Facts.{toZ-ofZ}
-use mir.Syntax.{w32}
 use Rattle.logbook.proofs.Notes.{late-first, late-below, late-same}
 use borrow.Author.Needs.{needs}
 use Rattle.logbook.proofs.checked.late.Statement.{statement}
 use Rattle.logbook.proofs.checked.late.Tie as tie
 
-signed-less-requires : tie.Need-signed-less-requires
-signed-less-requires c κs = search needs
+is-before-requires : tie.Need-is-before-requires
+is-before-requires c κs = search needs
 
 returns : tie.Need-returns
 returns c =
-    let s = c .before .before .before .before .before in
-    let e = rw (toZ-ofZ {w = w32} {z = s .args .g .newest} (record { sfits = c .before .before .struct-told .given .1 .0 .1 }), toZ-ofZ (s .fits .tick)) at (c .before .signed-less .ensures) in
-    late-below (s .args .g .newest) _ _ _ (c .before .before .before .if1 .taken) (sym e ∙ c .if2 .taken)
+    let s = c .before .before .before in
+    late-below (s .before .before .args .g .newest .0) _ _ _ (s .if1 .taken) (sym (c .before .is-before .ensures) ∙ c .if2 .taken)
 
-same-requires : tie.Need-same-requires
-same-requires c κs = search needs
+is-same-requires : tie.Need-is-same-requires
+is-same-requires c κs = search needs
 
 all-came-requires : tie.Need-all-came-requires
 all-came-requires c κs = search needs
@@ -27,22 +24,21 @@ both-requires c κs = search needs
 
 returns-2 : tie.Need-returns-2
 returns-2 c =
-    let s = c .before .before .before .before .before .before .before .before .before in
-    let g = s .args .g in
-    let e = rw (toZ-ofZ {w = w32} {z = g .newest} (record { sfits = c .before .before .before .before .before .before .struct-told .given .1 .0 .1 }), toZ-ofZ (s .fits .tick)) at (c .before .before .before .before .before .signed-less .ensures) in
-    let q = rw (toZ-ofZ {w = w32} {z = g .newest} (record { sfits = c .before .before .before .before .before .before .struct-told .given .1 .0 .1 }), toZ-ofZ (s .fits .tick)) at (c .before .before .same .ensures) in
-    late-same (g .newest) _ _ _ (c .before .before .before .before .before .before .before .if1 .taken) (sym e ∙ c .before .before .before .before .if2 .left) (c .both .ensures) q (c .before .all-came .ensures)
+    let q = c .before .before in
+    let b = q .before .before in
+    let s = b .before .before in
+    late-same (s .before .before .args .g .newest .0) _ _ _ (s .if1 .taken) (sym (b .is-before .ensures) ∙ q .before .if2 .left) (c .both .ensures) (q .is-same .ensures) (c .before .all-came .ensures)
 
 returns-3 : tie.Need-returns-3
-returns-3 c = late-first (c .before .before .args .g .newest) _ _ _ (c .if1 .left)
+returns-3 c = late-first (c .before .before .args .g .newest .0) _ _ _ (c .if1 .left)
 
 pub late-spec : {M : Type 1} → statement M
 late-spec =
     tie.close
     (tie.spec
-    signed-less-requires
+    is-before-requires
     returns
-    same-requires
+    is-same-requires
     all-came-requires
     both-requires
     returns-2

@@ -4,7 +4,6 @@ use native.Mathlib.Omega.{arith}
 use mathlib.Core.List.{List, _∷_}
 use Prim.Native.Nat.{ℕ}
 use lib.ListN.{length-set}
-use mir.Facts.{toZ-ofZ}
 use Rattle.definitions.specs.DeltaReading.{elem}
 use Rattle.logbook.specs.States.{logbookOf}
 use Rattle.logbook.proofs.Lists.{part-stored}
@@ -24,10 +23,9 @@ same-length c = search needs
 
 returns : tie.Need-returns
 returns c =
-    let s = c .before .before .before .before .before in
-    let a = s .args in
-    let e = rw (toZ-ofZ (s .fits .tick)) at (c .before .before .late .ensures) in
-    note-late (logbookOf (a .g) (a .came .now) (a .held .now)) (a .tick) (a .base) (a .part) (a .count) (sym e ∙ c .before .if1 .taken)
+    let l = c .before .before in
+    let a = l .before .before .before .args in
+    note-late (logbookOf (a .g) (a .came .now) (a .held .now)) (a .tick .0) (a .base .0) (a .part) (a .count) (sym (l .late .ensures) ∙ c .before .if1 .taken)
     ∙ c .refused .ensures (a .came .now) (a .held .now)
 
 came-of-requires : tie.Need-came-of-requires
@@ -44,12 +42,11 @@ same-length-2 c = search needs
 
 returns-2 : tie.Need-returns-2
 returns-2 c =
-    let s = c .before .before .before .before .before .before .before .before .before in
-    let a = s .args in
-    let f = toZ-ofZ (s .fits .tick) in
-    let e = rw f at (c .before .before .before .before .before .before .late .ensures) in
-    let k = rw f at (c .before .before .before .before .came-of .ensures .0 (a .came .now)) in
-    note-again (logbookOf (a .g) (a .came .now) (a .held .now)) (a .tick) (a .base) (a .part) (a .count) (sym e ∙ c .before .before .before .before .before .if1 .left) (ap (elem (a .part)) (sym k) ∙ sym (c .before .before .elem .ensures) ∙ c .before .if2 .taken)
+    let m = c .before .before in
+    let o = m .before .before in
+    let l = o .before .before in
+    let a = l .before .before .before .args in
+    note-again (logbookOf (a .g) (a .came .now) (a .held .now)) (a .tick .0) (a .base .0) (a .part) (a .count) (sym (l .late .ensures) ∙ o .before .if1 .left) (ap (elem (a .part)) (sym (o .came-of .ensures .0 (a .came .now))) ∙ sym (m .elem .ensures) ∙ c .before .if2 .taken)
     ∙ c .refused2 .ensures (a .came .now) (a .held .now)
 
 mul-came : tie.Need-mul-came
@@ -72,15 +69,13 @@ same-length-4 c = search needs
 
 returns-3 : tie.Need-returns-3
 returns-3 c =
-    let s = c .before .before .before .before .before .before .before .before .before .before .before .before in
-    let a = s .args in
-    let f = toZ-ofZ (s .fits .tick) in
-    let e = rw f at (c .before .before .before .before .before .before .before .before .before .late .ensures) in
-    let n = c .before .before .before .before .before .before .before .came-of .result in
-    let k = rw f at (c .before .before .before .before .before .before .before .came-of .ensures .0 (a .came .now)) in
-    let m = part-stored n (a .came .now) (a .part) (omega arith) ∙ ap (λ (l : List ℕ). a .part ∷ l) k in
-    let q = rw (f, toZ-ofZ (s .fits .base)) at (c .before .part-came .ensures (a .came .now)) in
-    note-new (logbookOf (a .g) (a .came .now) (a .held .now)) (a .tick) (a .base) (a .part) (a .count) (sym e ∙ c .before .before .before .before .before .before .before .before .if1 .left) (ap (elem (a .part)) (sym k) ∙ sym (c .before .before .before .before .before .elem .ensures) ∙ c .before .before .before .before .if2 .left) m q
+    let m = c .before .before .before .before .before in
+    let o = m .before .before in
+    let l = o .before .before in
+    let a = l .before .before .before .args in
+    let k = o .came-of .ensures .0 (a .came .now) in
+    let q = part-stored (o .came-of .result) (a .came .now) (a .part) (omega arith) ∙ ap (λ (others : List ℕ). a .part ∷ others) k in
+    note-new (logbookOf (a .g) (a .came .now) (a .held .now)) (a .tick .0) (a .base .0) (a .part) (a .count) (sym (l .late .ensures) ∙ o .before .if1 .left) (ap (elem (a .part)) (sym k) ∙ sym (m .elem .ensures) ∙ c .before .before .before .before .if2 .left) q (c .before .part-came .ensures (a .came .now))
 
 pub note-spec : {M : Type 1} → statement M
 note-spec =

@@ -10,8 +10,8 @@ use Rattle.logbook.proofs.checked.note_message.Tie as tie
 enum-known-m : tie.Need-enum-known-m
 enum-known-m c = search needs
 
-wrapping-sub-requires : tie.Need-wrapping-sub-requires
-wrapping-sub-requires c κs = search needs
+minus-requires : tie.Need-minus-requires
+minus-requires c κs = search needs
 
 num-requires : tie.Need-num-requires
 num-requires c κs = search needs
@@ -25,8 +25,8 @@ note-requires c κs = search needs
 enum-known-m-2 : tie.Need-enum-known-m-2
 enum-known-m-2 c = search needs
 
-wrapping-sub-requires-2 : tie.Need-wrapping-sub-requires-2
-wrapping-sub-requires-2 c κs = search needs
+minus-requires-2 : tie.Need-minus-requires-2
+minus-requires-2 c κs = search needs
 
 note-requires-2 : tie.Need-note-requires-2
 note-requires-2 c κs = search needs
@@ -34,8 +34,8 @@ note-requires-2 c κs = search needs
 enum-known-m-3 : tie.Need-enum-known-m-3
 enum-known-m-3 c = search needs
 
-wrapping-sub-requires-3 : tie.Need-wrapping-sub-requires-3
-wrapping-sub-requires-3 c κs = search needs
+minus-requires-3 : tie.Need-minus-requires-3
+minus-requires-3 c κs = search needs
 
 note-requires-3 : tie.Need-note-requires-3
 note-requires-3 c κs = search needs
@@ -48,18 +48,15 @@ same-length-2 c = search needs
 
 returns : tie.Need-returns
 returns c =
-    let a = c .before .before .before .before .before .before .before .before .before .before .before .before .before .args in
-    let k = c .before .before .before .before .before .before .before .before .before .known-told .given in
-    let w = c .before .before .before .before .before .before .before .before .wrapping-sub in
+    let w = c .before .before .before .before .before .before .before .before in
+    let k = w .before .known-told .given in
+    let a = w .before .before .before .before .before .args in
     noted-part
     (logbookOf (a .g) (a .came .now) (a .held .now))
-    (c .before .before .before .before .before .before .before .before .before .before .m .given .1)
-    (toZ-ofZ {w = w32} (record { sfits = k .0 .1 }))
-    (toZ-ofZ {w = w32} (record { sfits = k .1 .0 .1 }))
+    (w .before .before .m .given .1)
     (toZ-ofZ {w = w32} (record { sfits = k .1 .1 .0 .1 }))
     (toZ-ofZ {w = w32} (record { sfits = k .1 .1 .1 .0 .1 }))
-    (w .ensures)
-    (toZ-ofZ (record { sfits = w .ok }))
+    (w .minus .ensures)
     (c .before .before .before .before .before .before .before .num .ensures .0)
     (c .before .before .before .before .before .before .num2 .ensures .0)
     (c .before .before .before .note .ensures)
@@ -72,16 +69,12 @@ same-length-4 c = search needs
 
 returns-2 : tie.Need-returns-2
 returns-2 c =
-    let a = c .before .before .before .before .before .before .before .before .before .before .before .args in
-    let k = c .before .before .before .before .before .before .before .known-told2 .given in
-    let w = c .before .before .before .before .before .before .wrapping-sub2 in
+    let w = c .before .before .before .before .before .before in
+    let a = w .before .before .before .before .before .args in
     noted-single
     (logbookOf (a .g) (a .came .now) (a .held .now))
-    (c .before .before .before .before .before .before .before .before .m2 .given .1)
-    (toZ-ofZ {w = w32} (record { sfits = k .0 .1 }))
-    (toZ-ofZ {w = w32} (record { sfits = k .1 .0 .1 }))
-    (w .ensures)
-    (toZ-ofZ (record { sfits = w .ok }))
+    (w .before .before .m2 .given .1)
+    (w .minus2 .ensures)
     (c .before .before .before .note2 .ensures)
 
 same-length-5 : tie.Need-same-length-5
@@ -92,16 +85,12 @@ same-length-6 c = search needs
 
 returns-3 : tie.Need-returns-3
 returns-3 c =
-    let a = c .before .before .before .before .before .before .before .before .before .before .before .args in
-    let k = c .before .before .before .before .before .before .before .known-told3 .given in
-    let w = c .before .before .before .before .before .before .wrapping-sub3 in
+    let w = c .before .before .before .before .before .before in
+    let a = w .before .before .before .before .before .args in
     noted-empty
     (logbookOf (a .g) (a .came .now) (a .held .now))
-    (c .before .before .before .before .before .before .before .before .m3 .given .1)
-    (toZ-ofZ {w = w32} (record { sfits = k .0 .1 }))
-    (toZ-ofZ {w = w32} (record { sfits = k .1 .0 .1 }))
-    (w .ensures)
-    (toZ-ofZ (record { sfits = w .ok }))
+    (w .before .before .m3 .given .1)
+    (w .minus3 .ensures)
     (c .before .before .before .note3 .ensures)
 
 pub note-message-spec : {M : Type 1} → statement M
@@ -109,15 +98,15 @@ note-message-spec =
     tie.close
     (tie.spec
     enum-known-m
-    wrapping-sub-requires
+    minus-requires
     num-requires
     num-requires-2
     note-requires
     enum-known-m-2
-    wrapping-sub-requires-2
+    minus-requires-2
     note-requires-2
     enum-known-m-3
-    wrapping-sub-requires-3
+    minus-requires-3
     note-requires-3
     same-length
     same-length-2

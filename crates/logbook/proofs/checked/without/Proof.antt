@@ -9,14 +9,13 @@ use Rattle.logbook.specs.States.{ticksIn}
 use Rattle.logbook.proofs.Lists.{Keeps, keeps-none, keeps-less, keeps-more, same-out, same-left}
 use mir.Facts.{toZ-ofZ}
 use mir.Syntax.{w32}
-use mir.Val.{toZ, ofZ}
 use borrow.Author.Needs.{needs}
 use Rattle.logbook.proofs.checked.without.Statement.{statement}
 use Rattle.logbook.proofs.checked.without.Tie as tie
 
 abbrev Inv-loop : tie.InvT-loop
 Inv-loop tick held₀ n kept₀ i₀ held kept i =
-    (i ≤ n) × Keeps (without (toZ w32 tick)) held₀ held kept i
+    (i ≤ n) × Keeps (without (tick .0)) held₀ held kept i
 
 abbrev μ-loop : tie.MeasureT-loop
 μ-loop tick held₀ n kept₀ i₀ held kept i = n - i
@@ -34,8 +33,8 @@ slice-copy-out-x c = search needs
 add-i : tie.Need-add-i Inv-loop μ-loop
 add-i c = search needs
 
-same-requires : tie.Need-same-requires Inv-loop μ-loop
-same-requires c κs = search needs
+is-same-requires : tie.Need-is-same-requires Inv-loop μ-loop
+is-same-requires c κs = search needs
 
 loop-less : tie.Need-loop-less Inv-loop μ-loop
 loop-less c = search needs
@@ -43,7 +42,7 @@ loop-less c = search needs
 loop-again : tie.Need-loop-again Inv-loop μ-loop
 loop-again c =
     let l = c .before .before .before .before in
-    let e = rw (toZ-ofZ (record { sfits = c .before .before .x .given })) at (c .before .same .ensures) in
+    let e = rw (toZ-ofZ (record { sfits = c .before .before .x .given })) at (c .before .is-same .ensures) in
     (search needs, keeps-less (l .loop .inv .1) (same-out _ _ _ (sym e ∙ c .if1 .taken)))
 
 mul-x-2 : tie.Need-mul-x-2 Inv-loop μ-loop
@@ -62,7 +61,7 @@ loop-again-2 : tie.Need-loop-again-2 Inv-loop μ-loop
 loop-again-2 c =
     let l = c .before .before .before .before in
     let f = toZ-ofZ {w = w32} {z = getD (l .loop .held) (l .loop .i) (pos 0)} (record { sfits = c .before .before .x .given }) in
-    let e = rw f at (c .before .same .ensures) in
+    let e = rw f at (c .before .is-same .ensures) in
     (search needs, rw f (keeps-more (l .loop .inv .1) (omega arith) (same-left _ _ _ (sym e ∙ c .if1 .left))))
 
 same-length : tie.Need-same-length Inv-loop μ-loop
@@ -73,7 +72,7 @@ returns c =
     let a = c .before .before .args in
     let k = c .before .loop .inv .1 in
     let e : c .before .loop .i ≡ a .n = omega arith in
-    (rw (toZ-ofZ (c .before .before .fits .tick)) at (k .stand ∙ ap (λ (i : ℕ). without (toZ w32 (ofZ w32 (a .tick))) (ticksIn i (a .held .now))) e), omega (arith, k .few))
+    (k .stand ∙ ap (λ (i : ℕ). without (a .tick .0) (ticksIn i (a .held .now))) e, omega (arith, k .few))
 
 pub without-spec : {M : Type 1} → statement M
 without-spec =
@@ -85,7 +84,7 @@ without-spec =
     mul-x
     slice-copy-out-x
     add-i
-    same-requires
+    is-same-requires
     loop-less
     loop-again
     mul-x-2

@@ -2,11 +2,11 @@
 use Rattle.manager.proofs.Messages.{empty-same}
 use Rattle.receiver.specs.States.{receiverOf}
 use Rattle.storage.specs.States.{storeOf}
+use Rattle.ticks.specs.Ticks.{distanceOf}
 use borrow.Author.Needs.{needs}
 use denote.Ref.{now}
 use lib.ListN.{length}
 use mathlib.Core.Path.{_∙_}
-use mir.Facts.{toZ-ofZ}
 use Rattle.manager.proofs.Manager.snap_empty.Statement.{statement}
 use Rattle.manager.proofs.Manager.snap_empty.Tie as tie
 
@@ -37,8 +37,7 @@ same-length-5 c = search needs
 returns : tie.Need-returns
 returns c =
     let a = c .before .before .before .before .before .before .before .before .before .before .before .before .before .before .before .before .before .args in
-    let f = c .before .before .before .before .before .before .before .before .before .before .before .before .before .before .before .before .before .fits in
-    (λ sizes. empty-same sizes _ (a .tick) (a .delta-tick) (now (a .parts)) (now (a .joined)) (now (a .delta)) (now (a .area)) (receiverOf (a .self .receiver)) (storeOf (a .self .storage)) (length (now (a .scratch))) ∙ (rw (toZ-ofZ (f .tick), toZ-ofZ (f .delta-tick)) at (c .before .before .before .before .before .before .before .message .ensures .0)), c .before .before .before .before .before .before .before .message .ensures .1)
+    (λ sizes. empty-same sizes _ (a .tick .0) (distanceOf (a .delta-tick)) (now (a .parts)) (now (a .joined)) (now (a .delta)) (now (a .area)) (receiverOf (a .self .receiver)) (storeOf (a .self .storage)) (length (now (a .scratch))) ∙ c .before .before .before .before .before .before .before .message .ensures .0, c .before .before .before .before .before .before .before .message .ensures .1)
 
 pub snap-empty-spec : {M : Type 1} → statement M
 snap-empty-spec =

@@ -25,7 +25,7 @@ same-length-5 c = search needs
 returns : tie.Need-returns
 returns c =
     let f = c .before .before .before .before .before .before .before .before .before .before .before .before .before .before .before .before .fits in
-    (rw (toZ-ofZ (f .tick), toZ-ofZ (f .delta-tick), toZ-ofZ (f .crc)) at (c .before .before .before .before .before .before .before .message .ensures .0), c .before .before .before .before .before .before .before .message .ensures .1)
+    (rw (toZ-ofZ (f .crc)) at (c .before .before .before .before .before .before .before .message .ensures .0), c .before .before .before .before .before .before .before .message .ensures .1)
 
 pub snap-single-spec : {M : Type 1} → statement M
 snap-single-spec =

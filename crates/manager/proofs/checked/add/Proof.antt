@@ -1,6 +1,6 @@
 -- `checked::add` meets its contract: by whether the delta was read. Assumes nothing.
 use Rattle.format.specs.Totals.{counts}
-use Rattle.format.specs.Sources.{merge}
+use Rattle.laws.specs.WarningKinds.{merge}
 use Rattle.manager.proofs.Additions.{not-read, was-read}
 use Rattle.storage.specs.States.{storeOf}
 use Rattle.storage.specs.Taking.{sumOf}
@@ -42,7 +42,7 @@ returns c =
     let s = c .before .before .before .before .before .before .before .before .before in
     let a = s .args in
     rw (c .told .ensures)
-    (not-read (storeOf (a .s)) (now (a .area)) (a .ints) (s .pre .0) (counts (a .a .warnings)) (counts (a .read .warnings)) (sumOf (a .m)) (a .m .«delta_tick») (a .m .tick) (now (a .delta)) (a .read .answer) _ _ (c .before .before .before .before .answer .given .1) (c .before .merged .ensures ∙ ap (merge (counts (a .a .warnings)) (counts (a .read .warnings))) (c .before .before .none .ensures)), refl)
+    (not-read (storeOf (a .s)) (now (a .area)) (a .ints) (s .pre .0) (counts (a .a .warnings)) (counts (a .read .warnings)) (sumOf (a .m)) (a .m .«delta_tick» .0) (a .m .tick .0) (now (a .delta)) (a .read .answer) _ _ (c .before .before .before .before .answer .given .1) (c .before .merged .ensures ∙ ap (merge (counts (a .a .warnings)) (counts (a .read .warnings))) (c .before .before .none .ensures)), refl)
 
 same-length : tie.Need-same-length
 same-length c = search needs
@@ -55,7 +55,7 @@ returns-2 c =
     let s = c .before .before .before .before .before .before .before .before .before .before .before .before .before .before .before in
     let a = s .args in
     rw (c .told2 .ensures)
-    (was-read (storeOf (a .s)) (now (a .area)) (a .ints) (s .pre .0) (counts (a .a .warnings)) (counts (a .read .warnings)) (sumOf (a .m)) (a .m .«delta_tick») (a .m .tick) (now (a .delta)) (a .read .answer) _ (c .before .before .before .before .before .before .before .take .result) (c .before .handled .result) _ _ (c .before .before .before .before .before .before .before .before .before .before .enum-told .given .1) (c .before .before .before .before .before .before .before .take .ensures) (c .before .handled .ensures) (c .before .before .merged2 .ensures), refl)
+    (was-read (storeOf (a .s)) (now (a .area)) (a .ints) (s .pre .0) (counts (a .a .warnings)) (counts (a .read .warnings)) (sumOf (a .m)) (a .m .«delta_tick» .0) (a .m .tick .0) (now (a .delta)) (a .read .answer) _ (c .before .before .before .before .before .before .before .take .result) (c .before .handled .result) _ _ (c .before .before .before .before .before .before .before .before .before .before .enum-told .given .1) (c .before .before .before .before .before .before .before .take .ensures) (c .before .handled .ensures) (c .before .before .merged2 .ensures), refl)
 
 pub add-spec : {M : Type 1} → statement M
 add-spec =

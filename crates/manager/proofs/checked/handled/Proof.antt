@@ -1,9 +1,6 @@
 -- `checked::handled` meets its contract, case by case. Assumes nothing.
 use Rattle.manager.specs.Steps.{handledBy}
-use Rattle.manager.specs.declared.Handled.the-variants as handled
-use mathlib.Core.Path.{sym, ap, _∙_}
-use mir.Facts.{toZ-ofZ}
-use mir.Syntax.{w32}
+use mathlib.Core.Path.{sym, ap}
 use borrow.Author.Needs.{needs}
 use Rattle.manager.proofs.checked.handled.Statement.{statement}
 use Rattle.manager.proofs.checked.handled.Tie as tie
@@ -15,7 +12,7 @@ enum-known-taken-2 : tie.Need-enum-known-taken-2
 enum-known-taken-2 c = search needs
 
 returns : tie.Need-returns
-returns c = ap handled.Tick (toZ-ofZ {w = w32} {z = c .before .taken .given .0 .0} (record { sfits = c .known-told .given .0 .1 })) ∙ ap handledBy (sym (c .before .taken .given .1))
+returns c = ap handledBy (sym (c .before .taken .given .1))
 
 returns-2 : tie.Need-returns-2
 returns-2 c = ap handledBy (sym (c .before .taken2 .given .1))

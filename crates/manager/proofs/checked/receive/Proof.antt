@@ -37,14 +37,14 @@ returns c =
     let a = c .before .before .before .before .before .before .before .before .before .before .before .before .before .args in
     let m = c .before .before .before .before .before .before .before .before .m in
     let k = c .before .before .before .before .before .before .before .known-told in
-    by-part (receiverOf (a .r)) (a .m) (now (a .«data»)) (now (a .parts)) (now (a .joined)) _ (m .given .0 .0) (m .given .0 .1 .0) _ _ (toZ-ofZ {w = w32} {z = m .given .0 .0} (record { sfits = k .given .0 .1 })) (toZ-ofZ {w = w32} {z = m .given .0 .1 .0} (record { sfits = k .given .1 .0 .1 })) (m .given .0 .1 .1 .0) (m .given .0 .1 .1 .1 .0) (m .given .0 .1 .1 .1 .1 .0) _ _ _ (toZ-ofZ {w = w32} {z = m .given .0 .1 .1 .0} (record { sfits = k .given .1 .1 .0 .1 })) (toZ-ofZ {w = w32} {z = m .given .0 .1 .1 .1 .0} (record { sfits = k .given .1 .1 .1 .0 .1 })) (toZ-ofZ {w = w32} {z = m .given .0 .1 .1 .1 .1 .0} (record { sfits = k .given .1 .1 .1 .1 .0 .1 })) (m .given .1) (c .before .before .before .before .snap .ensures)
+    by-part (receiverOf (a .r)) (a .m) (now (a .«data»)) (now (a .parts)) (now (a .joined)) _ (m .given .0 .0) (m .given .0 .1 .0) (m .given .0 .1 .1 .0) (m .given .0 .1 .1 .1 .0) (m .given .0 .1 .1 .1 .1 .0) _ _ _ (toZ-ofZ {w = w32} {z = m .given .0 .1 .1 .0} (record { sfits = k .given .1 .1 .0 .1 })) (toZ-ofZ {w = w32} {z = m .given .0 .1 .1 .1 .0} (record { sfits = k .given .1 .1 .1 .0 .1 })) (toZ-ofZ {w = w32} {z = m .given .0 .1 .1 .1 .1 .0} (record { sfits = k .given .1 .1 .1 .1 .0 .1 })) (m .given .1) (c .before .before .before .before .snap .ensures)
 
 returns-2 : tie.Need-returns-2
 returns-2 c =
     let a = c .before .before .before .before .before .before .before .args in
     let m = c .before .before .m2 in
     let k = c .before .known-told2 in
-    by-empty (receiverOf (a .r)) (a .m) (now (a .«data»)) (now (a .parts)) (now (a .joined)) _ (m .given .0 .0) (m .given .0 .1 .0) _ _ (toZ-ofZ {w = w32} {z = m .given .0 .0} (record { sfits = k .given .0 .1 })) (toZ-ofZ {w = w32} {z = m .given .0 .1 .0} (record { sfits = k .given .1 .0 .1 })) (m .given .1) (c .snap-empty .ensures (now (a .parts)) (now (a .joined)))
+    by-empty (receiverOf (a .r)) (a .m) (now (a .«data»)) (now (a .parts)) (now (a .joined)) _ (m .given .0 .0) (m .given .0 .1 .0) (m .given .1) (c .snap-empty .ensures (now (a .parts)) (now (a .joined)))
 
 same-length-3 : tie.Need-same-length-3
 same-length-3 c = search needs
@@ -54,7 +54,7 @@ returns-3 c =
     let a = c .before .before .before .before .before .before .before .before .before .before .args in
     let m = c .before .before .before .before .before .m3 in
     let k = c .before .before .before .before .known-told3 in
-    by-single (receiverOf (a .r)) (a .m) (now (a .«data»)) (now (a .parts)) (now (a .joined)) _ (m .given .0 .0) (m .given .0 .1 .0) _ _ (toZ-ofZ {w = w32} {z = m .given .0 .0} (record { sfits = k .given .0 .1 })) (toZ-ofZ {w = w32} {z = m .given .0 .1 .0} (record { sfits = k .given .1 .0 .1 })) (m .given .0 .1 .1 .0) _ (toZ-ofZ {w = w32} {z = m .given .0 .1 .1 .0} (record { sfits = k .given .1 .1 .0 .1 })) (m .given .1) (c .before .before .snap-single .ensures (now (a .parts)))
+    by-single (receiverOf (a .r)) (a .m) (now (a .«data»)) (now (a .parts)) (now (a .joined)) _ (m .given .0 .0) (m .given .0 .1 .0) (m .given .0 .1 .1 .0) _ (toZ-ofZ {w = w32} {z = m .given .0 .1 .1 .0} (record { sfits = k .given .1 .1 .0 .1 })) (m .given .1) (c .before .before .snap-single .ensures (now (a .parts)))
 
 pub receive-spec : {M : Type 1} → statement M
 receive-spec =

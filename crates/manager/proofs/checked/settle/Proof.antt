@@ -76,8 +76,7 @@ returns-3 : tie.Need-returns-3
 returns-3 c =
     let a = c .before .before .before .before .before .before .before .before .before .before .before .before .before .args in
     let d = c .before .before .before .before .before .before .before .before .before .answer2 in
-    let k = c .before .before .before .before .before .before .before .before .known-told2 in
-    λ parts. empty-added (a .a) (a .g .storage) parts (now (a .joined)) (now (a .sizes)) (now (a .delta)) (now (a .area)) (c .before .before .before .before .before .before .before .before .before .before .before .before .before .pre .3) (c .before .before .before .before .before .before .before .without-crc .result) (c .before .before .before .add-empty .result) _ _ (d .given .0 .0) (d .given .0 .1 .0) (d .given .1) (c .before .before .before .before .before .before .before .without-crc .ensures .0) (c .before .before .before .before .before .before .before .without-crc .ensures .1 ∙ toZ-ofZ {w = w32} {z = d .given .0 .1 .0} (record { sfits = k .given .1 .0 .1 })) (c .before .before .before .before .before .before .before .without-crc .ensures .2 ∙ toZ-ofZ {w = w32} {z = d .given .0 .0} (record { sfits = k .given .0 .1 })) (fitting-told _ 2 empty-sound) (c .before .before .before .add-empty .ensures)
+    λ parts. empty-added (a .a) (a .g .storage) parts (now (a .joined)) (now (a .sizes)) (now (a .delta)) (now (a .area)) (c .before .before .before .before .before .before .before .before .before .before .before .before .before .pre .3) (c .before .before .before .before .before .before .before .without-crc .result) (c .before .before .before .add-empty .result) _ _ (d .given .0 .0) (d .given .0 .1 .0) (d .given .1) (c .before .before .before .before .before .before .before .without-crc .ensures .0) (c .before .before .before .before .before .before .before .without-crc .ensures .1) (c .before .before .before .before .before .before .before .without-crc .ensures .2) (fitting-told _ 2 empty-sound) (c .before .before .before .add-empty .ensures)
 
 same-length-4 : tie.Need-same-length-4
 same-length-4 c = search needs
@@ -93,7 +92,7 @@ returns-4 c =
     let a = c .before .before .before .before .before .before .before .before .before .before .before .before .before .before .args in
     let d = c .before .before .before .before .before .before .before .before .before .before .answer3 in
     let k = c .before .before .before .before .before .before .before .before .before .known-told3 in
-    λ parts. bytes-added (a .a) (a .g .storage) parts (now (a .joined)) (now (a .sizes)) (now (a .delta)) (now (a .area)) (c .before .before .before .before .before .before .before .before .before .before .before .before .before .before .pre .3) (c .before .before .before .before .before .before .before .before .with-crc .result) (c .before .before .before .add-bytes .result) _ _ (d .given .0 .0) (d .given .0 .1 .0) (d .given .0 .1 .1 .0) (d .given .0 .1 .1 .1 .0) (d .given .1) (c .before .before .before .before .before .before .before .before .with-crc .ensures .0 ∙ ap some (toZ-ofZ {w = w32} {z = d .given .0 .1 .1 .1 .0} (record { sfits = k .given .1 .1 .1 .0 .1 }))) (c .before .before .before .before .before .before .before .before .with-crc .ensures .1 ∙ toZ-ofZ {w = w32} {z = d .given .0 .1 .0} (record { sfits = k .given .1 .0 .1 })) (c .before .before .before .before .before .before .before .before .with-crc .ensures .2 ∙ toZ-ofZ {w = w32} {z = d .given .0 .0} (record { sfits = k .given .0 .1 })) (fitting-told _ _ (read-told (now (a .sizes)) (take (d .given .0 .1 .1 .0) (now (a .joined))))) (c .before .before .before .add-bytes .ensures)
+    λ parts. bytes-added (a .a) (a .g .storage) parts (now (a .joined)) (now (a .sizes)) (now (a .delta)) (now (a .area)) (c .before .before .before .before .before .before .before .before .before .before .before .before .before .before .pre .3) (c .before .before .before .before .before .before .before .before .with-crc .result) (c .before .before .before .add-bytes .result) _ _ (d .given .0 .0) (d .given .0 .1 .0) (d .given .0 .1 .1 .0) (d .given .0 .1 .1 .1 .0) (d .given .1) (c .before .before .before .before .before .before .before .before .with-crc .ensures .0 ∙ ap some (toZ-ofZ {w = w32} {z = d .given .0 .1 .1 .1 .0} (record { sfits = k .given .1 .1 .1 .0 .1 }))) (c .before .before .before .before .before .before .before .before .with-crc .ensures .1) (c .before .before .before .before .before .before .before .before .with-crc .ensures .2) (fitting-told _ _ (read-told (now (a .sizes)) (take (d .given .0 .1 .1 .0) (now (a .joined))))) (c .before .before .before .add-bytes .ensures)
 
 pub settle-spec : {M : Type 1} → statement M
 settle-spec =

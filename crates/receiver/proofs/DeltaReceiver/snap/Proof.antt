@@ -1,5 +1,5 @@
 -- `DeltaReceiver::snap` meets its contract. Assumes nothing.
-use mathlib.Core.Path.{ap, _∙_}
+use mathlib.Core.Path.{refl, ap, _∙_}
 use borrow.Author.Needs.{needs}
 use mir.Facts.{toZ-ofZ}
 use Rattle.receiver.specs.declared.checked.Ticks.{Ticks}
@@ -28,7 +28,7 @@ returns c =
     let s = c .before .before .before .before .before .before .before .before .before .before .before .before .before .before in
     let a = s .args in
     let f = s .fits in
-    snap-moved (a .«data» .now) (a .parts .now) (a .joined .now) (ap (λ (t : Ticks). receiverWith t (a .self .parts)) (c .before .before .before .before .before .before .before .before .before .ticks-of .ensures)) (toZ-ofZ (f .tick)) (toZ-ofZ (f .delta-tick)) (toZ-ofZ (f .num-parts)) (toZ-ofZ (f .part)) (toZ-ofZ (f .crc)) (c .before .before .before .before .before .receive .ensures)
+    snap-moved (a .«data» .now) (a .parts .now) (a .joined .now) (ap (λ (t : Ticks). receiverWith t (a .self .parts)) (c .before .before .before .before .before .before .before .before .before .ticks-of .ensures)) refl refl (toZ-ofZ (f .num-parts)) (toZ-ofZ (f .part)) (toZ-ofZ (f .crc)) (c .before .before .before .before .before .receive .ensures)
     ∙ c .receiving .ensures _ _
 
 pub snap-spec : {M : Type 1} → statement M

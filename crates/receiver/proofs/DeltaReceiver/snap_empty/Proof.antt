@@ -1,7 +1,6 @@
 -- `DeltaReceiver::snap_empty` meets its contract. Assumes nothing.
-use mathlib.Core.Path.{ap, _∙_}
+use mathlib.Core.Path.{refl, ap, _∙_}
 use borrow.Author.Needs.{needs}
-use mir.Facts.{toZ-ofZ}
 use Rattle.receiver.specs.declared.checked.Ticks.{Ticks}
 use Rattle.receiver.specs.States.{receiverWith}
 use Rattle.receiver.specs.Moves.{empty-moved}
@@ -19,10 +18,8 @@ receiving-requires c κs = search needs
 
 returns : tie.Need-returns
 returns c area second =
-    let s = c .before .before .before .before .before in
-    let a = s .args in
-    let f = s .fits in
-    empty-moved area second (ap (λ (t : Ticks). receiverWith t (a .self .parts)) (c .before .before .before .before .ticks-of .ensures)) (toZ-ofZ (f .tick)) (toZ-ofZ (f .delta-tick)) (c .before .receive-empty .ensures area second)
+    let a = c .before .before .before .before .before .args in
+    empty-moved area second (ap (λ (t : Ticks). receiverWith t (a .self .parts)) (c .before .before .before .before .ticks-of .ensures)) refl refl (c .before .receive-empty .ensures area second)
     ∙ c .receiving .ensures area second
 
 pub snap-empty-spec : {M : Type 1} → statement M

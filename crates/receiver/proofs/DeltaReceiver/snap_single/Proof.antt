@@ -1,5 +1,5 @@
 -- `DeltaReceiver::snap_single` meets its contract. Assumes nothing.
-use mathlib.Core.Path.{ap, _∙_}
+use mathlib.Core.Path.{refl, ap, _∙_}
 use borrow.Author.Needs.{needs}
 use mir.Facts.{toZ-ofZ}
 use Rattle.receiver.specs.declared.checked.Ticks.{Ticks}
@@ -24,8 +24,7 @@ returns : tie.Need-returns
 returns c area =
     let s = c .before .before .before .before .before .before .before .before .before .before in
     let a = s .args in
-    let f = s .fits in
-    single-moved (a .«data» .now) area (a .joined .now) (ap (λ (t : Ticks). receiverWith t (a .self .parts)) (c .before .before .before .before .before .before .before .ticks-of .ensures)) (toZ-ofZ (f .tick)) (toZ-ofZ (f .delta-tick)) (toZ-ofZ (f .crc)) (c .before .before .before .receive-single .ensures area)
+    single-moved (a .«data» .now) area (a .joined .now) (ap (λ (t : Ticks). receiverWith t (a .self .parts)) (c .before .before .before .before .before .before .before .ticks-of .ensures)) refl refl (toZ-ofZ (s .fits .crc)) (c .before .before .before .receive-single .ensures area)
     ∙ c .receiving .ensures area _
 
 pub snap-single-spec : {M : Type 1} → statement M

@@ -1,29 +1,22 @@
 -- `checked::first_says` meets its contract: number by number. Assumes nothing.
-use mathlib.Core.Path.{_≡_, _∙_}
+use mathlib.Core.Path.{_≡_}
 use borrow.Author.Needs.{needs}
 use mir.Syntax.{w32}
 use mir.Facts.{toZ-ofZ}
 use native.Mathlib.Omega.{arith}
 use Rattle.definitions.specs.Tables.{num}
-use Rattle.definitions.specs.Messages.{baseTick}
 use Rattle.receiver.proofs.Opening.{first-said}
 use Rattle.receiver.proofs.checked.first_says.Statement.{statement}
 use Rattle.receiver.proofs.checked.first_says.Tie as tie
-
--- the base
-base : (c : tie.After-wrapping-sub) → let m = c .before .before .before .args .m in c .wrapping-sub .result ≡ baseTick (m .tick) (m .«delta_tick»)
-base c =
-    let m = c .before .before .before .args .m in
-    rw (toZ-ofZ {w = w32} {z = m .tick} (record { sfits = c .before .before .struct-told .given .0 .1 }), toZ-ofZ {w = w32} {z = m .«delta_tick»} (record { sfits = c .before .struct-told2 .given .1 .0 .1 })) at (c .wrapping-sub .ensures)
 
 -- the part count
 count : (c : tie.After-num) → c .num .result ≡ num (c .before .before .before .before .before .args .m .«num_parts»)
 count c =
     let m = c .before .before .before .before .before .args .m in
-    rw (toZ-ofZ {w = w32} {z = m .«num_parts»} (record { sfits = c .before .struct-told3 .given .1 .1 .0 .1 })) at (c .num .ensures .0)
+    rw (toZ-ofZ {w = w32} {z = m .«num_parts»} (record { sfits = c .before .struct-told .given .1 .1 .0 .1 })) at (c .num .ensures .0)
 
-wrapping-sub-requires : tie.Need-wrapping-sub-requires
-wrapping-sub-requires c κs = search needs
+minus-requires : tie.Need-minus-requires
+minus-requires c κs = search needs
 
 num-requires : tie.Need-num-requires
 num-requires c κs = search needs
@@ -34,7 +27,7 @@ cast-num-parts c = record { fits = omega (arith, count c, c .before .before .bef
 returns : tie.Need-returns
 returns c =
     let m = c .before .before .before .before .before .before .args .m in
-    first-said m (toZ-ofZ {w = w32} {z = m .tick} (record { sfits = c .struct-told4 .given .0 .1 })) (toZ-ofZ (record { sfits = c .before .before .before .wrapping-sub .ok }) ∙ base (c .before .before .before)) (count (c .before)) (toZ-ofZ {w = w32} {z = m .crc} (record { sfits = c .struct-told4 .given .1 .1 .1 .1 .0 .1 }))
+    first-said m (c .before .before .before .minus .ensures) (count (c .before)) (toZ-ofZ {w = w32} {z = m .crc} (record { sfits = c .struct-told2 .given .1 .1 .1 .1 .0 .1 }))
 
 pub first-says-spec : {M : Type 1} → statement M
-first-says-spec = tie.close (tie.spec wrapping-sub-requires num-requires cast-num-parts returns)
+first-says-spec = tie.close (tie.spec minus-requires num-requires cast-num-parts returns)

@@ -1,7 +1,5 @@
 -- `checked::is_current` meets its contract: by whether a tick is unfinished. Assumes nothing.
 use borrow.Author.Needs.{needs}
-use mir.Syntax.{w32}
-use mir.Facts.{toZ-ofZ}
 use Rattle.definitions.specs.Receiver.{isCurrent}
 use Rattle.receiver.proofs.checked.is_current.Statement.{statement}
 use Rattle.receiver.proofs.checked.is_current.Tie as tie
@@ -16,13 +14,12 @@ returns : tie.Need-returns
 unfolding isCurrent
 returns c lengths = rw (c .enum-told .given .1)
 
-same-requires : tie.Need-same-requires
-same-requires c κs = search needs
+is-same-requires : tie.Need-is-same-requires
+is-same-requires c κs = search needs
 
 returns-2 : tie.Need-returns-2
 unfolding isCurrent
-returns-2 c lengths =
-    rw (c .before .before .before .current .given .1, c .same .ensures, toZ-ofZ {w = w32} {z = c .before .before .before .current .given .0 .0 .tick} (record { sfits = c .before .struct-told .given .0 .1 }), toZ-ofZ (c .before .before .before .before .before .fits .tick))
+returns-2 c lengths = rw (c .before .before .before .current .given .1, c .is-same .ensures)
 
 pub is-current-spec : {M : Type 1} → statement M
-is-current-spec = tie.close (tie.spec enum-known-current enum-told returns same-requires returns-2)
+is-current-spec = tie.close (tie.spec enum-known-current enum-told returns is-same-requires returns-2)

@@ -9,7 +9,7 @@ use borrow.Author.Tests.{not-true, not-false}
 use mir.Syntax.{w32}
 use mir.Facts.{toZ-ofZ}
 use Rattle.definitions.specs.Tables.{num}
-use Rattle.definitions.specs.Receiver.{countIn, receiverForm, isOld}
+use Rattle.definitions.specs.Receiver.{countIn, receiverForm}
 use Rattle.receiver.specs.States.{receiverWith, partOf}
 use Rattle.receiver.specs.Answers.{taking}
 use Rattle.receiver.proofs.Calls.{refused-47, refused-41, refused-41b, refused-43, refused-20, refused-21, refused-22, judged}
@@ -20,23 +20,17 @@ use Rattle.receiver.proofs.checked.judge.Tie as tie
 formed : (c : tie.Else1) (lengths : List ℕ) → c .before .before .before .before .before .args .n ≡ countIn lengths 32 → receiverForm (receiverWith (c .before .before .before .before .before .args .r) lengths) ≡ true
 formed c lengths e = sym (c .before .ticks-form .ensures lengths e) ∙ not-false _ (c .if1 .left)
 
--- whether the tick is old
-old : (c : tie.After-is-old) (lengths : List ℕ) → let a = c .before .before .before .before .before .before .before .before .before .before .args in c .is-old .result ≡ isOld (receiverWith (a .r) lengths) (a .m .tick)
-old c lengths =
-    let m = c .before .before .before .before .before .before .before .before .before .before .args .m in
-    rw (toZ-ofZ {w = w32} {z = m .tick} (record { sfits = c .before .struct-told .given .0 .1 })) at (c .is-old .ensures lengths)
-
 -- the part count
 count : (c : tie.After-num) → c .num .result ≡ num (c .before .before .before .before .before .before .before .before .before .before .before .before .before .args .m .«num_parts»)
 count c =
     let m = c .before .before .before .before .before .before .before .before .before .before .before .before .before .args .m in
-    rw (toZ-ofZ {w = w32} {z = m .«num_parts»} (record { sfits = c .before .struct-told2 .given .1 .1 .0 .1 })) at (c .num .ensures .0)
+    rw (toZ-ofZ {w = w32} {z = m .«num_parts»} (record { sfits = c .before .struct-told .given .1 .1 .0 .1 })) at (c .num .ensures .0)
 
 -- the part number
 part : (c : tie.After-num2) → c .num2 .result ≡ num (c .before .before .before .before .before .before .before .before .before .before .before .before .before .before .before .before .args .m .part)
 part c =
     let m = c .before .before .before .before .before .before .before .before .before .before .before .before .before .before .before .before .args .m in
-    rw (toZ-ofZ {w = w32} {z = m .part} (record { sfits = c .before .struct-told3 .given .1 .1 .1 .0 .1 })) at (c .num2 .ensures .0)
+    rw (toZ-ofZ {w = w32} {z = m .part} (record { sfits = c .before .struct-told2 .given .1 .1 .1 .0 .1 })) at (c .num2 .ensures .0)
 
 ticks-form-requires : tie.Need-ticks-form-requires
 ticks-form-requires c κs = search needs
@@ -67,7 +61,7 @@ is-old-requires c κs = search needs
 returns-5 : tie.Need-returns-5
 returns-5 c =
     let a = c .before .before .before .before .before .before .before .before .before .before .before .args in
-    (λ lengths e. refused-20 (receiverWith (a .r) lengths) (partOf (a .m)) (a .«data» .now) (a .parts .now) (a .joined .now) (formed (c .before .before .before .before .before .before) lengths e) (c .before .before .before .before .before .if2 .left) (c .before .before .before .before .if3 .left) (c .before .before .before .if4 .left) (sym (old (c .before) lengths) ∙ c .if5 .taken), tt)
+    (λ lengths e. refused-20 (receiverWith (a .r) lengths) (partOf (a .m)) (a .«data» .now) (a .parts .now) (a .joined .now) (formed (c .before .before .before .before .before .before) lengths e) (c .before .before .before .before .before .if2 .left) (c .before .before .before .before .if3 .left) (c .before .before .before .if4 .left) (sym (c .before .is-old .ensures lengths) ∙ c .if5 .taken), tt)
 
 num-requires : tie.Need-num-requires
 num-requires c κs = search needs
@@ -75,7 +69,7 @@ num-requires c κs = search needs
 returns-6 : tie.Need-returns-6
 returns-6 c =
     let a = c .before .before .before .before .before .before .before .before .before .before .before .before .before .before .args in
-    (λ lengths e. refused-21 (receiverWith (a .r) lengths) (partOf (a .m)) (a .«data» .now) (a .parts .now) (a .joined .now) (formed (c .before .before .before .before .before .before .before .before .before) lengths e) (c .before .before .before .before .before .before .before .before .if2 .left) (c .before .before .before .before .before .before .before .if3 .left) (c .before .before .before .before .before .before .if4 .left) (sym (old (c .before .before .before .before) lengths) ∙ c .before .before .before .if5 .left) (omega (arith, count (c .before), c .if6 .taken)), tt)
+    (λ lengths e. refused-21 (receiverWith (a .r) lengths) (partOf (a .m)) (a .«data» .now) (a .parts .now) (a .joined .now) (formed (c .before .before .before .before .before .before .before .before .before) lengths e) (c .before .before .before .before .before .before .before .before .if2 .left) (c .before .before .before .before .before .before .before .if3 .left) (c .before .before .before .before .before .before .if4 .left) (sym (c .before .before .before .before .is-old .ensures lengths) ∙ c .before .before .before .if5 .left) (omega (arith, count (c .before), c .if6 .taken)), tt)
 
 num-requires-2 : tie.Need-num-requires-2
 num-requires-2 c κs = search needs
@@ -83,12 +77,12 @@ num-requires-2 c κs = search needs
 returns-7 : tie.Need-returns-7
 returns-7 c =
     let a = c .before .before .before .before .before .before .before .before .before .before .before .before .before .before .before .before .before .args in
-    (λ lengths e. refused-22 (receiverWith (a .r) lengths) (partOf (a .m)) (a .«data» .now) (a .parts .now) (a .joined .now) (formed (c .before .before .before .before .before .before .before .before .before .before .before .before) lengths e) (c .before .before .before .before .before .before .before .before .before .before .before .if2 .left) (c .before .before .before .before .before .before .before .before .before .before .if3 .left) (c .before .before .before .before .before .before .before .before .before .if4 .left) (sym (old (c .before .before .before .before .before .before .before) lengths) ∙ c .before .before .before .before .before .before .if5 .left) (omega (arith, count (c .before .before .before .before), c .before .before .before .if6 .left)) (omega (arith, count (c .before .before .before .before), part (c .before), c .if7 .taken)), tt)
+    (λ lengths e. refused-22 (receiverWith (a .r) lengths) (partOf (a .m)) (a .«data» .now) (a .parts .now) (a .joined .now) (formed (c .before .before .before .before .before .before .before .before .before .before .before .before) lengths e) (c .before .before .before .before .before .before .before .before .before .before .before .if2 .left) (c .before .before .before .before .before .before .before .before .before .before .if3 .left) (c .before .before .before .before .before .before .before .before .before .if4 .left) (sym (c .before .before .before .before .before .before .before .is-old .ensures lengths) ∙ c .before .before .before .before .before .before .if5 .left) (omega (arith, count (c .before .before .before .before), c .before .before .before .if6 .left)) (omega (arith, count (c .before .before .before .before), part (c .before), c .if7 .taken)), tt)
 
 returns-8 : tie.Need-returns-8
 returns-8 c =
     let a = c .before .before .before .before .before .before .before .before .before .before .before .before .before .before .before .before .before .args in (
-      λ lengths e. judged (receiverWith (a .r) lengths) (partOf (a .m)) (a .«data» .now) (a .parts .now) (a .joined .now) (formed (c .before .before .before .before .before .before .before .before .before .before .before .before) lengths e) (c .before .before .before .before .before .before .before .before .before .before .before .if2 .left) (c .before .before .before .before .before .before .before .before .before .before .if3 .left) (c .before .before .before .before .before .before .before .before .before .if4 .left) (sym (old (c .before .before .before .before .before .before .before) lengths) ∙ c .before .before .before .before .before .before .if5 .left) (omega (arith, count (c .before .before .before .before), c .before .before .before .if6 .left)) (omega (arith, count (c .before .before .before .before), part (c .before), c .if7 .left))
+      λ lengths e. judged (receiverWith (a .r) lengths) (partOf (a .m)) (a .«data» .now) (a .parts .now) (a .joined .now) (formed (c .before .before .before .before .before .before .before .before .before .before .before .before) lengths e) (c .before .before .before .before .before .before .before .before .before .before .before .if2 .left) (c .before .before .before .before .before .before .before .before .before .before .if3 .left) (c .before .before .before .before .before .before .before .before .before .if4 .left) (sym (c .before .before .before .before .before .before .before .is-old .ensures lengths) ∙ c .before .before .before .before .before .before .if5 .left) (omega (arith, count (c .before .before .before .before), c .before .before .before .if6 .left)) (omega (arith, count (c .before .before .before .before), part (c .before), c .if7 .left))
           ∙ ap (λ (p : ℕ). taking (receiverWith (a .r) lengths) (partOf (a .m)) p (a .«data» .now) (a .parts .now) (a .joined .now)) (sym (part (c .before))),
       (omega (arith, count (c .before .before .before .before), c .before .before .before .if6 .left), omega (arith, c .before .before .before .if6 .left, c .if7 .left), c .before .before .before .before .before .before .before .before .before .if4 .left, c .before .before .before .before .before .before .before .before .before .before .before .if2 .left, c .before .before .before .before .before .before .before .before .before .before .if3 .left),
     )

@@ -1,17 +1,9 @@
 -- `checked::opened` meets its contract: the tick is the unfinished one, or a new one. Assumes nothing.
-use mathlib.Core.Path.{_≡_, sym, _∙_}
+use mathlib.Core.Path.{sym, _∙_}
 use borrow.Author.Needs.{needs}
-use mir.Syntax.{w32}
-use mir.Facts.{toZ-ofZ}
-use Rattle.definitions.specs.Receiver.{same}
 use Rattle.receiver.proofs.Opening.{none-open, still-open, newly-open}
 use Rattle.receiver.proofs.checked.opened.Statement.{statement}
 use Rattle.receiver.proofs.checked.opened.Tie as tie
-
--- whether the tick is the unfinished one
-current : (c : tie.After-same) → c .same .result ≡ same (c .before .before .before .before .current .given .0 .0 .tick) (c .before .before .before .before .before .before .args .m .tick)
-current c =
-    rw (toZ-ofZ {w = w32} {z = c .before .before .before .before .current .given .0 .0 .tick} (record { sfits = c .before .before .struct-told .given .0 .1 }), toZ-ofZ {w = w32} {z = c .before .before .before .before .before .before .args .m .tick} (record { sfits = c .before .struct-told2 .given .0 .1 })) at (c .same .ensures)
 
 enum-known-current : tie.Need-enum-known-current
 enum-known-current c = search needs
@@ -25,17 +17,17 @@ first-says-requires c κs = c .before .before .pre
 returns : tie.Need-returns
 returns c = none-open (c .before .before .before .args .r) (c .before .before .before .args .m) (c .first-says .result) (c .before .enum-told .given .1) (c .first-says .ensures)
 
-same-requires : tie.Need-same-requires
-same-requires c κs = search needs
+is-same-requires : tie.Need-is-same-requires
+is-same-requires c κs = search needs
 
 returns-2 : tie.Need-returns-2
-returns-2 c = still-open (c .before .before .before .before .before .before .before .args .r) (c .before .before .before .before .before .before .before .args .m) _ (c .before .before .before .before .before .current .given .1) (sym (current (c .before)) ∙ c .if1 .taken)
+returns-2 c = still-open (c .before .before .before .before .before .before .before .args .r) (c .before .before .before .before .before .before .before .args .m) _ (c .before .before .before .before .before .current .given .1) (sym (c .before .is-same .ensures) ∙ c .if1 .taken)
 
 first-says-requires-2 : tie.Need-first-says-requires-2
 first-says-requires-2 c κs = c .before .before .before .before .before .before .before .pre
 
 returns-3 : tie.Need-returns-3
-returns-3 c = newly-open (c .before .before .before .before .before .before .before .before .args .r) (c .before .before .before .before .before .before .before .before .args .m) _ (c .before .before .before .before .before .before .current .given .1) (c .first-says2 .result) (sym (current (c .before .before)) ∙ c .before .if1 .left) (c .first-says2 .ensures)
+returns-3 c = newly-open (c .before .before .before .before .before .before .before .before .args .r) (c .before .before .before .before .before .before .before .before .args .m) _ (c .before .before .before .before .before .before .current .given .1) (c .first-says2 .result) (sym (c .before .before .is-same .ensures) ∙ c .before .if1 .left) (c .first-says2 .ensures)
 
 pub opened-spec : {M : Type 1} → statement M
-opened-spec = tie.close (tie.spec enum-known-current enum-told first-says-requires returns same-requires returns-2 first-says-requires-2 returns-3)
+opened-spec = tie.close (tie.spec enum-known-current enum-told first-says-requires returns is-same-requires returns-2 first-says-requires-2 returns-3)

@@ -27,10 +27,10 @@ same-length c = search needs
 
 returns-2 : tie.Need-returns-2
 returns-2 c =
-    let s = c .before .before .before .before .before .before .before .before .before .before .before .before .before .before in
+    let s = c .before .before .before .before .before .before .before .before .before .before .before .before .before .before .before in
     let a = s .args in
-    let j = c .before .before .before .before .before .before .join .ensures in
-    all-in (a .previous-tick) (a .o) (a .warnings) (a .n) (a .lengths .now) (a .parts .now) (a .joined .now) (s .pre .0) _ _ _ _ _ (c .without-current .result) (c .before .before .before .before .before .before .before .before .before .before .if1 .left) (j .0) (j .1) (toZ-ofZ {w = w32} {z = a .o .tick} (record { sfits = c .before .before .struct-told .given .0 .1 })) (toZ-ofZ {w = w32} {z = a .o .«delta_tick»} (record { sfits = c .before .before .struct-told .given .1 .0 .1 })) (toZ-ofZ {w = w32} {z = a .o .crc} (record { sfits = c .before .before .struct-told .given .1 .1 .1 .0 .1 })) (rw (toZ-ofZ {w = w32} {z = a .o .tick} (record { sfits = c .before .struct-told2 .given .0 .1 })) at (c .without-current .ensures noParts))
+    let j = c .before .before .before .before .before .before .before .join .ensures in
+    all-in (a .previous-tick) (a .o) (a .warnings) (a .n) (a .lengths .now) (a .parts .now) (a .joined .now) (s .pre .0) _ _ _ (c .without-current .result) (c .before .before .before .before .before .before .before .before .before .before .before .if1 .left) (j .0) (j .1) (toZ-ofZ {w = w32} {z = a .o .crc} (record { sfits = c .before .struct-told .given .1 .1 .1 .0 .1 })) (c .without-current .ensures noParts)
 
 pub put-part-spec : {M : Type 1} → statement M
 put-part-spec =

@@ -1,5 +1,5 @@
 -- `checked::receive` meets its contract: by how the part is judged. Assumes nothing.
-use mathlib.Core.Path.{_≡_, ap, _∙_}
+use mathlib.Core.Path.{ap, _∙_}
 use borrow.Author.Needs.{needs}
 use Rattle.receiver.specs.declared.checked.Judged.{Judged}
 use Rattle.receiver.specs.States.{receiverWith, partOf}

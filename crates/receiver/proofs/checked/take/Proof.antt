@@ -5,22 +5,14 @@ use mathlib.Core.List.{List}
 use Prim.Native.Nat.{ℕ}
 use native.Mathlib.Omega.{arith}
 use borrow.Author.Needs.{needs}
-use mir.Syntax.{w32}
-use mir.Facts.{toZ-ofZ}
 use Rattle.definitions.specs.Receiver as Receiver
 use Rattle.format.specs.Totals.{counts}
 use Rattle.format.specs.Sources.{flagged}
-use Rattle.receiver.specs.States.{currentIn, receiverWith, partOf}
+use Rattle.receiver.specs.States.{currentIn, partOf}
 use Rattle.receiver.proofs.Parts.{counts-with}
 use Rattle.receiver.proofs.Opening.{twice, goes-in}
 use Rattle.receiver.proofs.checked.take.Statement.{statement}
 use Rattle.receiver.proofs.checked.take.Tie as tie
-
--- whether the tick is the unfinished one
-current : (c : tie.After-is-current) → let a = c .before .before .before .before .before .args in c .is-current .result ≡ Receiver.isCurrent (receiverWith (a .r) (a .lengths .now)) (a .m .tick)
-current c =
-    let a = c .before .before .before .before .before .args in
-    rw (toZ-ofZ {w = w32} {z = a .m .tick} (record { sfits = c .before .struct-told .given .0 .1 })) at (c .is-current .ensures (a .lengths .now))
 
 -- the warning
 told : (c : tie.After-received) → counts (c .received .result) ≡ flagged false (Receiver.differs (currentIn (c .before .before .opened .result)) (partOf (c .before .before .before .before .before .before .before .before .args .m)))
@@ -44,7 +36,7 @@ is-in-requires c κs = (c .before .before .before .before .before .before .befor
 returns : tie.Need-returns
 returns c =
     let a = c .before .before .before .before .before .before .before .before .before .before .before .before .args in
-    twice (a .r) (a .m) (a .p) (a .lengths .now) (a .«data» .now) (a .parts .now) (a .joined .now) _ (current (c .before .before .before .before .before .before .before)) (c .before .before .before .before .before .before .opened .result) (c .before .before .before .before .received .result) (c .before .before .before .before .before .before .opened .ensures) (told (c .before .before .before .before)) (sym (c .before .is-in .ensures) ∙ c .if1 .taken)
+    twice (a .r) (a .m) (a .p) (a .lengths .now) (a .«data» .now) (a .parts .now) (a .joined .now) _ (c .before .before .before .before .before .before .before .is-current .ensures (a .lengths .now)) (c .before .before .before .before .before .before .opened .result) (c .before .before .before .before .received .result) (c .before .before .before .before .before .before .opened .ensures) (told (c .before .before .before .before)) (sym (c .before .is-in .ensures) ∙ c .if1 .taken)
 
 put-length-requires : tie.Need-put-length-requires
 put-length-requires c κs = (c .before .before .before .before .before .before .before .before .before .before .before .before .before .pre .0 .1, c .before .before .before .before .before .before .before .before .before .before .before .before .before .pre .0 .2)
@@ -79,7 +71,7 @@ same-length-2 c = search needs
 returns-2 : tie.Need-returns-2
 returns-2 c =
     let a = c .before .before .before .before .before .before .before .before .before .before .before .before .before .before .before .before .before .before .before .before .before .before .before .before .before .args in
-    goes-in (a .r) (a .m) (a .p) (a .lengths .now) (a .«data» .now) (a .parts .now) (a .joined .now) _ (current (c .before .before .before .before .before .before .before .before .before .before .before .before .before .before .before .before .before .before .before .before)) (c .before .before .before .before .before .before .before .before .before .before .before .before .before .before .before .before .before .before .before .opened .result) (c .before .before .before .before .before .before .before .before .before .before .before .before .before .before .before .before .before .received .result) (c .before .before .before .before .before .before .before .before .before .before .before .before .before .before .before .before .before .before .before .opened .ensures) (told (c .before .before .before .before .before .before .before .before .before .before .before .before .before .before .before .before .before)) _ _ _ (sym (c .before .before .before .before .before .before .before .before .before .before .before .before .before .before .is-in .ensures) ∙ c .before .before .before .before .before .before .before .before .before .before .before .before .before .if1 .left) (c .before .before .before .before .before .before .before .before .before .before .before .put-length .ensures) (c .before .before .before .before .before .before .before .before .before .put-bytes .ensures) (c .before .before .put-part .ensures)
+    goes-in (a .r) (a .m) (a .p) (a .lengths .now) (a .«data» .now) (a .parts .now) (a .joined .now) _ (c .before .before .before .before .before .before .before .before .before .before .before .before .before .before .before .before .before .before .before .before .is-current .ensures (a .lengths .now)) (c .before .before .before .before .before .before .before .before .before .before .before .before .before .before .before .before .before .before .before .opened .result) (c .before .before .before .before .before .before .before .before .before .before .before .before .before .before .before .before .before .received .result) (c .before .before .before .before .before .before .before .before .before .before .before .before .before .before .before .before .before .before .before .opened .ensures) (told (c .before .before .before .before .before .before .before .before .before .before .before .before .before .before .before .before .before)) _ _ _ (sym (c .before .before .before .before .before .before .before .before .before .before .before .before .before .before .is-in .ensures) ∙ c .before .before .before .before .before .before .before .before .before .before .before .before .before .if1 .left) (c .before .before .before .before .before .before .before .before .before .before .before .put-length .ensures) (c .before .before .before .before .before .before .before .before .before .put-bytes .ensures) (c .before .before .put-part .ensures)
 
 pub take-spec : {M : Type 1} → statement M
 take-spec =

@@ -1,11 +1,7 @@
 -- `checked::ticks_form` meets its contract: case by case. Assumes nothing.
-use mathlib.Core.Path.{_≡_, sym, _∙_}
+use mathlib.Core.Path.{sym, _∙_}
 use borrow.Author.Needs.{needs}
-use mir.Syntax.{w32}
-use mir.Facts.{toZ-ofZ}
 use borrow.Author.Tests.{not-true, not-false}
-use Rattle.definitions.specs.Receiver.{abovePrevious}
-use Rattle.format.specs.Ticks.{tickOf}
 use Rattle.receiver.specs.declared.CurrentDelta.{CurrentDelta}
 use Rattle.receiver.proofs.Forms.{no-current, not-above, too-many, none-in, some-in}
 use Rattle.receiver.proofs.checked.ticks_form.Statement.{statement}
@@ -14,10 +10,6 @@ use Rattle.receiver.proofs.checked.ticks_form.Tie as tie
 -- the unfinished tick
 abbrev opened : tie.After-current → CurrentDelta
 opened c = c .current .given .0 .0
-
--- whether it is above the last finished one
-rises : (c : tie.After-above-previous) → c .above-previous .result ≡ abovePrevious (tickOf (c .before .before .before .before .before .args .r .«previous_tick»)) (opened (c .before .before .before) .tick)
-rises c = rw (toZ-ofZ {w = w32} {z = opened (c .before .before .before) .tick} (record { sfits = c .before .struct-told .given .0 .1 })) at (c .above-previous .ensures)
 
 enum-known-current : tie.Need-enum-known-current
 enum-known-current c = search needs
@@ -33,22 +25,22 @@ above-previous-requires c κs = search needs
 
 returns-2 : tie.Need-returns-2
 returns-2 c lengths e =
-    not-above (c .before .before .before .before .before .before .args .r) lengths _ e (opened (c .before .before .before .before)) (c .before .before .before .before .current .given .1) (sym (rises (c .before)) ∙ not-true _ (c .if1 .taken))
+    not-above (c .before .before .before .before .before .before .args .r) lengths _ e (opened (c .before .before .before .before)) (c .before .before .before .before .current .given .1) (sym (c .before .above-previous .ensures) ∙ not-true _ (c .if1 .taken))
 
 cast-k : tie.Need-cast-k
 cast-k c = search needs
 
 returns-3 : tie.Need-returns-3
 returns-3 c lengths e =
-    too-many (c .before .before .before .before .before .before .before .before .args .r) lengths _ e (opened (c .before .before .before .before .before .before)) (c .before .before .before .before .before .before .current .given .1) (sym (rises (c .before .before .before)) ∙ not-false _ (c .before .before .if1 .left)) (c .if2 .taken)
+    too-many (c .before .before .before .before .before .before .before .before .args .r) lengths _ e (opened (c .before .before .before .before .before .before)) (c .before .before .before .before .before .before .current .given .1) (sym (c .before .before .before .above-previous .ensures) ∙ not-false _ (c .before .before .if1 .left)) (c .if2 .taken)
 
 returns-4 : tie.Need-returns-4
 returns-4 c lengths e =
-    none-in (c .before .before .before .before .before .before .before .before .before .args .r) lengths _ e (opened (c .before .before .before .before .before .before .before)) (c .before .before .before .before .before .before .before .current .given .1) (sym (rises (c .before .before .before .before)) ∙ not-false _ (c .before .before .before .if1 .left)) (c .before .if2 .left) (c .if3 .taken)
+    none-in (c .before .before .before .before .before .before .before .before .before .args .r) lengths _ e (opened (c .before .before .before .before .before .before .before)) (c .before .before .before .before .before .before .before .current .given .1) (sym (c .before .before .before .before .above-previous .ensures) ∙ not-false _ (c .before .before .before .if1 .left)) (c .before .if2 .left) (c .if3 .taken)
 
 returns-5 : tie.Need-returns-5
 returns-5 c lengths e =
-    some-in (c .before .before .before .before .before .before .before .before .before .args .r) lengths _ e (opened (c .before .before .before .before .before .before .before)) (c .before .before .before .before .before .before .before .current .given .1) (sym (rises (c .before .before .before .before)) ∙ not-false _ (c .before .before .before .if1 .left)) (c .before .if2 .left) (c .if3 .left)
+    some-in (c .before .before .before .before .before .before .before .before .before .args .r) lengths _ e (opened (c .before .before .before .before .before .before .before)) (c .before .before .before .before .before .before .before .current .given .1) (sym (c .before .before .before .before .above-previous .ensures) ∙ not-false _ (c .before .before .before .if1 .left)) (c .before .if2 .left) (c .if3 .left)
 
 pub ticks-form-spec : {M : Type 1} → statement M
 ticks-form-spec = tie.close (tie.spec enum-known-current enum-told returns above-previous-requires returns-2 cast-k returns-3 returns-4 returns-5)

@@ -4,13 +4,11 @@ use mathlib.Core.Bool.{true, false}
 use native.Mathlib.Omega.{arith}
 use borrow.Author.Needs.{needs}
 use borrow.Author.Tests.{not-true, not-false}
-use mir.Syntax.{w32}
-use mir.Val.{ofZ, toZ}
 use mir.Facts.{toZ-ofZ}
-use Rattle.definitions.specs.Messages.{baseTick}
-use Rattle.definitions.specs.Receiver.{noParts, receiverForm, isOld, isCurrent, finishedAt}
+use Rattle.definitions.specs.Receiver.{noParts, receiverForm, isCurrent}
 use Rattle.format.specs.Totals.{counts}
 use Rattle.format.specs.Sources.{flagged}
+use Rattle.ticks.specs.Ticks.{distanceOf}
 use Rattle.receiver.specs.States.{receiverWith}
 use Rattle.receiver.proofs.Calls.{single-47, single-41, single-43, single-20, single-taken, single-settled}
 use Rattle.receiver.proofs.whole.receive_single.Statement.{statement}
@@ -20,25 +18,10 @@ use Rattle.receiver.proofs.whole.receive_single.Tie as tie
 formed : (c : tie.Else1) → let a = c .before .before .before .before .before .before .before .args in receiverForm (receiverWith (a .r) (a .lengths .now)) ≡ true
 formed c = sym (c .before .ticks-form .ensures (c .before .before .before .before .before .before .before .args .lengths .now) (c .before .before .count-in .ensures .0)) ∙ not-false _ (c .if1 .left)
 
--- whether the tick is old
-old : (c : tie.After-is-old) → let a = c .before .before .before .before .before .before .before .before .before .before .args in c .is-old .result ≡ isOld (receiverWith (a .r) (a .lengths .now)) (a .tick)
-old c = rw (toZ-ofZ (c .before .before .before .before .before .before .before .before .before .before .fits .tick)) at (c .is-old .ensures (c .before .before .before .before .before .before .before .before .before .before .args .lengths .now))
-
 -- the warning
-told : (c : tie.After-received) → let a = c .before .before .before .before .before .before .before .before .before .before .before .before .before .args in counts (c .received .result) ≡ flagged (isCurrent (receiverWith (a .r) (a .lengths .now)) (a .tick)) false
+told : (c : tie.After-received) → let a = c .before .before .before .before .before .before .before .before .before .before .before .before .before .args in counts (c .received .result) ≡ flagged (isCurrent (receiverWith (a .r) (a .lengths .now)) (a .tick .0)) false
 told c =
-    rw (c .before .is-current .ensures (c .before .before .before .before .before .before .before .before .before .before .before .before .before .args .lengths .now), toZ-ofZ (c .before .before .before .before .before .before .before .before .before .before .before .before .before .fits .tick)) at (c .received .ensures)
-
--- the base
-base : (c : tie.After-wrapping-sub) → let a = c .before .before .before .before .before .before .before .before .before .before .before .before .before .before .before .before .before .before .before .args in toZ w32 (ofZ w32 (c .wrapping-sub .result)) ≡ baseTick (a .tick) (a .delta-tick)
-base c =
-    let f = c .before .before .before .before .before .before .before .before .before .before .before .before .before .before .before .before .before .before .before .fits in
-    toZ-ofZ (record { sfits = c .wrapping-sub .ok })
-    ∙ rw (toZ-ofZ (f .tick), toZ-ofZ (f .delta-tick)) at (c .wrapping-sub .ensures)
-
--- the receiver afterwards
-after : (c : tie.After-without-current) → receiverWith (c .without-current .result) noParts ≡ finishedAt (c .before .before .before .before .before .before .before .before .before .before .before .before .before .before .before .before .before .before .before .before .args .tick)
-after c = rw (toZ-ofZ (c .before .before .before .before .before .before .before .before .before .before .before .before .before .before .before .before .before .before .before .before .fits .tick)) at (c .without-current .ensures noParts)
+    rw (c .before .is-current .ensures (c .before .before .before .before .before .before .before .before .before .before .before .before .before .args .lengths .now)) at (c .received .ensures)
 
 count-in-requires : tie.Need-count-in-requires
 count-in-requires c κs = c .count-in-arg2 .given .0
@@ -52,7 +35,7 @@ refused-requires c κs = search needs
 returns : tie.Need-returns
 returns c area =
     let a = c .before .before .before .before .before .before .before .before .args in
-    single-47 (receiverWith (a .r) (a .lengths .now)) (a .tick) (a .delta-tick) (a .crc) (a .«data» .now) (a .joined .now) (sym (c .before .before .ticks-form .ensures (a .lengths .now) (c .before .before .before .count-in .ensures .0)) ∙ not-true _ (c .before .if1 .taken)) area
+    single-47 (receiverWith (a .r) (a .lengths .now)) (a .tick .0) (distanceOf (a .delta-tick)) (a .crc) (a .«data» .now) (a .joined .now) (sym (c .before .before .ticks-form .ensures (a .lengths .now) (c .before .before .before .count-in .ensures .0)) ∙ not-true _ (c .before .if1 .taken)) area
     ∙ c .refused .ensures (a .lengths .now) area (a .joined .now)
 
 refused-requires-2 : tie.Need-refused-requires-2
@@ -61,7 +44,7 @@ refused-requires-2 c κs = search needs
 returns-2 : tie.Need-returns-2
 returns-2 c area =
     let a = c .before .before .before .before .before .before .before .before .before .args in
-    single-41 (receiverWith (a .r) (a .lengths .now)) (a .tick) (a .delta-tick) (a .crc) (a .«data» .now) (a .joined .now) (formed (c .before .before)) (c .before .if2 .taken) area
+    single-41 (receiverWith (a .r) (a .lengths .now)) (a .tick .0) (distanceOf (a .delta-tick)) (a .crc) (a .«data» .now) (a .joined .now) (formed (c .before .before)) (c .before .if2 .taken) area
     ∙ c .refused2 .ensures (a .lengths .now) area (a .joined .now)
 
 refused-requires-3 : tie.Need-refused-requires-3
@@ -70,7 +53,7 @@ refused-requires-3 c κs = search needs
 returns-3 : tie.Need-returns-3
 returns-3 c area =
     let a = c .before .before .before .before .before .before .before .before .before .before .args in
-    single-43 (receiverWith (a .r) (a .lengths .now)) (a .tick) (a .delta-tick) (a .crc) (a .«data» .now) (a .joined .now) (formed (c .before .before .before)) (c .before .before .if2 .left) (c .before .if3 .taken) area
+    single-43 (receiverWith (a .r) (a .lengths .now)) (a .tick .0) (distanceOf (a .delta-tick)) (a .crc) (a .«data» .now) (a .joined .now) (formed (c .before .before .before)) (c .before .before .if2 .left) (c .before .if3 .taken) area
     ∙ c .refused3 .ensures (a .lengths .now) area (a .joined .now)
 
 is-old-requires : tie.Need-is-old-requires
@@ -82,7 +65,7 @@ refused-requires-4 c κs = search needs
 returns-4 : tie.Need-returns-4
 returns-4 c area =
     let a = c .before .before .before .before .before .before .before .before .before .before .before .before .args in
-    single-20 (receiverWith (a .r) (a .lengths .now)) (a .tick) (a .delta-tick) (a .crc) (a .«data» .now) (a .joined .now) (formed (c .before .before .before .before .before)) (c .before .before .before .before .if2 .left) (c .before .before .before .if3 .left) (sym (old (c .before .before)) ∙ c .before .if4 .taken) area
+    single-20 (receiverWith (a .r) (a .lengths .now)) (a .tick .0) (distanceOf (a .delta-tick)) (a .crc) (a .«data» .now) (a .joined .now) (formed (c .before .before .before .before .before)) (c .before .before .before .before .if2 .left) (c .before .before .before .if3 .left) (sym (c .before .before .is-old .ensures (a .lengths .now)) ∙ c .before .if4 .taken) area
     ∙ c .refused4 .ensures (a .lengths .now) area (a .joined .now)
 
 is-current-requires : tie.Need-is-current-requires
@@ -94,8 +77,8 @@ received-requires c κs = search needs
 put-bytes-requires : tie.Need-put-bytes-requires
 put-bytes-requires c κs = (omega (arith, c .before .before .before .before .before .before .if3 .left), omega (arith, c .before .before .before .before .before .before .if3 .left, c .before .before .before .before .before .before .before .if2 .left))
 
-wrapping-sub-requires : tie.Need-wrapping-sub-requires
-wrapping-sub-requires c κs = search needs
+minus-requires : tie.Need-minus-requires
+minus-requires c κs = search needs
 
 without-current-requires : tie.Need-without-current-requires
 without-current-requires c κs = search needs
@@ -107,8 +90,8 @@ returns-5 : tie.Need-returns-5
 returns-5 c area =
     let s = c .before .before .before .before .before .before .before .before .before .before .before .before .before .before .before .before .before .before .before .before in
     let a = s .args in
-    single-taken (receiverWith (a .r) (a .lengths .now)) (a .tick) (a .delta-tick) (a .crc) (a .«data» .now) (a .joined .now) (formed (c .before .before .before .before .before .before .before .before .before .before .before .before .before)) (c .before .before .before .before .before .before .before .before .before .before .before .before .if2 .left) (c .before .before .before .before .before .before .before .before .before .before .before .if3 .left) (sym (old (c .before .before .before .before .before .before .before .before .before .before)) ∙ c .before .before .before .before .before .before .before .before .before .if4 .left) area
-    ∙ single-settled (c .before .before .before .before .before .before .before .received .result) (isCurrent (receiverWith (a .r) (a .lengths .now)) (a .tick)) (a .tick) (a .delta-tick) _ _ (c .without-current .result) (told (c .before .before .before .before .before .before .before)) (toZ-ofZ (s .fits .tick)) (base (c .before)) (after c) area _ _ _ _ _ (toZ-ofZ (s .fits .crc)) (c .before .before .before .before .put-bytes .ensures)
+    single-taken (receiverWith (a .r) (a .lengths .now)) (a .tick .0) (distanceOf (a .delta-tick)) (a .crc) (a .«data» .now) (a .joined .now) (formed (c .before .before .before .before .before .before .before .before .before .before .before .before .before)) (c .before .before .before .before .before .before .before .before .before .before .before .before .if2 .left) (c .before .before .before .before .before .before .before .before .before .before .before .if3 .left) (sym (c .before .before .before .before .before .before .before .before .before .before .is-old .ensures (a .lengths .now)) ∙ c .before .before .before .before .before .before .before .before .before .if4 .left) area
+    ∙ single-settled (c .before .before .before .before .before .before .before .received .result) (isCurrent (receiverWith (a .r) (a .lengths .now)) (a .tick .0)) (a .tick) (distanceOf (a .delta-tick)) _ (c .without-current .result) (told (c .before .before .before .before .before .before .before)) (c .before .minus .ensures) (c .without-current .ensures noParts) area _ _ _ _ _ (toZ-ofZ (s .fits .crc)) (c .before .before .before .before .put-bytes .ensures)
 
 pub receive-single-spec : {M : Type 1} → statement M
 receive-single-spec =
@@ -128,7 +111,7 @@ receive-single-spec =
     is-current-requires
     received-requires
     put-bytes-requires
-    wrapping-sub-requires
+    minus-requires
     without-current-requires
     same-length
     returns-5)

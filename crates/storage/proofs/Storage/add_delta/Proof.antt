@@ -23,7 +23,7 @@ returns : tie.Need-returns
 returns c =
     let s = c .before .before .before .before .before .before .before .before in
     let t = c .before .before .before .before .before .take in
-    let e = rw (toZ-ofZ (s .fits .crc), toZ-ofZ (s .fits .delta-tick), toZ-ofZ (s .fits .tick)) at (t .ensures) in
+    let e = rw (toZ-ofZ (s .fits .crc)) at (t .ensures) in
     (e, c .before .clear .ensures ∙ cleared-same (t .last .1 .1 .1 .1 .0) (now (s .args .scratch)) (t .kept .1 .1 .1 .1 .0))
 
 pub add-delta-spec : {M : Type 1} → statement M

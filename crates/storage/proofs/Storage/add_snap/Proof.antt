@@ -13,7 +13,6 @@ use denote.Ref.{now}
 use mathlib.Core.Logic.{inl, inr}
 use mathlib.Core.Option.{some}
 use mathlib.Core.Path.{_≡_, sym, _∙_}
-use mir.Facts.{toZ-ofZ}
 use native.Mathlib.Omega.{arith}
 use borrow.Author.Needs.{needs}
 use Rattle.storage.proofs.Storage.add_snap.Statement.{statement}
@@ -52,8 +51,8 @@ returns c =
     let s = c .before .before .before .before .before .args in
     let r = c .not-added in
     let h = not-held _ _ (sym (c .before .enum-told .given .1) ∙ c .before .before .before .form .ensures) in
-    not-added-by (storeOf (s .self)) (now (s .area)) (s .tick) (now (s .table)) (now (s .delta)) (r .result) error.NotInForm (r .ensures .0) (r .ensures .1)
-    (λ e. omega (arith, e)) (add-47 (storeOf (s .self)) (now (s .area)) (s .tick) (now (s .table)) (now (s .delta)) (inl h))
+    not-added-by (storeOf (s .self)) (now (s .area)) (s .tick .0) (now (s .table)) (now (s .delta)) (r .result) error.NotInForm (r .ensures .0) (r .ensures .1)
+    (λ e. omega (arith, e)) (add-47 (storeOf (s .self)) (now (s .area)) (s .tick .0) (now (s .table)) (now (s .delta)) (inl h))
 
 form-requires-2 : tie.Need-form-requires-2
 form-requires-2 c κs = search needs
@@ -75,8 +74,8 @@ returns-2 c =
     let s = c .before .before .before .before .before .before .before .before .before .args in
     let r = c .not-added2 in
     let t = unformed (now (s .table)) (sym (c .before .enum-told2 .given .1) ∙ c .before .before .before .form2 .ensures) in
-    not-added-by (storeOf (s .self)) (now (s .area)) (s .tick) (now (s .table)) (now (s .delta)) (r .result) error.NotInForm (r .ensures .0) (r .ensures .1)
-    (λ e. omega (arith, e)) (add-47 (storeOf (s .self)) (now (s .area)) (s .tick) (now (s .table)) (now (s .delta)) (inr t))
+    not-added-by (storeOf (s .self)) (now (s .area)) (s .tick .0) (now (s .table)) (now (s .delta)) (r .result) error.NotInForm (r .ensures .0) (r .ensures .1)
+    (λ e. omega (arith, e)) (add-47 (storeOf (s .self)) (now (s .area)) (s .tick .0) (now (s .table)) (now (s .delta)) (inr t))
 
 not-added-requires-3 : tie.Need-not-added-requires-3
 not-added-requires-3 c κs = search needs
@@ -90,9 +89,9 @@ returns-3 c =
     let s = d .before .before .before .before .before .before .before .before .args in
     let r = c .not-added3 in
     let h = in-form (d .before .before .before .before) in
-    not-added-by (storeOf (s .self)) (now (s .area)) (s .tick) (now (s .table)) (now (s .delta)) (r .result) error.StoreFull (r .ensures .0) (r .ensures .1)
+    not-added-by (storeOf (s .self)) (now (s .area)) (s .tick .0) (now (s .table)) (now (s .delta)) (r .result) error.StoreFull (r .ensures .0) (r .ensures .1)
     (λ e. omega (arith, e))
-    (add-held (storeOf (s .self)) (now (s .area)) (s .tick) (now (s .table)) (now (s .delta)) _ _ (h .is) (table-is d)
+    (add-held (storeOf (s .self)) (now (s .area)) (s .tick .0) (now (s .table)) (now (s .delta)) _ _ (h .is) (table-is d)
     ∙ full-44 (storeOf (s .self)) (now (s .area)) _ (h .holds) (c .before .if1 .taken) _ (now (s .delta)))
 
 add-requires : tie.Need-add-requires
@@ -109,12 +108,11 @@ same-length-5 c = search needs
 returns-4 : tie.Need-returns-4
 returns-4 c =
     let d = c .before .before .before .before .before .before .before .before in
-    let s = d .before .before .before .before .before .before .before .before in
-    let x = s .args in
-    let e = rw (toZ-ofZ (s .fits .tick)) at (c .before .before .add .ensures) in
+    let x = d .before .before .before .before .before .before .before .before .args in
+    let e = c .before .before .add .ensures in
     let h = in-form (d .before .before .before .before) in
-    with-key (storeOf (x .self)) (now (x .area)) (x .tick) (now (x .table)) (now (x .delta)) (c .before .before .add .result)
-    (add-held (storeOf (x .self)) (now (x .area)) (x .tick) (now (x .table)) (now (x .delta)) _ _ (h .is) (table-is d) ∙ e .0)
+    with-key (storeOf (x .self)) (now (x .area)) (x .tick .0) (now (x .table)) (now (x .delta)) (c .before .before .add .result)
+    (add-held (storeOf (x .self)) (now (x .area)) (x .tick .0) (now (x .table)) (now (x .delta)) _ _ (h .is) (table-is d) ∙ e .0)
     (rw (h .is) (e .1))
 
 pub add-snap-spec : {M : Type 1} → statement M

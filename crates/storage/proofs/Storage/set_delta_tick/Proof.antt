@@ -4,7 +4,6 @@ use Rattle.store_area.specs.Stores.{not-held, told, Told, holdsIn}
 use Rattle.storage.specs.States.{storeOf}
 use denote.Ref.{now}
 use mathlib.Core.Path.{sym, _∙_}
-use mir.Facts.{toZ-ofZ}
 use borrow.Author.Needs.{needs}
 use Rattle.storage.proofs.Storage.set_delta_tick.Statement.{statement}
 use Rattle.storage.proofs.Storage.set_delta_tick.Tie as tie
@@ -32,7 +31,10 @@ returns : tie.Need-returns
 returns c =
     let s = c .before .before .before .before .before .args in
     let h = not-held _ _ (sym (c .before .enum-told .given .1) ∙ c .before .before .before .form .ensures) in
-    refused-47 (s .self) (now (s .area)) (s .tick) (c .none .result) (c .none .ensures) h
+    refused-47 (s .self) (now (s .area)) (s .tick .0) (c .none .result) (c .none .ensures) h
+
+is-negative-requires : tie.Need-is-negative-requires
+is-negative-requires c κs = search needs
 
 weird-requires : tie.Need-weird-requires
 weird-requires c κs = search needs
@@ -45,27 +47,25 @@ same-length-2 c = search needs
 
 returns-2 : tie.Need-returns-2
 returns-2 c =
-    let s = c .before .before .before .before .before .before .before .before in
-    let t = in-form (c .before .before .before .before) in
+    let s = c .before .before .before .before .before .before .before .before .before in
+    let t = in-form (c .before .before .before .before .before) in
     let w = c .before .weird in
-    let z = toZ-ofZ (s .fits .tick) in
-    no-base (s .args .self) (now (s .args .area)) (s .args .tick) (w .result) _ (t .holds) (c .without-delta .result)
-    (rw z at (c .before .before .if1 .taken)) (rw z at (w .ensures)) (c .without-delta .ensures)
+    no-base (s .args .self) (now (s .args .area)) (s .args .tick .0) (w .result) _ (t .holds) (c .without-delta .result)
+    (sym (c .before .before .before .is-negative .ensures) ∙ c .before .before .if1 .taken) (w .ensures) (c .without-delta .ensures)
 
 set-base-requires : tie.Need-set-base-requires
 set-base-requires c κs =
-    let z = toZ-ofZ (c .before .before .before .before .before .before .before .fits .tick) in
-    (in-form (c .before .before .before) .holds, rw z (rw z at (c .before .if1 .left)))
+    (in-form (c .before .before .before .before) .holds, sym (c .before .before .is-negative .ensures) ∙ c .before .if1 .left)
 
 same-length-3 : tie.Need-same-length-3
 same-length-3 c = search needs
 
 returns-3 : tie.Need-returns-3
 returns-3 c =
-    let s = c .before .before .before .before .before .before .before .before .before in
-    let t = in-form (c .before .before .before .before .before) in
-    set-held (storeOf (s .args .self)) (now (s .args .area)) (s .args .tick) (holdsIn (storeOf (s .args .self)) (now (s .args .area))) (t .is)
-    ∙ rw (toZ-ofZ (s .fits .tick)) at (c .before .set-base .ensures)
+    let s = c .before .before .before .before .before .before .before .before .before .before in
+    let t = in-form (c .before .before .before .before .before .before) in
+    set-held (storeOf (s .args .self)) (now (s .args .area)) (s .args .tick .0) (holdsIn (storeOf (s .args .self)) (now (s .args .area))) (t .is)
+    ∙ c .before .set-base .ensures
 
 pub set-delta-tick-spec : {M : Type 1} → statement M
 set-delta-tick-spec =
@@ -77,6 +77,7 @@ set-delta-tick-spec =
     none-requires
     same-length
     returns
+    is-negative-requires
     weird-requires
     without-delta-requires
     same-length-2

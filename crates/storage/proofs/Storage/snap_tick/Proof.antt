@@ -4,8 +4,6 @@ use Rattle.store_area.specs.Stores.{not-held, told, Told}
 use Rattle.storage.specs.States.{storeOf}
 use denote.Ref.{now}
 use mathlib.Core.Path.{sym, _∙_}
-use mir.Facts.{toZ-ofZ}
-use mir.Syntax.{w32}
 use native.Mathlib.Omega.{arith}
 use borrow.Author.Needs.{needs}
 use Rattle.storage.proofs.Storage.snap_tick.Statement.{statement}
@@ -36,7 +34,7 @@ returns-2 : tie.Need-returns-2
 returns-2 c =
     let s = c .before .before .before .before .before .before .args in
     let t = in-form (c .before .before .before) in
-    tick-there (storeOf (s .self)) (now (s .area)) (s .i) (t .holds .held) (t .is) (c .before .if1 .taken) ∙ rw (toZ-ofZ {w = w32} (record { sfits = c .tick-at .ok }), c .tick-at .ensures)
+    tick-there (storeOf (s .self)) (now (s .area)) (s .i) (t .holds .held) (t .is) (c .before .if1 .taken) ∙ rw (c .tick-at .ensures)
 
 returns-3 : tie.Need-returns-3
 returns-3 c =

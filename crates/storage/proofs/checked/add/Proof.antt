@@ -4,20 +4,16 @@ use Rattle.definitions.specs.Storage as Store
 use Rattle.definitions.specs.Tables.{items}
 use Rattle.storage.proofs.Additions.{made-room}
 use Rattle.storage.proofs.Calls.{room-is, adding-ends, made-key}
-use Rattle.storage.specs.States.{storeOf, deltaOf}
-use Rattle.storage.specs.Steps.{addedOf}
+use Rattle.storage.specs.States.{storeOf}
 use Rattle.store_area.specs.Held.{snapsIn}
 use Rattle.table.specs.Forms.{formed}
 use Rattle.table.specs.Writing.{form-front, form-length}
 use borrow.Author.Tests.{leb-true}
 use denote.Ref.{now}
 use lib.Dec.{leb}
-use lib.IntN.{ℤ}
 use lib.ListN.{length}
 use mathlib.Core.Bool.{true}
 use mathlib.Core.Path.{_≡_, sym, ap, _∙_}
-use mir.Facts.{toZ-ofZ}
-use mir.Syntax.{w32}
 use native.Mathlib.Omega.{arith}
 use borrow.Author.Needs.{needs}
 use Rattle.storage.proofs.checked.add.Statement.{statement}
@@ -25,25 +21,13 @@ use Rattle.storage.proofs.checked.add.Tie as tie
 
 -- the table that is added
 abbrev new : tie.Start → Store.StoredSnap
-new s = record { tick = s .args .tick; snap = items (now (s .args .table)) }
+new s = record { tick = s .args .tick .0; snap = items (now (s .args .table)) }
 
 -- its length, and that of the tables held
 bounds : (s : tie.Start) → (s .args .size ≤ 16384) × (s .args .ints ≤ length (now (s .args .area)))
 bounds s =
     let f = formed (now (s .args .table)) _ _ (s .pre .2) in
     (omega (arith, f .1, f .0 .shape .short), omega (arith, s .pre .0 .ints-are, s .pre .0 .held .stands .room))
-
--- the tick of the base
-based : (c : tie.After-base-tick) → let s = c .before .before .before .before .before .before in let l = snapsIn (s .args .s .count) (now (s .args .area)) in
-    c .base-tick .result ≡ Store.chosenBase (deltaOf (s .args .s)) (new s) l .tick
-based c =
-    let s = c .before .before .before .before .before .before in
-    rw (toZ-ofZ (s .fits .tick)) at (c .base-tick .ensures (items (now (s .args .table))))
-
--- the answer
-answered : (c : tie.After-area) → let b = c .before .before .before .before in
-    c .before .finish .result .answer ≡ addedOf (b .base-tick .result) (b .before .before .before .make-delta .result)
-answered c = rw (toZ-ofZ {w = w32} (record { sfits = c .before .before .before .before .base-tick .ok })) at (c .before .finish .ensures .0)
 
 add-room : tie.Need-add-room
 add-room c = let w = bounds c in omega (arith, w)
@@ -71,7 +55,7 @@ finish-requires c κs =
       s .pre .0,
       s .pre .1,
       omega (arith, n, w),
-      λ i e. let q : leb k a ≡ true = made-room _ _ _ _ _ _ i (m .ensures .0 (s .args .tick)) e in omega (arith, n, leb-true k a q),
+      λ i e. let q : leb k a ≡ true = made-room _ _ _ _ _ _ i (m .ensures .0 (s .args .tick .0)) e in omega (arith, n, leb-true k a q),
     )
 
 same-length : tie.Need-same-length
@@ -89,16 +73,15 @@ returns c =
     let a = now (s .args .area) in
     let f = r .ensures in
     let h = s .pre .0 in
-    let b = c .before .before .before .before in
+    let b = c .before .before .before .before .base-tick in
     let m = d .make-delta in
-    let z = toZ-ofZ (s .fits .tick) in
     let front = sym (form-front t (s .pre .2)) in
     let room = room-is (new s) (snapsIn (s .args .s .count) a) (length a) (s .args .ints) (s .args .size) (h .ints-are)
     (form-length t (s .pre .2) ∙ ap length front) in
-    let key = made-key (b .base-tick .result) (m .result) _ (items t) (m .ensures .1 (s .args .tick)) in (
+    let key = made-key (b .result) (m .result) _ (items t) (m .ensures .1 (s .args .tick .0)) in (
       adding-ends (storeOf (s .args .s)) a (now (s .args .delta)) (s .args .ints) h (new s) _ (m .result) _ (s .pre .1) room
-          (m .ensures .0 (s .args .tick)) (r .result) _ (answered c ∙ ap (λ (i : ℤ). addedOf i (m .result)) (based b)) (f .1) (rw z at (f .2 (items t) front)),
-      rw (answered c) key,
+          (m .ensures .0 (s .args .tick .0)) (r .result) _ (b .result) (b .ensures (items t)) (f .0) (f .1) (f .2 (items t) front),
+      rw (f .0) key,
     )
 
 pub add-spec : {M : Type 1} → statement M

@@ -15,7 +15,7 @@ enum-known-result-3 : tie.Need-enum-known-result-3
 enum-known-result-3 c = search needs
 
 returns : tie.Need-returns
-returns c = rw (toZ-ofZ (c .before .before .before .fits .base), c .before .result .given .1)
+returns c = rw (c .before .result .given .1)
 
 returns-2 : tie.Need-returns-2
 returns-2 c = rw (toZ-ofZ {w = w32} {z = c .before .result2 .given .0 .0} (record { sfits = c .known-told2 .given .0 .1 }), c .before .result2 .given .1)

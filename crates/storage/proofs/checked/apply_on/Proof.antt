@@ -11,7 +11,6 @@ use denote.Ref.{now}
 use mathlib.Core.List.{List}
 use mathlib.Core.Option.{some}
 use mathlib.Core.Path.{_≡_, sym, ap, _∙_, subst}
-use mir.Facts.{toZ-ofZ}
 use native.Mathlib.Omega.{arith}
 use borrow.Author.Needs.{needs}
 use Rattle.storage.proofs.checked.apply_on.Statement.{statement}
@@ -21,20 +20,16 @@ use Rattle.storage.proofs.checked.apply_on.Tie as tie
 abbrev L : tie.Start → List Store.StoredSnap
 L s = snapsIn (s .args .count) (now (s .args .area))
 
--- whether the tick is negative
-negative : (c : tie.After-signed-less) → c .signed-less .result ≡ Store.isNegative (c .before .args .tick)
-negative c = rw (toZ-ofZ (c .before .fits .tick)) at (c .signed-less .ensures)
-
 -- the oldest table
 abbrev Old : tie.Start → Table
 Old s = snapAt (L s) (s .args .count - 1) .snap
 
 -- it is the base
-oldest : (c : tie.Else1) → let s = c .before .before in (0 < s .args .count) × (Store.oldestAt (s .args .tick) (L s) ≡ some (Old s))
+oldest : (c : tie.Else1) → let s = c .before .before in (0 < s .args .count) × (Store.oldestAt (s .args .tick .0) (L s) ≡ some (Old s))
 oldest c =
     let s = c .before .before in
-    let b = old-base (s .args .tick) (L s) (sym (negative (c .before)) ∙ c .if1 .left) in
-    oldest-held (s .args .tick) (L s) (s .args .count) (s .pre .0 .many) (ap Store.isHeld b ∙ s .pre .1)
+    let b = old-base (s .args .tick .0) (L s) (sym (c .before .is-negative .ensures) ∙ c .if1 .left) in
+    oldest-held (s .args .tick .0) (L s) (s .args .count) (s .pre .0 .many) (ap Store.isHeld b ∙ s .pre .1)
 
 -- it holds its items
 based : (c : tie.After-table-at) → let a = now (c .table-at .result) in Held a (count a) × (items a ≡ Old (c .before .before .before))
@@ -45,8 +40,8 @@ based c =
     let k = sound-at (L s) (s .args .count - 1) (h .stands .sounds) (omega (arith, h .many, o .0)) in
     whole-table (now (c .table-at .result)) (Old s) k (c .table-at .ensures)
 
-signed-less-requires : tie.Need-signed-less-requires
-signed-less-requires c κs = search needs
+is-negative-requires : tie.Need-is-negative-requires
+is-negative-requires c κs = search needs
 
 slice-aggregate-apply-typed : tie.Need-slice-aggregate-apply-typed
 slice-aggregate-apply-typed c = search needs
@@ -60,8 +55,8 @@ same-length c = search needs
 returns : tie.Need-returns
 returns c =
     let s = c .before .before .before .before .before .before in
-    let n = sym (negative (c .before .before .before .before .before)) ∙ c .before .before .before .before .if1 .taken in
-    applies-by _ _ _ _ _ _ (empty-base (s .args .tick) (L s) n) (empty-table .1) (c .before .apply-typed .ensures)
+    let n = sym (c .before .before .before .before .before .is-negative .ensures) ∙ c .before .before .before .before .if1 .taken in
+    applies-by _ _ _ _ _ _ (empty-base (s .args .tick .0) (L s) n) (empty-table .1) (c .before .apply-typed .ensures)
 
 sub-table-at : tie.Need-sub-table-at
 sub-table-at c = let o = oldest (c) in omega (arith, o .0)
@@ -84,15 +79,15 @@ same-length-2 c = search needs
 returns-2 : tie.Need-returns-2
 returns-2 c =
     let s = c .before .before .before .before .before .before .before in
-    let n = sym (negative (c .before .before .before .before .before .before)) ∙ c .before .before .before .before .before .if1 .left in
-    let b = sym (old-base (s .args .tick) (L s) n) ∙ oldest (c .before .before .before .before .before) .1 in
+    let n = sym (c .before .before .before .before .before .before .is-negative .ensures) ∙ c .before .before .before .before .before .if1 .left in
+    let b = sym (old-base (s .args .tick .0) (L s) n) ∙ oldest (c .before .before .before .before .before) .1 in
     applies-by _ _ _ _ _ _ b (based (c .before .before .before .before) .1) (c .before .apply-typed2 .ensures)
 
 pub apply-on-spec : {M : Type 1} → statement M
 apply-on-spec =
     tie.close
     (tie.spec
-    signed-less-requires
+    is-negative-requires
     slice-aggregate-apply-typed
     apply-typed-requires
     same-length

@@ -2,8 +2,6 @@
 use Rattle.definitions.specs.Storage as Store
 use Rattle.storage.proofs.Forms.{chosen-empty, chosen-itself, chosen-oldest}
 use mathlib.Core.Path.{sym, ap, _∙_}
-use mir.Facts.{toZ-ofZ}
-use mir.Syntax.{w32}
 use native.Mathlib.Omega.{arith}
 use borrow.Author.Needs.{needs}
 use Rattle.storage.proofs.checked.base_tick.Statement.{statement}
@@ -18,7 +16,7 @@ enum-told-2 c = search needs
 returns : tie.Need-returns
 returns c t =
     let s = c .before .before .args in
-    let e = chosen-empty (s .s) (record { tick = s .tick; snap = t }) _ (c .enum-told2 .given .1) in
+    let e = chosen-empty (s .s) (record { tick = s .tick .0; snap = t }) _ (c .enum-told2 .given .1) in
     ap (λ (y : Store.StoredSnap). y .tick) (sym e)
 
 returns-2 : tie.Need-returns-2
@@ -26,8 +24,8 @@ returns-2 c t =
     let s = c .before .before .before .before in
     let x = s .args in
     let n = c .before .before .enum-told .given .1 in
-    let e = chosen-itself (x .s) (record { tick = x .tick; snap = t }) _ (x .s .count) n (s .pre .many) (c .if1 .taken) in
-    toZ-ofZ (s .fits .tick) ∙ ap (λ (y : Store.StoredSnap). y .tick) (sym e)
+    let e = chosen-itself (x .s) (record { tick = x .tick .0; snap = t }) _ (x .s .count) n (s .pre .many) (c .if1 .taken) in
+    ap (λ (y : Store.StoredSnap). y .tick) (sym e)
 
 sub-tick-at : tie.Need-sub-tick-at
 sub-tick-at c = search needs
@@ -40,8 +38,8 @@ returns-3 c t =
     let s = c .before .before .before .before .before .before in
     let x = s .args in
     let n = c .before .before .before .before .enum-told .given .1 in
-    let e = chosen-oldest (x .s) (record { tick = x .tick; snap = t }) _ (x .s .count) n (s .pre .many) (c .before .before .if1 .left) in
-    toZ-ofZ {w = w32} (record { sfits = c .tick-at .ok }) ∙ (c .tick-at .ensures ∙ ap (λ (y : Store.StoredSnap). y .tick) (sym e))
+    let e = chosen-oldest (x .s) (record { tick = x .tick .0; snap = t }) _ (x .s .count) n (s .pre .many) (c .before .before .if1 .left) in
+    c .tick-at .ensures ∙ ap (λ (y : Store.StoredSnap). y .tick) (sym e)
 
 pub base-tick-spec : {M : Type 1} → statement M
 base-tick-spec = tie.close (tie.spec enum-told enum-told-2 returns returns-2 sub-tick-at tick-at-requires returns-3)

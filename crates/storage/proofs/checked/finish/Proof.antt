@@ -1,18 +1,12 @@
 -- `checked::finish` meets its contract: by whether the delta was made. Assumes nothing.
 use Rattle.storage.proofs.Calls.{made-leaves, clash-leaves, refused-leaves}
 use Rattle.storage.specs.States.{storeOf}
-use Rattle.storage.specs.Steps.{addedOf}
 use Rattle.store_area.specs.Held.{snapsIn}
 use denote.Ref.{now}
-use mathlib.Core.Path.{_≡_, _∙_}
-use mir.Facts.{toZ-ofZ}
+use mathlib.Core.Path.{_∙_}
 use borrow.Author.Needs.{needs}
 use Rattle.storage.proofs.checked.finish.Statement.{statement}
 use Rattle.storage.proofs.checked.finish.Tie as tie
-
--- the answer
-answered : (c : tie.After-answer) → let s = c .before .args in c .answer .result ≡ addedOf (s .base) (s .result)
-answered c = rw (toZ-ofZ (c .before .fits .base)) at (c .answer .ensures)
 
 answer-requires : tie.Need-answer-requires
 answer-requires c κs = search needs
@@ -40,24 +34,24 @@ returns c =
     let x = s .args in
     let a = now (x .area) in
     let r = c .before .store in
-    made-leaves (storeOf (x .s)) a (snapsIn (x .s .count) a) (x .tick) (x .base) _ (now (x .table)) _ (r .result) (x .result)
-    (c .before .before .before .enum-told .given .1) (r .ensures .0 ∙ answered (c .before .before .before .before .before)) (r .ensures .1) (rw (toZ-ofZ (s .fits .tick)) at (r .ensures .2))
+    made-leaves (storeOf (x .s)) a (snapsIn (x .s .count) a) (x .tick .0) (x .base) _ (now (x .table)) _ (r .result) (x .result)
+    (c .before .before .before .enum-told .given .1) (r .ensures .0 ∙ c .before .before .before .before .before .answer .ensures) (r .ensures .1) (r .ensures .2)
 
 returns-2 : tie.Need-returns-2
 returns-2 c =
     let s = c .before .before .before in
     let x = s .args in
     let a = now (x .area) in
-    clash-leaves (storeOf (x .s)) a (snapsIn (x .s .count) a) (x .tick) (x .base) (s .pre .0 .held .stands .area-is) _
-    (now (x .table)) (x .result) _ (c .enum-told2 .given .1) (answered (c .before .before))
+    clash-leaves (storeOf (x .s)) a (snapsIn (x .s .count) a) (x .tick .0) (x .base) (s .pre .0 .held .stands .area-is) _
+    (now (x .table)) (x .result) _ (c .enum-told2 .given .1) (c .before .before .answer .ensures)
 
 returns-3 : tie.Need-returns-3
 returns-3 c =
     let s = c .before .before .before in
     let x = s .args in
     let a = now (x .area) in
-    refused-leaves (storeOf (x .s)) a (snapsIn (x .s .count) a) (x .tick) (x .base) (s .pre .0 .held .stands .area-is) _
-    (now (x .table)) (x .result) _ (c .enum-told3 .given .1) (answered (c .before .before))
+    refused-leaves (storeOf (x .s)) a (snapsIn (x .s .count) a) (x .tick .0) (x .base) (s .pre .0 .held .stands .area-is) _
+    (now (x .table)) (x .result) _ (c .enum-told3 .given .1) (c .before .before .answer .ensures)
 
 pub finish-spec : {M : Type 1} → statement M
 finish-spec =

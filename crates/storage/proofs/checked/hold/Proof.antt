@@ -9,7 +9,6 @@ use denote.Ref.{now}
 use lib.ListN.{length}
 use mathlib.Core.List.{List}
 use mathlib.Core.Path.{sym, ap, _∙_}
-use mir.Facts.{toZ-ofZ}
 use native.Mathlib.Omega.{arith}
 use borrow.Author.Needs.{needs}
 use Rattle.storage.proofs.checked.hold.Statement.{statement}
@@ -75,11 +74,10 @@ returns-2 c t sum e f =
     let k = c .before .before .before .before .before .before .before .before .before .before .stay in
     let u = c .before .before .before .before .before .before .before .before .used in
     let p = c .before .before .push in
-    let z = toZ-ofZ (s .fits .tick) in
-    let laid = leaves-more (c .before .before .before .before .before .cut .ensures) (record { tick = s .args .tick; snap = t }) _ (rw z at (p .ensures t e)) in
+    let laid = leaves-more (c .before .before .before .before .before .cut .ensures) (record { tick = s .args .tick .0; snap = t }) _ (p .ensures t e) in
     hold-done (s .args .s) (now (s .args .area)) (s .args .ints) (s .pre .0) (k .result) (u .result) (k .ensures .0) (u .ensures)
-    (k .ensures .2 (L s) (s .pre .0 .held .many)) (s .args .tick) t _ (ap length e) (s .args .warnings) sum f (c .with-ack .result) _ _
-    (c .before .before .before .before .before .before .before .if1 .left) laid z (rw z at (c .with-ack .ensures))
+    (k .ensures .2 (L s) (s .pre .0 .held .many)) (s .args .tick) t _ (ap length e) (s .args .warnings) sum f (c .with-ack .result) _
+    (c .before .before .before .before .before .before .before .if1 .left) laid (c .with-ack .ensures)
 
 pub hold-spec : {M : Type 1} → statement M
 hold-spec =

@@ -18,8 +18,6 @@ use lib.IntN.{ℤ}
 use lib.ListN.{length}
 use mathlib.Core.List.{List}
 use mathlib.Core.Path.{_≡_, sym, ap, _∙_}
-use mir.Facts.{toZ-ofZ}
-use mir.Syntax.{w32}
 use native.Mathlib.Omega.{arith}
 use borrow.Author.Needs.{needs}
 use Rattle.storage.proofs.checked.hold_made.Statement.{statement}
@@ -35,19 +33,16 @@ T s = items (now (s .args .scratch))
 
 -- what was counted
 counted : (c : tie.After-taken-warnings) → let s = c .before .before in let x = s .args in
-    warned (x .m .«delta_tick») (typedTable (T s) (x .made)) ≡ tableWith (T s) (x .made .table) (counts (c .taken-warnings .result))
-counted c =
-    let s = c .before .before in
-    let z = toZ-ofZ {w = w32} {z = s .args .m .«delta_tick»} (record { sfits = c .before .struct-told .given .1 .1 .0 .1 }) in
-    rw z at (c .taken-warnings .ensures (T s))
+    warned (x .m .«delta_tick» .0) (typedTable (T s) (x .made)) ≡ tableWith (T s) (x .made .table) (counts (c .taken-warnings .result))
+counted c = c .taken-warnings .ensures (T (c .before .before))
 
 -- a table was made
 made : (c : tie.After-table2) → let s = c .before .before .before .before in let x = s .args in
-    warned (x .m .«delta_tick») (typedTable (T s) (x .made)) ≡ ok (T s) (counts (c .before .before .taken-warnings .result))
+    warned (x .m .«delta_tick» .0) (typedTable (T s) (x .made)) ≡ ok (T s) (counts (c .before .before .taken-warnings .result))
 made c =
     let s = c .before .before .before .before in
     let w = c .before .before in
-    made-ok (s .args .m .«delta_tick») (s .args .made) (T s) (counts (w .taken-warnings .result)) (counted w) _ _ (c .table2 .given .1)
+    made-ok (s .args .m .«delta_tick» .0) (s .args .made) (T s) (counts (w .taken-warnings .result)) (counted w) _ _ (c .table2 .given .1)
 
 -- it is in form
 told : (c : tie.After-table2) → let s = c .before .before .before .before in let t = c .table2 .given .0 in
@@ -69,7 +64,7 @@ sum-fits-requires : tie.Need-sum-fits-requires
 sum-fits-requires c κs = formed _ _ _ (told (c .before)) .0
 
 slice-aggregate-hold : tie.Need-slice-aggregate-hold
-slice-aggregate-hold c = form-length _ (told (c .before .before .before .before))
+slice-aggregate-hold c = form-length _ (told (c .before .before .before .before .before))
 
 hold-requires : tie.Need-hold-requires
 hold-requires c κs =
@@ -86,10 +81,9 @@ returns c =
     let s = d .before .before .before .before in
     let x = s .args in
     let h = holdsIn (storeOf (x .s)) (A s) in
-    let z = toZ-ofZ {w = w32} {z = x .m .tick} (record { sfits = c .before .before .struct-told2 .given .1 .1 .1 .0 .1 }) in
     let f = sym (c .before .before .before .before .before .before .sum-fits .ensures) ∙ c .before .before .before .before .before .if1 .taken in
-    ap (λ (o : Outcome Table). laidOut (A s) (Store.addTable (length (A s)) (sumOf (x .m)) (x .m .tick) h o)) (made d)
-    ∙ rw z at (c .before .hold .ensures (T s) (sumOf (x .m)) (sym (form-front _ (told d))) f)
+    ap (λ (o : Outcome Table). laidOut (A s) (Store.addTable (length (A s)) (sumOf (x .m)) (x .m .tick .0) h o)) (made d)
+    ∙ c .before .hold .ensures (T s) (sumOf (x .m)) (sym (form-front _ (told d))) f
 
 without-ack-requires : tie.Need-without-ack-requires
 without-ack-requires c κs = search needs
@@ -100,8 +94,8 @@ returns-2 c =
     let x = s .args in
     let w = c .before .before .before in
     let t = c .before .table .given in
-    refused-taken (x .s) (A s) (x .ints) (s .pre .0) (length (A s)) (sumOf (x .m)) (x .m .tick) (t .0 .0) (w .taken-warnings .result) _
-    (made-err (x .m .«delta_tick») (x .made) (T s) (counts (w .taken-warnings .result)) (counted w) (t .0 .0) (t .1))
+    refused-taken (x .s) (A s) (x .ints) (s .pre .0) (length (A s)) (sumOf (x .m)) (x .m .tick .0) (t .0 .0) (w .taken-warnings .result) _
+    (made-err (x .m .«delta_tick» .0) (x .made) (T s) (counts (w .taken-warnings .result)) (counted w) (t .0 .0) (t .1))
 
 returns-3 : tie.Need-returns-3
 returns-3 c =
@@ -109,7 +103,7 @@ returns-3 c =
     let s = d .before .before .before .before in
     let x = s .args in
     let w = d .before .before .taken-warnings .result in
-    wrong-sum (x .s) (c .without-ack .result) (A s) (x .ints) (s .pre .0) _ (sumOf (x .m)) (x .m .tick) w (T s) _ (made d)
+    wrong-sum (x .s) (c .without-ack .result) (A s) (x .ints) (s .pre .0) _ (sumOf (x .m)) (x .m .tick .0) w (T s) _ (made d)
     (sym (c .before .before .sum-fits .ensures) ∙ c .before .if1 .left) (c .without-ack .ensures)
 
 pub hold-made-spec : {M : Type 1} → statement M

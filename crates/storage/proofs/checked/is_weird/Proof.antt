@@ -1,28 +1,20 @@
 -- `checked::is_weird` meets its contract. Assumes nothing.
-use Rattle.definitions.specs.Storage.{isNegative}
-use mathlib.Core.Path.{_≡_, sym, _∙_}
-use mir.Facts.{toZ-ofZ}
+use mathlib.Core.Path.{sym, _∙_}
 use borrow.Author.Needs.{needs}
 use Rattle.storage.proofs.checked.is_weird.Statement.{statement}
 use Rattle.storage.proofs.checked.is_weird.Tie as tie
 
--- whether the tick is negative
-negative : (c : tie.After-signed-less) → c .signed-less .result ≡ isNegative (c .before .args .tick)
-negative c = rw (toZ-ofZ (c .before .fits .tick)) at (c .signed-less .ensures)
+is-negative-requires : tie.Need-is-negative-requires
+is-negative-requires c κs = search needs
 
-signed-less-requires : tie.Need-signed-less-requires
-signed-less-requires c κs = search needs
-
-same-requires : tie.Need-same-requires
-same-requires c κs = search needs
+is-same-requires : tie.Need-is-same-requires
+is-same-requires c κs = search needs
 
 returns : tie.Need-returns
-returns c =
-    let s = c .before .before .before in
-    rw (c .same .ensures, sym (negative (c .before .before)) ∙ c .before .if1 .taken, toZ-ofZ (s .fits .tick))
+returns c = rw (c .is-same .ensures, sym (c .before .before .is-negative .ensures) ∙ c .before .if1 .taken)
 
 returns-2 : tie.Need-returns-2
-returns-2 c = rw (sym (negative (c .before)) ∙ c .if1 .left)
+returns-2 c = rw (sym (c .before .is-negative .ensures) ∙ c .if1 .left)
 
 pub is-weird-spec : {M : Type 1} → statement M
-is-weird-spec = tie.close (tie.spec signed-less-requires same-requires returns returns-2)
+is-weird-spec = tie.close (tie.spec is-negative-requires is-same-requires returns returns-2)

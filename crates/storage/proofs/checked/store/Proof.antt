@@ -1,6 +1,5 @@
 -- `checked::store` meets its contract: the table is before the others. Assumes nothing.
 use mathlib.Core.Path.{refl}
-use mir.Facts.{toZ-ofZ}
 use borrow.Author.Needs.{needs}
 use Rattle.storage.proofs.checked.store.Statement.{statement}
 use Rattle.storage.proofs.checked.store.Tie as tie
@@ -20,9 +19,7 @@ same-length : tie.Need-same-length
 same-length c = search needs
 
 returns : tie.Need-returns
-returns c =
-    let s = c .before .before .before .before .before in
-    (refl, c .with-count .ensures, λ t e. rw (toZ-ofZ (s .fits .tick)) at (c .before .before .before .push .ensures t e))
+returns c = (refl, c .with-count .ensures, c .before .before .before .push .ensures)
 
 pub store-spec : {M : Type 1} → statement M
 store-spec =

@@ -45,7 +45,7 @@ returns : tie.Need-returns
 returns c =
     let x = c .before .before .before .before .before .args in
     let a = now (x .area) in
-    take-47 (storeOf (x .s)) a (sumOf (x .m)) (x .m .«delta_tick») (x .m .tick) (now (x .delta)) (length (now (x .scratch)))
+    take-47 (storeOf (x .s)) a (sumOf (x .m)) (x .m .«delta_tick» .0) (x .m .tick .0) (now (x .delta)) (length (now (x .scratch)))
     (not-held _ _ (sym (c .before .enum-told .given .1) ∙ c .before .before .before .form .ensures))
     ∙ c .not-taken .ensures a
 
@@ -71,7 +71,7 @@ returns-2 : tie.Need-returns-2
 returns-2 c =
     let x = c .before .before .before .before .before .before .before .before .before .before .args in
     let a = now (x .area) in
-    delta-47 (storeOf (x .s)) a (sumOf (x .m)) (x .m .«delta_tick») (x .m .tick) (now (x .delta)) (length (now (x .scratch)))
+    delta-47 (storeOf (x .s)) a (sumOf (x .m)) (x .m .«delta_tick» .0) (x .m .tick .0) (now (x .delta)) (length (now (x .scratch)))
     (in-form (c .before .before .before .before .before .before) .is) (DeltaForms.not-held _ (sym (c .before .enum-told2 .given .1) ∙ c .before .before .before .form2 .ensures))
     ∙ c .not-taken2 .ensures a
 
@@ -87,7 +87,7 @@ returns-3 c =
     let n = d .before .before .before .before .before in
     let x = n .before .before .before .before .args in
     let a = now (x .area) in
-    take-41 (storeOf (x .s)) a (sumOf (x .m)) (x .m .«delta_tick») (x .m .tick) (now (x .delta)) (length (now (x .scratch)))
+    take-41 (storeOf (x .s)) a (sumOf (x .m)) (x .m .«delta_tick» .0) (x .m .tick .0) (now (x .delta)) (length (now (x .scratch)))
     (in-form n .is) _ (DeltaForms.is-held _ _ _ (held d)) (c .before .if1 .taken)
     ∙ c .not-taken3 .ensures a
 
@@ -108,7 +108,7 @@ returns-4 c =
     let n = d .before .before .before .before .before in
     let x = n .before .before .before .before .args in
     let a = now (x .area) in
-    take-all (storeOf (x .s)) a (sumOf (x .m)) (x .m .«delta_tick») (x .m .tick) (now (x .delta)) (length (now (x .scratch)))
+    take-all (storeOf (x .s)) a (sumOf (x .m)) (x .m .«delta_tick» .0) (x .m .tick .0) (now (x .delta)) (length (now (x .scratch)))
     (in-form n .is) _ (DeltaForms.is-held _ _ _ (held d)) (c .before .before .before .before .before .if1 .left)
     ∙ c .before .before .take-judged .ensures
 

@@ -1,27 +1,15 @@
 -- `checked::take_judged` meets its contract: by whether the tick is new. Assumes nothing.
 use Rattle.definitions.specs.Deltas.{deltaIn}
-use Rattle.definitions.specs.Ints.{signedLess}
-use Rattle.definitions.specs.Storage as Store
 use Rattle.storage.proofs.Takes.{take-30, take-new}
 use Rattle.storage.specs.States.{storeOf}
 use Rattle.storage.specs.Taking.{sumOf}
-use Rattle.store_area.specs.Held.{snapsIn}
 use borrow.Author.Tests.{not-true, not-false}
 use denote.Ref.{now}
 use mathlib.Core.List.{[]}
-use mathlib.Core.Path.{_≡_, sym, _∙_}
-use mir.Facts.{toZ-ofZ}
-use mir.Syntax.{w32}
+use mathlib.Core.Path.{sym, _∙_}
 use borrow.Author.Needs.{needs}
 use Rattle.storage.proofs.checked.take_judged.Statement.{statement}
 use Rattle.storage.proofs.checked.take_judged.Tie as tie
-
--- whether the tick is new
-newer : (c : tie.After-is-newer)
-    → let s = c .before .before .before in c .is-newer .result ≡ signedLess (Store.newestTick (snapsIn (s .args .s .count) (now (s .args .area)))) (s .args .m .tick)
-newer c =
-    let z = c .before .before .before .args .m .tick in
-    rw (toZ-ofZ {w = w32} {z = z} (record { sfits = c .before .struct-told .given .1 .1 .1 .0 .1 })) at (c .is-newer .ensures)
 
 is-newer-requires : tie.Need-is-newer-requires
 is-newer-requires c κs = c .before .before .pre .0 .held
@@ -37,8 +25,8 @@ returns c =
     let s = c .before .before .before .before .before in
     let x = s .args in
     let a = now (x .area) in
-    take-30 (storeOf (x .s)) a (sumOf (x .m)) (x .m .«delta_tick») (x .m .tick) (deltaIn [] (now (x .delta))) (x .ints) (s .pre .0)
-    (sym (newer (c .before .before)) ∙ not-true _ (c .before .if1 .taken))
+    take-30 (storeOf (x .s)) a (sumOf (x .m)) (x .m .«delta_tick» .0) (x .m .tick .0) (deltaIn [] (now (x .delta))) (x .ints) (s .pre .0)
+    (sym (c .before .before .is-newer .ensures) ∙ not-true _ (c .before .if1 .taken))
     ∙ c .not-taken .ensures a
 
 take-on-requires : tie.Need-take-on-requires
@@ -53,8 +41,8 @@ same-length-3 c = search needs
 returns-2 : tie.Need-returns-2
 returns-2 c =
     let x = c .before .before .before .before .before .before .before .before .before .args in
-    take-new (storeOf (x .s)) (now (x .area)) (sumOf (x .m)) (x .m .«delta_tick») (x .m .tick) (deltaIn [] (now (x .delta)))
-    (sym (newer (c .before .before .before .before .before .before)) ∙ not-false _ (c .before .before .before .before .before .if1 .left))
+    take-new (storeOf (x .s)) (now (x .area)) (sumOf (x .m)) (x .m .«delta_tick» .0) (x .m .tick .0) (deltaIn [] (now (x .delta)))
+    (sym (c .before .before .before .before .before .before .is-newer .ensures) ∙ not-false _ (c .before .before .before .before .before .if1 .left))
     ∙ c .before .before .take-on .ensures
 
 pub take-judged-spec : {M : Type 1} → statement M

@@ -1,7 +1,6 @@
 -- `checked::taken_warnings` meets its contract: by whether the tick is weird. Assumes nothing.
 use Rattle.storage.proofs.Bases.{weird-by}
 use Rattle.storage.proofs.Deltas.{taken-counted}
-use mir.Facts.{toZ-ofZ}
 use borrow.Author.Needs.{needs}
 use Rattle.storage.proofs.checked.taken_warnings.Statement.{statement}
 use Rattle.storage.proofs.checked.taken_warnings.Tie as tie
@@ -16,7 +15,7 @@ returns : tie.Need-returns
 returns c t =
     let s = c .before .before in
     let w = c .before .is-weird in
-    taken-counted (s .args .tick) (s .args .made) _ (w .result) (weird-by (s .args .tick) (w .result) (rw (toZ-ofZ (s .fits .tick)) at (w .ensures)))
+    taken-counted (s .args .tick .0) (s .args .made) _ (w .result) (weird-by (s .args .tick .0) (w .result) (w .ensures))
     (c .taken .ensures) t
 
 pub taken-warnings-spec : {M : Type 1} → statement M

@@ -7,7 +7,6 @@ use Rattle.definitions.specs.Storage as Store
 use Rattle.storage.proofs.Bases.{weird-cases}
 use lib.IntN.{negsuc}
 use mathlib.Core.Bool.{not, _&&_}
-use mir.Facts.{toZ-ofZ}
 use borrow.Author.Needs.{needs}
 use Rattle.storage.proofs.checked.weird.Statement.{statement}
 use Rattle.storage.proofs.checked.weird.Tie as tie
@@ -20,9 +19,9 @@ taken-requires c κs = search needs
 
 returns : tie.Need-returns
 returns c =
-    let tick = c .before .before .args .tick in
+    let tick = c .before .before .args .tick .0 in
     weird-cases (Store.isNegative tick && not (same tick (negsuc 0)))
-    ∙ ap (λ (w : Counts). ok tt w) (sym (rw (c .before .is-weird .ensures, toZ-ofZ (c .before .before .fits .tick)) at (c .taken .ensures)))
+    ∙ ap (λ (w : Counts). ok tt w) (sym (rw (c .before .is-weird .ensures) at (c .taken .ensures)))
 
 pub weird-spec : {M : Type 1} → statement M
 weird-spec = tie.close (tie.spec is-weird-requires taken-requires returns)

@@ -10,7 +10,6 @@ use mathlib.Core.List.{List}
 use mathlib.Core.Path.{_≡_, sym, _∙_}
 use mir.Facts.{toZ-ofZ}
 use mir.Syntax.{w32}
-use mir.Val.{toZ}
 use native.Mathlib.Omega.{arith}
 use borrow.Author.Needs.{needs}
 use Rattle.store_area.proofs.checked.count_newer.Statement.{statement}
@@ -18,7 +17,7 @@ use Rattle.store_area.proofs.checked.count_newer.Tie as tie
 
 abbrev Inv-loop : tie.InvT-loop
 Inv-loop area count tick i₀ p₀ i p =
-    (i ≤ count) × (p ≡ placeOf (snapsIn count area) i) × Newer (toZ w32 tick) (snapsIn count area) i
+    (i ≤ count) × (p ≡ placeOf (snapsIn count area) i) × Newer (tick .0) (snapsIn count area) i
 
 abbrev μ-loop : tie.MeasureT-loop
 μ-loop area count tick i₀ p₀ i p = count - i
@@ -26,10 +25,6 @@ abbrev μ-loop : tie.MeasureT-loop
 -- the tables
 abbrev L : tie.Start Inv-loop μ-loop → List StoredSnap
 L s = snapsIn (s .args .count) (now (s .args .area))
-
--- the tables passed are not older
-newer : (l : tie.At-loop Inv-loop μ-loop) → Newer (l .before .args .tick) (L (l .before)) (l .loop .i)
-newer l = rw (toZ-ofZ (l .before .fits .tick)) at (l .loop .inv .2)
 
 -- the i-th table is here
 stands : (c : tie.In-loop Inv-loop μ-loop) → let l = c .before in Entry (now (l .before .args .area)) (l .loop .p) (snapAt (L (l .before)) (l .loop .i))
@@ -39,30 +34,28 @@ stands c =
     here (now (s .args .area)) (s .args .count) (s .pre) (l .loop .i) (l .loop .p) (omega arith) (l .loop .inv .1)
 
 -- its tick is compared
-compared : (c : tie.After-signed-less Inv-loop μ-loop) → let l = c .before .before .before in let s = l .before in
-    c .signed-less .result ≡ signedLess (snapAt (L s) (l .loop .i) .tick) (s .args .tick)
+compared : (c : tie.After-is-before Inv-loop μ-loop) → let l = c .before .before .before in let s = l .before in
+    c .is-before .result ≡ signedLess (snapAt (L s) (l .loop .i) .tick) (s .args .tick .0)
 compared c =
-    let s = c .before .before .before .before in
-    let e = stands (c .before .before) .tick-is in
-    rw (toZ-ofZ {w = w32} (record { sfits = c .before .signed-less-arg .given }), toZ-ofZ (s .fits .tick), e) at (c .signed-less .ensures)
+    rw (toZ-ofZ {w = w32} (record { sfits = c .before .t10 .given }), stands (c .before .before) .tick-is) at (c .is-before .ensures)
 
 loop-holds : tie.Need-loop-holds Inv-loop μ-loop
 loop-holds c = (search needs, place-zero (L c), newer-start _ _)
 
-mul-signed-less : tie.Need-mul-signed-less Inv-loop μ-loop
-mul-signed-less c = let e = stands c in omega (arith, e .room)
+mul-t8 : tie.Need-mul-t8 Inv-loop μ-loop
+mul-t8 c = let e = stands c in omega (arith, e .room)
 
-shared-slice-copy-out-signed-less : tie.Need-shared-slice-copy-out-signed-less Inv-loop μ-loop
-shared-slice-copy-out-signed-less c = let e = stands c in omega (arith, e .room)
+shared-slice-copy-out-t10 : tie.Need-shared-slice-copy-out-t10 Inv-loop μ-loop
+shared-slice-copy-out-t10 c = let e = stands c in omega (arith, e .room)
 
-signed-less-requires : tie.Need-signed-less-requires Inv-loop μ-loop
-signed-less-requires c κs = search needs
+is-before-requires : tie.Need-is-before-requires Inv-loop μ-loop
+is-before-requires c κs = search needs
 
 returns : tie.Need-returns Inv-loop μ-loop
 returns c =
     let l = c .before .before .before .before in
     let s = l .before in
-    (search needs, older-here (s .args .tick) (L s) (l .loop .i) (newer l) (omega (arith, s .pre .many)) (sym (compared (c .before)) ∙ c .if1 .taken))
+    (search needs, older-here (s .args .tick .0) (L s) (l .loop .i) (l .loop .inv .2) (omega (arith, s .pre .many)) (sym (compared (c .before)) ∙ c .if1 .taken))
 
 add-nat-at : tie.Need-add-nat-at Inv-loop μ-loop
 add-nat-at c = let e = stands (c .before .before .before) in omega (arith, e .room)
@@ -88,14 +81,14 @@ loop-again c =
     let s = l .before in (
       search needs,
       place-turn (now (s .args .area)) (s .args .count) (s .pre) (l .loop .i) (l .loop .p) _ (omega arith) (l .loop .inv .1) (c .nat-at .ensures .0),
-      rw (toZ-ofZ (s .fits .tick)) (newer-turn (s .args .tick) (L s) (l .loop .i) (newer l) (omega (arith, s .pre .many)) (sym (compared (c .before .before)) ∙ c .before .if1 .left)),
+      newer-turn (s .args .tick .0) (L s) (l .loop .i) (l .loop .inv .2) (omega (arith, s .pre .many)) (sym (compared (c .before .before)) ∙ c .before .if1 .left),
     )
 
 returns-2 : tie.Need-returns-2 Inv-loop μ-loop
 returns-2 c =
     let l = c .before in
     let s = l .before in
-    (search needs, none-older (s .args .tick) (L s) (l .loop .i) (newer l) (omega (arith, s .pre .many)))
+    (search needs, none-older (s .args .tick .0) (L s) (l .loop .i) (l .loop .inv .2) (omega (arith, s .pre .many)))
 
 pub count-newer-spec : {M : Type 1} → statement M
 count-newer-spec =
@@ -104,9 +97,9 @@ count-newer-spec =
     Inv-loop
     μ-loop
     loop-holds
-    mul-signed-less
-    shared-slice-copy-out-signed-less
-    signed-less-requires
+    mul-t8
+    shared-slice-copy-out-t10
+    is-before-requires
     returns
     add-nat-at
     nat-at-requires

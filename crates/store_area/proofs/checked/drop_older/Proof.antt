@@ -1,6 +1,5 @@
 -- `checked::drop_older` meets its contract: the tables that are not older stay. Assumes nothing.
 use Rattle.store_area.specs.Laid.{leaves-same}
-use mir.Facts.{toZ-ofZ}
 use borrow.Author.Needs.{needs}
 use Rattle.store_area.proofs.checked.drop_older.Statement.{statement}
 use Rattle.store_area.proofs.checked.drop_older.Tie as tie
@@ -18,9 +17,7 @@ same-length c = search needs
 
 returns : tie.Need-returns
 returns c =
-    let k = c .before .before .before in
-    let s = k .before .before in
-    leaves-same (rw (toZ-ofZ (s .fits .tick)) at (k .count-newer .ensures .1)) (c .before .cut .ensures)
+    leaves-same (c .before .before .before .count-newer .ensures .1) (c .before .cut .ensures)
 
 pub drop-older-spec : {M : Type 1} → statement M
 drop-older-spec = tie.close (tie.spec count-newer-requires cut-requires same-length returns)

@@ -3,8 +3,6 @@ use Rattle.store_area.proofs.Steps.{newest-none, newest-first}
 use Rattle.store_area.specs.Held.{snapsIn}
 use denote.Ref.{now}
 use mathlib.Core.Path.{_∙_}
-use mir.Facts.{toZ-ofZ}
-use mir.Syntax.{w32}
 use borrow.Author.Needs.{needs}
 use Rattle.store_area.proofs.checked.newest_tick.Statement.{statement}
 use Rattle.store_area.proofs.checked.newest_tick.Tie as tie
@@ -18,9 +16,7 @@ tick-at-requires c κs = search needs
 returns-2 : tie.Need-returns-2
 returns-2 c =
     let s = c .before .before in
-    toZ-ofZ {w = w32} (record { sfits = c .tick-at .ok })
-    ∙ (c .tick-at .ensures
-    ∙ newest-first (snapsIn (s .args .count) (now (s .args .area))) _ (s .pre .many) (c .before .if1 .left))
+    c .tick-at .ensures ∙ newest-first (snapsIn (s .args .count) (now (s .args .area))) _ (s .pre .many) (c .before .if1 .left)
 
 pub newest-tick-spec : {M : Type 1} → statement M
 newest-tick-spec = tie.close (tie.spec returns tick-at-requires returns-2)

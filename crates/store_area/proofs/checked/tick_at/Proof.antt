@@ -19,14 +19,14 @@ stands c =
 place-requires : tie.Need-place-requires
 place-requires c κs = (c .pre .0, omega arith)
 
-mul-result : tie.Need-mul-result
-mul-result c = let e = stands c in omega (arith, e .room)
+mul-t5 : tie.Need-mul-t5
+mul-t5 c = let e = stands c in omega (arith, e .room)
 
-shared-slice-copy-out-result : tie.Need-shared-slice-copy-out-result
-shared-slice-copy-out-result c = let e = stands c in omega (arith, e .room)
+shared-slice-copy-out-t7 : tie.Need-shared-slice-copy-out-t7
+shared-slice-copy-out-t7 c = let e = stands c in omega (arith, e .room)
 
 returns : tie.Need-returns
-returns c = toZ-ofZ {w = w32} (record { sfits = c .result .given }) ∙ stands (c .before) .tick-is
+returns c = toZ-ofZ {w = w32} (record { sfits = c .t7 .given }) ∙ stands (c .before) .tick-is
 
 pub tick-at-spec : {M : Type 1} → statement M
-tick-at-spec = tie.close (tie.spec place-requires mul-result shared-slice-copy-out-result returns)
+tick-at-spec = tie.close (tie.spec place-requires mul-t5 shared-slice-copy-out-t7 returns)

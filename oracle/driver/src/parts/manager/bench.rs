@@ -7,6 +7,7 @@ use crate::core::bench::Table;
 use crate::core::random::Random;
 use crate::core::told::Told;
 use crate::parts::deltas;
+use crate::parts::receiver::calls;
 use crate::parts::receiver::inputs::messages_of;
 use crate::parts::receiver::oracle;
 use crate::parts::receiver::oracle::Call;
@@ -19,6 +20,7 @@ use cefdugar::delta;
 use cefdugar::manager::Lent;
 use cefdugar::manager::Manager;
 use cefdugar::manager::SCRATCH;
+use cefdugar::messages::Tick;
 use cefdugar::receiver::Receiver;
 use cefdugar::receiver::AREA_BYTES;
 use cefdugar::storage::Storage;
@@ -97,7 +99,7 @@ struct Port {
 
 impl Port {
     /// The tick that the last of some messages acknowledges.
-    fn take(&mut self, messages: &[Call]) -> Option<i32> {
+    fn take(&mut self, messages: &[Call]) -> Option<Tick> {
         let mut ack = None;
         for message in messages {
             let lent = Lent {
@@ -109,8 +111,14 @@ impl Port {
                 scratch: &mut self.areas.scratch,
             };
             let (said, _) = match message {
-                Call::Snap(numbers, data) => self.manager.snap(*numbers, data, lent),
-                Call::Single(numbers, data) => self.manager.snap_single(*numbers, data, lent),
+                Call::Snap(numbers, data) => {
+                    let snap = calls::snap(oracle::snap(numbers, data));
+                    self.manager.snap(snap, lent)
+                }
+                Call::Single(numbers, data) => {
+                    let snap = calls::single(oracle::single(numbers, data));
+                    self.manager.snap_single(snap, lent)
+                }
                 _ => unreachable!("there are bytes"),
             };
             ack = said.unwrap_or(None);
@@ -128,13 +136,19 @@ struct Steps {
 
 impl Steps {
     /// The tick that the last of some messages acknowledges.
-    fn take(&mut self, messages: &[Call]) -> Option<i32> {
+    fn take(&mut self, messages: &[Call]) -> Option<Tick> {
         let mut ack = None;
         for message in messages {
             let (parts, joined) = (&mut self.areas.parts, &mut self.areas.joined);
             let (said, _) = match message {
-                Call::Snap(numbers, data) => self.receiver.snap(*numbers, data, parts, joined),
-                Call::Single(numbers, data) => self.receiver.snap_single(*numbers, data, joined),
+                Call::Snap(numbers, data) => {
+                    let snap = calls::snap(oracle::snap(numbers, data));
+                    self.receiver.snap(snap, parts, joined)
+                }
+                Call::Single(numbers, data) => {
+                    let snap = calls::single(oracle::single(numbers, data));
+                    self.receiver.snap_single(snap, joined)
+                }
                 _ => unreachable!("there are bytes"),
             };
             if let Some(received) = said.unwrap_or(None) {

@@ -13,6 +13,7 @@ use crate::core::report::Compared;
 use crate::core::report::Shown;
 use crate::core::shrink::Shrink;
 use crate::parts::receiver::calls;
+use crate::parts::receiver::oracle;
 use crate::parts::receiver::oracle::Call;
 use crate::parts::storage::calls::disguised;
 use crate::parts::storage::calls::rows;
@@ -159,13 +160,15 @@ fn receiver_call(receiver: &mut receiver::Receiver, call: &Call, parts: &mut [u8
     let mut joined = vec![0; AREA_BYTES];
     match call {
         Call::Snap(numbers, data) => {
-            let _ = receiver.snap(*numbers, data, parts, &mut joined);
+            let snap = calls::snap(oracle::snap(numbers, data));
+            let _ = receiver.snap(snap, parts, &mut joined);
         }
         Call::Single(numbers, data) => {
-            let _ = receiver.snap_single(*numbers, data, &mut joined);
+            let snap = calls::single(oracle::single(numbers, data));
+            let _ = receiver.snap_single(snap, &mut joined);
         }
         Call::Empty(numbers) => {
-            let _ = receiver.snap_empty(*numbers);
+            let _ = receiver.snap_empty(calls::empty(oracle::empty(numbers)));
         }
         Call::Reset => receiver.reset(),
     }

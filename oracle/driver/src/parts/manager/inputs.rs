@@ -11,6 +11,7 @@ use crate::core::told::Told;
 use crate::parts::deltas;
 use crate::parts::receiver::inputs::any_tick;
 use crate::parts::receiver::inputs::changed;
+use crate::parts::receiver::inputs::differ;
 use crate::parts::receiver::inputs::messages_of;
 use crate::parts::receiver::oracle::Call;
 use crate::parts::storage::inputs::items;
@@ -103,6 +104,7 @@ fn disturb(random: &mut Random, messages: &mut Vec<Call>) {
                     damage(data, random);
                 }
             }
+            5 => differ(&mut messages[i], random),
             _ => messages.swap(i, j),
         }
     }

@@ -16,6 +16,7 @@ use crate::core::shrink::Shrink;
 use calls::Areas;
 use calls::Both;
 use calls::Content;
+use calls::Step;
 use cefdugar::manager::Manager;
 use cefdugar::manager::SCRATCH;
 use cefdugar::receiver::AREA_BYTES;
@@ -50,6 +51,7 @@ impl Shrink for List {
 fn compare(run: &mut Run) -> Result {
     let mut areas = Areas::new();
     forms(run, &mut areas)?;
+    differing(run, &mut areas)?;
     for round in 0..run.rounds {
         let mut random = run.random(round);
         let list = inputs::list(&mut random);
@@ -83,6 +85,25 @@ fn all(run: &mut Run, areas: &mut Areas, list: List) -> std::result::Result<Both
         },
     )?;
     Ok(both)
+}
+
+/// Parts whose base, part count and sum differ from the first part's, each alone
+/// and together.
+fn differing(run: &mut Run, areas: &mut Areas) -> Result {
+    for tick in [1, 10, i32::MAX] {
+        for distance in [0, tick.wrapping_add(1), i32::MIN] {
+            for sum in [0, -7] {
+                for which in 0..8 {
+                    let calls = super::receiver::inputs::differing([tick, distance, 3, sum], which);
+                    let spare = [40; 2];
+                    let steps = calls.into_iter().map(|call| Step { call, spare }).collect();
+                    let sizes = vec![];
+                    all(run, areas, List { sizes, steps })?;
+                }
+            }
+        }
+    }
+    Ok(())
 }
 
 /// Every message in cases that the port alone refuses.

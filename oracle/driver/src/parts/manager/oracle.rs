@@ -5,6 +5,7 @@
 //! delta and store, all the Rust's) get the same messages, and show what was
 //! received, read and held; the answers of both are compared.
 
+use crate::core::oracle::comparable;
 use crate::core::oracle::Number;
 use crate::core::oracle::Tally;
 use crate::core::report::Shown;
@@ -18,7 +19,6 @@ use crate::parts::storage::oracle as storing;
 use cefdugar::manager::SCRATCH;
 use cefdugar::receiver::ReceivedDelta;
 use cefdugar::Warnings;
-use libtw2_snapshot::DeltaReceiver;
 use libtw2_snapshot::Manager;
 use libtw2_snapshot::Snap;
 use receiving::Call;
@@ -46,7 +46,7 @@ pub struct Room {
 #[derive(Clone, Default)]
 pub struct Printer {
     rust: Manager,
-    receiver: DeltaReceiver,
+    receiver: receiving::Receiver,
     pub store: Store,
 }
 
@@ -100,7 +100,7 @@ impl Printer {
             return room;
         }
         let mut receiver = self.receiver.clone();
-        let received = receiving::call(&mut receiver, call);
+        let received = receiver.call(call);
         let Ok(Some(delta)) = received.answer else {
             return room;
         };
@@ -140,10 +140,11 @@ impl Printer {
         };
         if ample {
             let newest = said.ack.map(|_| self.store.held[0].1.clone());
-            Shown::compare(&(said.number, newest, said.warnings), &{
-                let (number, table) = answer;
-                (number, table, tally.0)
-            })?;
+            let (number, table) = answer;
+            Shown::compare(
+                &(said.number, newest, comparable(said.warnings)),
+                &(number, table, comparable(tally.0)),
+            )?;
         } else if let Some(delta) = received {
             self.finish_short(&delta, said.delta.is_empty());
         }
@@ -159,8 +160,8 @@ impl Printer {
             true => vec![],
             false => packed(&storing::REFUSED),
         };
-        let distance = delta.tick.wrapping_sub(delta.delta_tick);
-        let single = Call::Single([delta.tick, distance, 0], data);
+        let distance = delta.tick.since(delta.delta_tick);
+        let single = Call::Single([delta.tick.0, distance.0, 0], data);
         let said = manager_call(&mut self.rust, &[], &single, &mut Tally::default());
         assert!(said.number() != 0);
     }
@@ -172,7 +173,7 @@ impl Printer {
         call: &Call,
         room: Room,
     ) -> (Said, Option<ReceivedDelta>) {
-        let received = receiving::call(&mut self.receiver, call);
+        let received = self.receiver.call(call);
         let mut said = Said {
             number: received.answer.err().unwrap_or(0),
             warnings: received.warnings,
@@ -197,7 +198,7 @@ impl Printer {
         let taken = take(&mut self.store, &delta, &read.ints, room.area);
         said.warnings = plus(said.warnings, taken.warnings);
         said.number = taken.number;
-        said.ack = (taken.number == 0).then_some(delta.tick);
+        said.ack = (taken.number == 0).then_some(delta.tick.0);
         said.delta = read.ints;
         (said, Some(delta))
     }
@@ -221,6 +222,6 @@ fn read(
 
 fn take(store: &mut Store, delta: &ReceivedDelta, ints: &[i32], room: usize) -> storing::Said {
     let crc = delta.data_and_crc.map(|(_, crc)| crc);
-    let (base, tick) = (delta.delta_tick, delta.tick);
+    let (base, tick) = (delta.delta_tick.0, delta.tick.0);
     store.add_delta(crc, base, tick, &storing::delta_of(ints), room)
 }

@@ -9,9 +9,10 @@
 //!     e TICK DIST                             an empty message
 //!     l PLACE                                 the table at a place
 //!
-//! Answers: the 13 warning counts, COUNT ACK, how many tables are held and
-//! the tick acknowledged (`-` if there is none), and then `more`,
-//! `tick TICK`, or `refused NUMBER`. For `l`: `TICK INT..`, or `end`.
+//! Answers: the 13 warning counts (that of `DifferingAttributes` is the
+//! model's), COUNT ACK, how many tables are held and the tick acknowledged (`-`
+//! if there is none), and then `more`, `tick TICK`, or `refused NUMBER`. For
+//! `l`: `TICK INT..`, or `end`.
 
 use super::inputs;
 use super::oracle::Printer;
@@ -114,6 +115,19 @@ fn parts(tick: i32, base: i32, crc: i32, bytes: &[u8], count: usize) -> Vec<Call
         .collect()
 }
 
+/// Parts of which the second has another base than the first one, the third
+/// another part count and the fourth another sum; the third is doubled.
+fn differing(tick: i32, base: i32, crc: i32, bytes: &[u8]) -> Vec<Call> {
+    let mut calls = parts(tick, base, crc, bytes, 4);
+    for (call, place) in calls[1..].iter_mut().zip([1, 2, 4]) {
+        if let Call::Snap(numbers, _) = call {
+            numbers[place] += 1;
+        }
+    }
+    calls.insert(3, calls[2].clone());
+    calls
+}
+
 /// Parts in any order, each refusal, room that is just enough and one less;
 /// then random lists.
 pub fn fill(record: &mut Record, random: &mut Random) {
@@ -135,6 +149,7 @@ pub fn fill(record: &mut Record, random: &mut Random) {
         calls.push(Call::Reset);
         calls.extend(parts(1, -1, 5, &first, 1));
         calls.extend(parts(2, 1, 7, &second, 33).drain(..2));
+        calls.extend(differing(3, 1, 7, &second));
         for call in &calls {
             list.call(record, call);
         }

@@ -6,13 +6,16 @@
 //! instead of the port only the copies that docs/FORMAT.md requires, each part into
 //! the first part area and the whole into the second.
 
+use super::calls;
 use super::oracle;
 use super::oracle::Call;
 use crate::core::bench::Table;
+use crate::core::oracle::comparable;
 use crate::core::oracle::Number;
 use crate::core::oracle::Tally;
 use crate::core::random::Random;
 use cefdugar::messages;
+use cefdugar::messages::Tick;
 use cefdugar::receiver::Outputs;
 use cefdugar::receiver::Receiver;
 use cefdugar::receiver::AREA_BYTES;
@@ -59,7 +62,8 @@ fn cut(table: &mut Table, data: &[u8]) {
         &mut || {
             let count = messages::num_chunks(black_box(data)).unwrap_or(0);
             for i in 0..count {
-                let _ = black_box(messages::chunk(black_box(10), 4, black_box(data), 7, i));
+                let (tick, data) = (Tick(black_box(10)), black_box(data));
+                let _ = black_box(messages::chunk(tick, Tick(4), data, 7, i));
             }
         },
     );
@@ -161,8 +165,8 @@ fn receive(table: &mut Table, name: &str, len: usize, list: &[Call]) {
         &mut || {
             port.reset();
             for (numbers, data) in &parts {
-                let said = port.snap(*numbers, black_box(data), &mut area, &mut joined);
-                let _ = black_box(said);
+                let snap = calls::snap(oracle::snap(numbers, black_box(data)));
+                let _ = black_box(port.snap(snap, &mut area, &mut joined));
             }
         },
     );
@@ -273,7 +277,8 @@ fn receive_calls(table: &mut Table, name: &str, len: usize, list: &[Call]) {
             }
         },
     );
-    assert!((left.outputs, left.warnings) == (rust_left.outputs, rust_left.warnings));
+    let said = |left: Left| (left.outputs, comparable(left.warnings));
+    assert!(said(left) == said(rust_left));
 }
 
 /// Only what those calls have to copy, compared with the Rust's calls.

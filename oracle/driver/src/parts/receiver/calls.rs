@@ -12,14 +12,18 @@ use crate::core::report::Shown;
 use crate::core::shrink::Shrink;
 use crate::core::text::hex_short;
 use cefdugar::messages;
+use cefdugar::messages::Distance;
 use cefdugar::messages::Message;
+use cefdugar::messages::Snap;
+use cefdugar::messages::SnapEmpty;
+use cefdugar::messages::SnapSingle;
+use cefdugar::messages::Tick;
 use cefdugar::receiver::Outputs;
 use cefdugar::receiver::Receiver;
 use cefdugar::receiver::AREA_BYTES;
 use cefdugar::Warnings;
 use libtw2_gamenet_snap as msg;
-use libtw2_snapshot::snap;
-use libtw2_snapshot::DeltaReceiver;
+use libtw2_snapshot::snap::delta_chunks;
 
 const LEFT: Outputs = Outputs {
     kind: LEFT_FLAG,
@@ -49,7 +53,7 @@ pub fn print(call: &Call) -> String {
 
 /// The port's areas and receiver, and the Rust's.
 pub struct Both {
-    rust: DeltaReceiver,
+    rust: oracle::Receiver,
     pub port: Receiver,
     parts: Area<u8>,
     joined: Area<u8>,
@@ -91,7 +95,7 @@ impl Both {
             joined.lend(AREA_BYTES).to_vec(),
         ];
         Both {
-            rust: DeltaReceiver::new(),
+            rust: oracle::Receiver::default(),
             port: Receiver::new(),
             parts,
             joined,
@@ -99,9 +103,9 @@ impl Both {
         }
     }
 
-    /// The same call to both. A part of more than 900 bytes goes to the port
-    /// alone, which refuses it (43).
-    pub fn call(&mut self, call: &Call) -> Compared {
+    /// The same call to both; gives the port's counts. A part of more than 900
+    /// bytes goes to the port alone, which refuses it (43).
+    pub fn call(&mut self, call: &Call) -> Result<Warnings, Shown> {
         let before = self.port;
         let too_long =
             matches!(call, Call::Snap(_, data) | Call::Single(_, data) if data.len() > 900);
@@ -118,7 +122,7 @@ impl Both {
         let (oracle, joined) = if too_long {
             ((43, LEFT, Warnings::default()), vec![])
         } else {
-            let said = oracle::call(&mut self.rust, call);
+            let said = self.rust.call(call);
             let set = match said.answer {
                 Ok(delta) => (0, outputs_of(delta)),
                 Err(number) => (number, LEFT),
@@ -135,7 +139,8 @@ impl Both {
             self.held[0][at..at + data.len()].copy_from_slice(data);
         }
         left("parts", self.parts.check(0, &self.held[0]))?;
-        left("joined", self.joined.check(0, &self.held[1]))
+        left("joined", self.joined.check(0, &self.held[1]))?;
+        Ok(warnings)
     }
 
     /// Whether a call that the port alone refuses with `number` leaves
@@ -161,6 +166,21 @@ impl Both {
     }
 }
 
+/// Calls to a new receiver on both sides.
+pub fn receive(list: &Vec<Call>) -> Compared {
+    let mut both = Both::new();
+    list.iter().try_for_each(|call| both.call(call).map(drop))
+}
+
+/// The same for parts of one delta, which never differ from each other.
+pub fn receive_alike(list: &Vec<Call>) -> Compared {
+    let mut both = Both::new();
+    list.iter().try_for_each(|call| {
+        let warnings = both.call(call)?;
+        Shown::compare(&0, &warnings.0[Warnings::DIFFERING_ATTRIBUTES])
+    })
+}
+
 /// What the outputs hold if the message was taken.
 fn outputs_of(delta: Option<cefdugar::receiver::ReceivedDelta>) -> Outputs {
     match delta {
@@ -172,53 +192,69 @@ fn outputs_of(delta: Option<cefdugar::receiver::ReceivedDelta>) -> Outputs {
             };
             Outputs {
                 kind,
-                received: [delta.tick, delta.delta_tick, crc],
+                received: [delta.tick.0, delta.delta_tick.0, crc],
                 len,
             }
         }
     }
 }
 
+/// The Rust's part of a delta in the port's form.
+pub fn snap(snap: msg::Snap<'_>) -> Snap<'_> {
+    Snap {
+        tick: Tick(snap.tick),
+        delta_tick: Distance(snap.delta_tick),
+        num_parts: snap.num_parts,
+        part: snap.part,
+        crc: snap.crc,
+        data: snap.data,
+    }
+}
+
+/// A whole delta.
+pub fn single(snap: msg::SnapSingle<'_>) -> SnapSingle<'_> {
+    SnapSingle {
+        tick: Tick(snap.tick),
+        delta_tick: Distance(snap.delta_tick),
+        crc: snap.crc,
+        data: snap.data,
+    }
+}
+
+/// An empty delta.
+pub fn empty(snap: msg::SnapEmpty) -> SnapEmpty {
+    SnapEmpty {
+        tick: Tick(snap.tick),
+        delta_tick: Distance(snap.delta_tick),
+    }
+}
+
 /// The Rust's message in the port's form.
 fn message(message: msg::SnapMsg<'_>) -> Message<'_> {
     match message {
-        msg::SnapMsg::Snap(snap) => Message::Snap {
-            tick: snap.tick,
-            delta_tick: snap.delta_tick,
-            num_parts: snap.num_parts,
-            part: snap.part,
-            crc: snap.crc,
-            data: snap.data,
-        },
-        msg::SnapMsg::SnapEmpty(snap) => Message::SnapEmpty {
-            tick: snap.tick,
-            delta_tick: snap.delta_tick,
-        },
-        msg::SnapMsg::SnapSingle(snap) => Message::SnapSingle {
-            tick: snap.tick,
-            delta_tick: snap.delta_tick,
-            crc: snap.crc,
-            data: snap.data,
-        },
+        msg::SnapMsg::Snap(part) => Message::Snap(snap(part)),
+        msg::SnapMsg::SnapEmpty(delta) => Message::SnapEmpty(empty(delta)),
+        msg::SnapMsg::SnapSingle(delta) => Message::SnapSingle(single(delta)),
     }
 }
 
 /// Cuts some bytes into messages on both sides.
 pub fn cut(tick: i32, delta_tick: i32, data: &[u8], crc: i32) -> Compared {
-    let mut all: Vec<_> = snap::delta_chunks(tick, delta_tick, data, crc)
+    let mut all: Vec<_> = delta_chunks(tick, delta_tick, data, crc)
         .map(message)
         .collect();
     Shown::compare(&Ok(all.len()), &messages::num_chunks(data))?;
     let count = all.len();
     let mut i = 0;
     while let Some(oracle) = (i < count).then(|| all[i]) {
-        let port = messages::chunk(tick, delta_tick, data, crc, i);
+        let port = messages::chunk(Tick(tick), Tick(delta_tick), data, crc, i);
         Shown::compare(&Ok(Some(oracle)), &port)?;
         i += 1;
     }
     all.clear();
     for i in [count, count + 1, usize::MAX] {
-        Shown::compare(&Ok(None), &messages::chunk(tick, delta_tick, data, crc, i))?;
+        let port = messages::chunk(Tick(tick), Tick(delta_tick), data, crc, i);
+        Shown::compare(&Ok(None), &port)?;
         let (mut kind, mut numbers, mut len) = (LEFT_FLAG, [LEFT_INT; 5], LEFT_SIZE);
         let number = messages::plain_chunk(
             tick,

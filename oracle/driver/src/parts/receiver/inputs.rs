@@ -89,9 +89,89 @@ pub fn changed(call: &mut Call, random: &mut Random) {
     }
 }
 
+/// Changes any of a part's distance, part count and sum.
+pub fn differ(call: &mut Call, random: &mut Random) {
+    let Call::Snap(numbers, _) = call else {
+        return;
+    };
+    for place in [1, 2, 4] {
+        if random.chance(1, 2) {
+            numbers[place] = match random.below(3) {
+                0 if place != 2 => any_tick(random),
+                _ => numbers[place].wrapping_add(random.pick(&[-1, 1])),
+            };
+        }
+    }
+}
+
+/// Parts with the numbers of a tick's first part, and with others: the bits of
+/// `which` say whether the base, the part count and the sum are others. Some are
+/// refused (23), a newer tick begins with the others, and `reset` comes between.
+pub fn differing([tick, distance, count, sum]: [i32; 4], which: i32) -> Vec<Call> {
+    let part = |tick, distance, count, part, sum| {
+        Call::Snap([tick, distance, count, part, sum], vec![part as u8])
+    };
+    let first = |tick, i| part(tick, distance, count, i, sum);
+    let other = |tick, i| {
+        let [base, more, less] = [which & 1, which >> 1 & 1, which >> 2 & 1];
+        let distance = distance.wrapping_add(base);
+        part(tick, distance, count + more, i, sum.wrapping_sub(less))
+    };
+    let next = tick.wrapping_add(1);
+    vec![
+        first(tick, 0),
+        other(tick, 1),
+        other(tick, 1),
+        first(tick, 1),
+        other(tick, 0),
+        other(next, 0),
+        first(next, 0),
+        first(next, 1),
+        other(next, 2),
+        Call::Reset,
+        other(tick, 2),
+        first(tick, 1),
+        first(tick, 0),
+        other(tick, 0),
+    ]
+}
+
+/// Every order of some places.
+pub fn orders(count: usize) -> Vec<Vec<usize>> {
+    let Some(last) = count.checked_sub(1) else {
+        return vec![vec![]];
+    };
+    let mut all = vec![];
+    for order in orders(last) {
+        for at in 0..count {
+            let mut order = order.clone();
+            order.insert(at, last);
+            all.push(order);
+        }
+    }
+    all
+}
+
 /// A length above 900.
 fn random_len(most: usize) -> usize {
     most.max(901)
+}
+
+/// Messages that are lost, doubled, swapped or changed.
+fn disturb(random: &mut Random, messages: &mut Vec<Call>) {
+    for _ in 0..random.below(6) {
+        let (i, j) = (random.below(messages.len()), random.below(messages.len()));
+        match random.below(6) {
+            0 => drop(messages.remove(i)),
+            1 => messages.insert(j, messages[i].clone()),
+            2 => changed(&mut messages[i], random),
+            3 => differ(&mut messages[i], random),
+            _ => messages.swap(i, j),
+        }
+        if messages.is_empty() {
+            return;
+        }
+    }
 }
 
 /// A list of calls: a few deltas at ticks that mostly rise, with parts lost,
@@ -107,7 +187,7 @@ pub fn calls(random: &mut Random) -> Vec<Call> {
         };
         let base = match random.below(4) {
             0 => any_tick(random),
-            // The distance is then the base, and no part differs.
+            // Distance and base are then the same number, or nearly.
             1 => tick.wrapping_sub(tick / 2),
             _ => tick.wrapping_sub(random.between(0, 5) as i32),
         };
@@ -119,18 +199,7 @@ pub fn calls(random: &mut Random) -> Vec<Call> {
             _ => random.between(901, 5_000),
         };
         let mut messages = messages(random, tick, base, len);
-        for _ in 0..random.below(6) {
-            let (i, j) = (random.below(messages.len()), random.below(messages.len()));
-            match random.below(5) {
-                0 => drop(messages.remove(i)),
-                1 => messages.insert(j, messages[i].clone()),
-                2 => changed(&mut messages[i], random),
-                _ => messages.swap(i, j),
-            }
-            if messages.is_empty() {
-                break;
-            }
-        }
+        disturb(random, &mut messages);
         let at = list.len();
         list.extend(messages);
         if random.chance(1, 3) && at > 0 {

@@ -2,12 +2,14 @@
 
 mod bench;
 pub mod calls;
+mod differing;
 pub mod inputs;
 pub mod oracle;
 mod record;
 
 use super::Part;
 use super::Rounds;
+use crate::core::report::Compared;
 use crate::core::report::Difference;
 use crate::core::report::Run;
 use calls::Both;
@@ -33,6 +35,8 @@ type Result = std::result::Result<(), Difference>;
 fn compare(run: &mut Run) -> Result {
     lengths(run)?;
     forms(run)?;
+    alike(run)?;
+    differing(run)?;
     for round in 0..run.rounds {
         let mut random = run.random(round);
         let len = random.below(5_000);
@@ -40,7 +44,7 @@ fn compare(run: &mut Run) -> Result {
         let [tick, base, crc] = [(); 3].map(|()| inputs::any_tick(&mut random));
         cut(run, tick, base, &data, crc)?;
         let list = inputs::calls(&mut random);
-        receive(run, &list)?;
+        receive(run, list, calls::receive)?;
     }
     Ok(())
 }
@@ -75,19 +79,48 @@ fn cut(run: &mut Run, tick: i32, base: i32, data: &[u8], crc: i32) -> Result {
     )
 }
 
-/// A list of calls to a fresh receiver on both sides.
-fn receive(run: &mut Run, list: &[Call]) -> Result {
-    let all = |list: &Vec<Call>| {
-        let mut both = Both::new();
-        list.iter().try_for_each(|call| both.call(call))
-    };
-    let list = list.to_vec();
+/// A list of calls, compared so.
+fn receive(run: &mut Run, list: Vec<Call>, compare: fn(&Vec<Call>) -> Compared) -> Result {
     run.case(
-        all(&list),
+        compare(&list),
         || list.clone(),
-        all,
+        compare,
         |list| list.iter().map(calls::print).collect::<Vec<_>>().join("; "),
     )
+}
+
+/// The parts of a delta in every order, each one twice.
+fn alike(run: &mut Run) -> Result {
+    let mut random = run.random(0);
+    for tick in [0, 10, -1, i32::MIN, i32::MAX] {
+        for base in [-1, 0, 4, i32::MIN, i32::MAX] {
+            for count in 2..=4 {
+                let parts = inputs::messages(&mut random, tick, base, 900 * count);
+                for order in inputs::orders(count) {
+                    let twice = |i: usize| [parts[i].clone(), parts[i].clone()];
+                    let list = order.into_iter().flat_map(twice).collect();
+                    receive(run, list, calls::receive_alike)?;
+                }
+            }
+        }
+    }
+    Ok(())
+}
+
+/// Parts whose base, part count and sum differ from the first part's, each alone
+/// and together.
+fn differing(run: &mut Run) -> Result {
+    for tick in [0, 1, 10, -1, i32::MIN, i32::MAX] {
+        for distance in [0, 1, 5, tick, tick.wrapping_add(1), i32::MIN, i32::MAX] {
+            for sum in [0, 7, -7, i32::MIN] {
+                for which in 0..8 {
+                    let list = inputs::differing([tick, distance, 3, sum], which);
+                    receive(run, list, calls::receive)?;
+                }
+            }
+        }
+    }
+    Ok(())
 }
 
 /// Receivers out of form, and part areas that are too short: refused by every

@@ -1,7 +1,9 @@
 //! The Rust's answers on messages.
 
+use super::differing::FirstPart;
 use crate::core::oracle::Number;
 use crate::core::oracle::Tally;
+use cefdugar::messages::Tick;
 use cefdugar::receiver::ReceivedDelta;
 use cefdugar::Warnings;
 use libtw2_gamenet_snap as msg;
@@ -35,8 +37,8 @@ fn said(
     let mut joined = vec![];
     let answer = match result {
         Ok(delta) => Ok(delta.map(|delta| ReceivedDelta {
-            delta_tick: delta.delta_tick,
-            tick: delta.tick,
+            delta_tick: Tick(delta.delta_tick),
+            tick: Tick(delta.tick),
             data_and_crc: delta.data_and_crc.map(|(bytes, crc)| {
                 joined = bytes.to_vec();
                 (bytes.len(), crc)
@@ -81,8 +83,25 @@ pub fn empty(numbers: &[i32; 2]) -> msg::SnapEmpty {
     msg::SnapEmpty { tick, delta_tick }
 }
 
-/// The answer of the Rust's receiver.
-pub fn call(receiver: &mut DeltaReceiver, call: &Call) -> Said {
+/// The Rust's receiver, and the model of the warning that the Rust counts by
+/// another rule.
+#[derive(Clone, Default)]
+pub struct Receiver {
+    rust: DeltaReceiver,
+    first: FirstPart,
+}
+
+impl Receiver {
+    /// The Rust's answer, with the model's count of `DifferingAttributes`.
+    pub fn call(&mut self, call: &Call) -> Said {
+        let mut said = rust_call(&mut self.rust, call);
+        let due = self.first.due(call, &said.answer);
+        said.warnings.0[Warnings::DIFFERING_ATTRIBUTES] = due;
+        said
+    }
+}
+
+fn rust_call(receiver: &mut DeltaReceiver, call: &Call) -> Said {
     let mut tally = Tally::default();
     let result = match call {
         Call::Snap(numbers, data) => receiver.snap(&mut tally, snap(numbers, data)),

@@ -7,18 +7,17 @@
 //!     i TICK DIST CRC HEX            a single message
 //!     e TICK DIST                    an empty message
 //!
-//! Answers: DUPLICATE DIFFERING, the two warning counts, and then `more`
-//! (not yet), `delta TICK BASE CRC LEN HEX`, `empty TICK BASE`, or
-//! `refused NUMBER`.
+//! Answers: DUPLICATE DIFFERING, the two warning counts (the second is the
+//! model's), and then `more` (not yet), `delta TICK BASE CRC LEN HEX`,
+//! `empty TICK BASE`, or `refused NUMBER`.
 
 use super::inputs;
-use super::oracle;
 use super::oracle::Call;
+use super::oracle::Receiver;
 use crate::core::random::Random;
 use crate::core::record::Record;
 use crate::core::text::hex;
 use cefdugar::Warnings;
-use libtw2_snapshot::DeltaReceiver;
 
 fn numbers(list: &[i32]) -> String {
     list.iter().map(|int| format!(" {int}")).collect()
@@ -33,17 +32,17 @@ fn question(call: &Call) -> String {
     }
 }
 
-fn answer(receiver: &mut DeltaReceiver, call: &Call) -> String {
-    let said = oracle::call(receiver, call);
+fn answer(receiver: &mut Receiver, call: &Call) -> String {
+    let said = receiver.call(call);
     let what = match said.answer {
         Err(number) => format!("refused {number}"),
         Ok(None) => "more".to_string(),
         Ok(Some(delta)) => match delta.data_and_crc {
-            None => format!("empty {} {}", delta.tick, delta.delta_tick),
+            None => format!("empty {} {}", delta.tick.0, delta.delta_tick.0),
             Some((len, crc)) => format!(
                 "delta {} {} {crc} {len} {}",
-                delta.tick,
-                delta.delta_tick,
+                delta.tick.0,
+                delta.delta_tick.0,
                 hex(&said.joined)
             ),
         },
@@ -58,7 +57,7 @@ fn answer(receiver: &mut DeltaReceiver, call: &Call) -> String {
 
 /// The calls of one list on a fresh receiver.
 fn list(record: &mut Record, calls: &[Call]) {
-    let mut receiver = DeltaReceiver::new();
+    let mut receiver = Receiver::default();
     record.case("n", "0 0 more");
     for call in calls {
         record.case(&question(call), &answer(&mut receiver, call));

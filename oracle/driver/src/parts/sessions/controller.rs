@@ -10,10 +10,12 @@ use crate::parts::deltas;
 use crate::parts::receiver;
 use crate::parts::receiver::inputs::messages_of;
 use crate::parts::receiver::oracle::Call;
+use crate::parts::storage::calls::rows;
 use crate::parts::storage::oracle as storing;
 use crate::parts::tables;
 use cefdugar::delta;
 use cefdugar::delta::NoDelta;
+use cefdugar::messages::Tick;
 use cefdugar::storage::Storage;
 use libtw2_snapshot::format::item_data_to_uuid;
 use libtw2_snapshot::format::TypeId;
@@ -120,11 +122,7 @@ impl Controller {
         let store = &self.store;
         Shown::compare(
             &(store.held.len(), store.ack_tick(), store.delta_tick()),
-            &(
-                self.port.num_snaps(),
-                self.port.ack_tick(),
-                self.port.delta_tick(),
-            ),
+            &rows(&self.port),
         )?;
         match store.area(self.area.len()) == self.area {
             true => Ok(()),
@@ -137,7 +135,7 @@ impl Controller {
         let said = self
             .store
             .call(&storing::Call::SetDeltaTick(tick), self.area.len());
-        let (port, warnings) = self.port.set_delta_tick(tick, &mut self.area);
+        let (port, warnings) = self.port.set_delta_tick(Tick(tick), &mut self.area);
         let number = port.map_or_else(|refusal| refusal.0, |()| 0);
         Shown::compare(&(said.number, said.warnings), &(number, warnings))?;
         self.same()
@@ -158,11 +156,11 @@ impl Controller {
         let said = self.store.call(&call, self.area.len());
         let port = self
             .port
-            .add_snap(tick, &table, &mut self.delta, &mut self.area);
+            .add_snap(Tick(tick), &table, &mut self.delta, &mut self.area);
         let answer = match port {
             Ok(added) => (
                 0,
-                Some((added.base, self.delta[..added.ints].to_vec())),
+                Some((added.base.0, self.delta[..added.ints].to_vec())),
                 None,
             ),
             Err(NoDelta::Clash(key)) => (10, None, Some(key)),

@@ -172,6 +172,9 @@ impl Receiving {
             &(said.number, said.ack, said.warnings),
             &(number, ack, outputs.warnings),
         )?;
+        // The parts of one delta never differ from each other.
+        let differing = outputs.warnings.0[Warnings::DIFFERING_ATTRIBUTES];
+        Shown::compare(&0, &differing)?;
         let noted = self.logbook.note(numbers(call));
         let answer = match (number, ack) {
             (0, Some(tick)) => Answer::Acknowledges(tick),
@@ -206,7 +209,7 @@ impl Receiving {
         let ticks: Vec<i32> = store.held.iter().map(|(tick, _)| *tick).collect();
         Shown::compare(
             &(&self.logbook.held, self.logbook.acknowledged),
-            &(&ticks, self.port.ack_tick()),
+            &(&ticks, self.port.ack_tick().map(|tick| tick.0)),
         )?;
         for (tick, table) in &store.held {
             Shown::compare(&controller.accepted.get(tick), &Some(table))?;

@@ -7,6 +7,7 @@ use crate::core::bench::Table;
 use crate::parts::deltas::bench::changed;
 use crate::parts::tables::oracle::Item;
 use cefdugar::delta;
+use cefdugar::messages::Tick;
 use cefdugar::storage::Storage;
 use libtw2_snapshot as rust;
 use libtw2_snapshot::Snap;
@@ -84,14 +85,14 @@ impl Port {
     fn before(&mut self, tables: &[Vec<i32>]) {
         let oldest = self.tick + 1 - tables.len() as i32;
         if oldest >= 0 {
-            let (set, _) = self.store.set_delta_tick(oldest, &mut self.area);
+            let (set, _) = self.store.set_delta_tick(Tick(oldest), &mut self.area);
             assert!(set.is_ok());
         }
     }
     fn add(&mut self, tables: &[Vec<i32>]) {
         let table = black_box(at(tables, self.tick));
         let (delta, area) = (&mut self.delta, &mut self.area);
-        let added = self.store.add_snap(self.tick, table, delta, area);
+        let added = self.store.add_snap(Tick(self.tick), table, delta, area);
         assert!(black_box(added).is_ok());
         self.tick += 1;
     }

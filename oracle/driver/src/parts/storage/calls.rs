@@ -101,8 +101,8 @@ type Told = (u32, Outputs, Warnings);
 pub fn rows(storage: &Storage) -> (usize, Option<i32>, Option<i32>) {
     (
         storage.num_snaps(),
-        storage.ack_tick(),
-        storage.delta_tick(),
+        storage.ack_tick().map(|tick| tick.0),
+        storage.delta_tick().map(|tick| tick.0),
     )
 }
 

@@ -1,24 +1,39 @@
 -- Which kinds of warning a step of a message counts. Assumes nothing.
-use mathlib.Core.Path.{_≡_, refl, ap₂, _∙_}
+use mathlib.Core.Path.{_≡_, refl, sym, ap, ap₂, _∙_}
 use mathlib.Core.Bool.{Bool, true, false, cond}
 use Prim.Native.Nat.{ℕ}
 use native.Mathlib.Nat.{add-zero, zero-add}
-use Rattle.definitions.specs.Warnings.{Warning, Counts, one, plus}
+use Rattle.definitions.specs.Warnings.{Warning, Counts, UnknownDelete, ExcessSnapData, ExcessUuidItemData, DuplicateSnap, DifferingAttributes, WeirdNegativeDeltaTick, one, plus}
 use Rattle.definitions.specs.Warnings as Warnings
 use Rattle.definitions.specs.Outcome.{Outcome, ok, err, return, require, warnIf, after, _>>=_, _>>_}
-use Rattle.format.specs.Sources.{merge}
+use Rattle.laws.specs.WarningLaws.{set}
 
 -- ---- the kinds of each step
 
--- counts of all kinds but those that a step counts are 0
+-- each kind of warning from the step that counts it: receiver, reading of the delta, or store; the delta's steps leave no ints over
+abbrev pub merge : Counts → Counts → Counts → Counts
+merge received read taken =
+    set DuplicateSnap (received .duplicateSnap)
+    (set DifferingAttributes (received .differingAttributes)
+    (set UnknownDelete (taken .unknownDelete)
+    (set ExcessUuidItemData (taken .excessUuidItemData)
+    (set WeirdNegativeDeltaTick (taken .weirdNegativeDeltaTick) (set ExcessSnapData 0 read)))))
+
+-- the kinds of the receiver: all other counts are 0
 abbrev pub ofReceiver : Counts → Counts
 ofReceiver w = merge w Warnings.none Warnings.none
 
+-- the kinds of reading a delta
 abbrev pub ofReading : Counts → Counts
 ofReading w = merge Warnings.none w Warnings.none
 
+-- the kinds of a store
 abbrev pub ofStore : Counts → Counts
 ofStore w = merge Warnings.none Warnings.none w
+
+-- all kinds
+abbrev pub ofAny : Counts → Counts
+ofAny w = w
 
 -- the sum of the three has each kind from the step that counts it
 sums : (a b c : Counts) → plus (plus (ofReceiver a) (ofReading b)) (ofStore c) ≡ merge a b c
@@ -53,6 +68,9 @@ reading = record { nothing = refl; both = λ v w e f. ap₂ plus e f }
 pub storing : Closed ofStore
 storing = record { nothing = refl; both = λ v w e f. ap₂ plus e f }
 
+pub counting : Closed ofAny
+counting = record { nothing = refl; both = λ v w e f. refl }
+
 module _ {only : Counts → Counts} (c : Closed only) where
   module _ {A : Type 0} {P : A → Type 0} where
     -- after earlier warnings
@@ -74,6 +92,10 @@ module _ {only : Counts → Counts} (c : Closed only) where
     warns true k e h = later (one k) e h
     warns false k e h = later Warnings.none (c .nothing) h
 
+    -- after a warning that is not due
+    pub spared : {o : Outcome A} (b : Bool) (k : Warning) → b ≡ false → Told only P o → Told only P (warnIf b k >> o)
+    spared b k e h = rw e (later Warnings.none (c .nothing) h)
+
     -- one of two
     pub either : {x y : Outcome A} (b : Bool) → Told only P x → Told only P y → Told only P (cond b x y)
     either true h k = h
@@ -94,3 +116,13 @@ module _ {only : Counts → Counts} (c : Closed only) where
 pub weaker : {A : Type 0} {only : Counts → Counts} {P Q : A → Type 0} {o : Outcome A} → ((a : A) → P a → Q a) → Told only P o → Told only Q o
 weaker f (value p e) = value (f _ p) e
 weaker f (refusal e) = refusal e
+
+-- kinds among which these are
+pub wider : {A : Type 0} {only more : Counts → Counts} {P : A → Type 0} {o : Outcome A} → ((w : Counts) → only w ≡ more (only w)) → Told only P o → Told more P o
+wider {more = more} f (value {w = w} p e) = value p (e ∙ (f w ∙ ap more (sym e)))
+wider {more = more} f (refusal {w = w} e) = refusal (e ∙ (f w ∙ ap more (sym e)))
+
+-- the kinds and the property, each by itself
+pub together : {A : Type 0} {only : Counts → Counts} {P : A → Type 0} {o : Outcome A} → Told only Any o → Told ofAny P o → Told only P o
+together (value p e) (value q f) = value q e
+together (refusal e) (refusal f) = refusal e
