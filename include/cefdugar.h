@@ -78,25 +78,33 @@ typedef int32_t cef_distance;
 #define CEF_KNOWN_SIZE_DIFFERS 46u
 #define CEF_NOT_IN_FORM 47u
 
+/* Set padding bits of a packed integer. */
+#define CEF_NON_ZERO_INT_PADDING 52u
+
 /* Rules. */
 #define CEF_SHORT_RULE 55u
 
 /* ---- Warnings: the place of each kind in an array of counts ---- */
 
+/*
+ * Incompatible change: an array has 12 places where it had 13. The warning
+ * about the padding bits of an integer, at place 1, is gone: they are refused
+ * with CEF_NON_ZERO_INT_PADDING. The kinds behind it have moved down by one. A
+ * program that was compiled for 13 places must be compiled anew.
+ */
 #define CEF_WARN_OVERLONG_INT_ENCODING 0
-#define CEF_WARN_NON_ZERO_INT_PADDING 1
-#define CEF_WARN_NON_ZERO_PADDING 2
-#define CEF_WARN_DUPLICATE_DELETE 3
-#define CEF_WARN_DUPLICATE_UPDATE 4
-#define CEF_WARN_UNKNOWN_DELETE 5
-#define CEF_WARN_DELETE_UPDATE 6
-#define CEF_WARN_NUM_UPDATED_ITEMS 7
-#define CEF_WARN_EXCESS_SNAP_DATA 8
-#define CEF_WARN_EXCESS_UUID_ITEM_DATA 9
-#define CEF_WARN_DUPLICATE_SNAP 10
-#define CEF_WARN_DIFFERING_ATTRIBUTES 11
-#define CEF_WARN_WEIRD_NEGATIVE_DELTA_TICK 12
-#define CEF_WARNINGS 13
+#define CEF_WARN_NON_ZERO_PADDING 1
+#define CEF_WARN_DUPLICATE_DELETE 2
+#define CEF_WARN_DUPLICATE_UPDATE 3
+#define CEF_WARN_UNKNOWN_DELETE 4
+#define CEF_WARN_DELETE_UPDATE 5
+#define CEF_WARN_NUM_UPDATED_ITEMS 6
+#define CEF_WARN_EXCESS_SNAP_DATA 7
+#define CEF_WARN_EXCESS_UUID_ITEM_DATA 8
+#define CEF_WARN_DUPLICATE_SNAP 9
+#define CEF_WARN_DIFFERING_ATTRIBUTES 10
+#define CEF_WARN_WEIRD_NEGATIVE_DELTA_TICK 11
+#define CEF_WARNINGS 12
 
 /* ---- Packed integers ---- */
 
@@ -107,12 +115,19 @@ typedef int32_t cef_distance;
 #define CEF_INT_BYTES 5
 
 /*
+ * The upper four bits of an integer's fifth byte are padding and must be 0.
+ * CEF_NON_ZERO_INT_PADDING means that one of them is set; the integer's value
+ * is then not used.
+ */
+
+/*
  * Reads the packed integer that begins at place `at` of the `src_len` bytes
  * at `src`.
  *
  * CEF_OK: *value is the integer, *next the place after it.
  * CEF_INPUT_TOO_LONG: src_len > CEF_INPUT_MOST.
  * CEF_UNEXPECTED_END: the bytes end inside it, or at >= src_len.
+ * CEF_NON_ZERO_INT_PADDING: a padding bit of it is set.
  * Refused: *value and *next are left.
  *
  * `warnings`: all counts of this call are set, refused or not.
@@ -128,9 +143,10 @@ uint32_t cef_read_int(const uint8_t *src, size_t src_len, size_t at,
  * CEF_OK: *value is the integer.
  * CEF_UNEXPECTED_END: the bytes end inside it, or at >= src_len. *value is
  * left.
+ * CEF_NON_ZERO_INT_PADDING: a padding bit of it is set. *value is left.
  *
- * In both cases: *next is the place after the integer, or the end of the
- * bytes where they ended; *left is how many bytes are left from there on;
+ * In these cases: *next is the place after the integer, or the end of the
+ * bytes where it was refused; *left is how many bytes are left from there on;
  * *empty is 1 where none are, else 0.
  *
  * CEF_INPUT_TOO_LONG: src_len > CEF_INPUT_MOST. *value, *next, *left and
@@ -142,7 +158,7 @@ uint32_t cef_unpacker_read_int(const uint8_t *src, size_t src_len, size_t at,
                                int32_t *value, size_t *next, size_t *left,
                                uint32_t *empty, size_t warnings[CEF_WARNINGS]);
 
-/* The same of a reader over ints, which have no warnings. */
+/* The same of a reader over ints, which have no padding bits or warnings. */
 uint32_t cef_int_unpacker_read_int(const int32_t *src, size_t src_len,
                                    size_t at, int32_t *value, size_t *next,
                                    size_t *left, uint32_t *empty);
@@ -166,11 +182,13 @@ uint32_t cef_write_int(uint8_t *out, size_t out_len, size_t at, int32_t value,
  * where the end of the bytes cut off the last integer, which is then not
  * among the ints, else 0.
  * CEF_INPUT_TOO_LONG: src_len > CEF_INPUT_MOST.
+ * CEF_NON_ZERO_INT_PADDING: a padding bit of an integer is set.
  * CEF_CAPACITY_ERROR: the ints do not fit.
- * Refused: `out`, *count and *cut are left.
+ * Judged in this order. Refused: `out`, *count and *cut are left.
  *
  * `warnings`: all counts of this call are set, refused or not: those of the
- * whole input, and none where it is too long.
+ * whole input, or of the integers before one with a padding bit set; none
+ * where the input is too long.
  */
 uint32_t cef_unpack(const uint8_t *src, size_t src_len, int32_t *out,
                     size_t out_len, size_t *count, uint32_t *cut,
@@ -214,6 +232,8 @@ uint32_t cef_table_empty(int32_t *out, size_t out_len, size_t *count);
  * CEF_OK: the table takes *count ints there.
  * CEF_SCRATCH_TOO_SHORT: scratch_len < CEF_SCRATCH_INTS, or < src_len.
  * CEF_INPUT_TOO_LONG: src_len > CEF_INPUT_MOST.
+ * CEF_NON_ZERO_INT_PADDING: a padding bit of an integer is set, also behind
+ * the table. The counts are those of the integers before it.
  * CEF_UNEXPECTED_END, CEF_INT_OUT_OF_RANGE, CEF_OFFSETS_UNPACKING,
  * CEF_INVALID_OFFSET, CEF_ITEMS_UNPACKING, CEF_DUPLICATE_KEY,
  * CEF_TOO_MANY_ITEMS, CEF_TOO_LONG_SNAP: no table.
@@ -230,7 +250,8 @@ uint32_t cef_table_read(const uint8_t *src, size_t src_len, int32_t *out,
 /*
  * Reads the table that the `src_len` ints at `src` hold, their items in any
  * order, into the front of the `out_len` ints at `out`. Answers as
- * cef_table_read does, but for CEF_SCRATCH_TOO_SHORT.
+ * cef_table_read does, but for CEF_SCRATCH_TOO_SHORT and
+ * CEF_NON_ZERO_INT_PADDING.
  */
 uint32_t cef_table_read_from_ints(const int32_t *src, size_t src_len,
                                   int32_t *out, size_t out_len, size_t *count,
@@ -371,9 +392,10 @@ uint32_t cef_table_read_with_delta(const int32_t *base, size_t base_len,
  */
 
 /*
- * As cef_table_read, and the table's types must be sound: they are judged in
- * the order of keys read as signed, with CEF_DUPLICATE_UUID_TYPE,
- * CEF_INVALID_UUID_TYPE and CEF_MISSING_UUID_TYPE, before CEF_CAPACITY_ERROR.
+ * As cef_table_read, CEF_NON_ZERO_INT_PADDING included, and the table's types
+ * must be sound: they are judged in the order of keys read as signed, with
+ * CEF_DUPLICATE_UUID_TYPE, CEF_INVALID_UUID_TYPE and CEF_MISSING_UUID_TYPE,
+ * before CEF_CAPACITY_ERROR.
  */
 uint32_t cef_snap_read(const uint8_t *src, size_t src_len, int32_t *out,
                        size_t out_len, int32_t *scratch, size_t scratch_len,
@@ -614,6 +636,10 @@ uint32_t cef_delta_read_from_ints(const int32_t *src, size_t src_len,
  * Reads the packed delta that the `src_len` bytes at `src` hold. Answers as
  * cef_delta_read_from_ints does, and CEF_SCRATCH_TOO_SHORT also where
  * scratch_len < src_len.
+ *
+ * CEF_NON_ZERO_INT_PADDING: a padding bit of an integer is set. It is judged
+ * where that integer is read: what is wrong before it is refused first. Type
+ * and id of an update are both read before either is judged.
  */
 uint32_t cef_delta_read(const uint8_t *src, size_t src_len,
                         const int32_t *sizes, size_t sizes_len, int32_t *out,
@@ -992,9 +1018,9 @@ void cef_manager_reset(int32_t receiver_ticks[4], uint32_t receiver_counts[3],
  * CEF_PART_TOO_LONG, CEF_RECEIVER_OLD_DELTA, CEF_INVALID_NUM_PARTS,
  * CEF_INVALID_PART, CEF_DUPLICATE_PART: as cef_receiver_snap.
  * These leave the receiver, the store and all areas but scratch.
- * The refusals of cef_delta_read, CEF_CAPACITY_ERROR for `delta` among them:
- * the receiver has finished the tick, and `delta`, the store and its area are
- * left.
+ * The refusals of cef_delta_read, CEF_NON_ZERO_INT_PADDING and
+ * CEF_CAPACITY_ERROR for `delta` among them: the receiver has finished the
+ * tick, and `delta`, the store and its area are left.
  * The refusals of cef_storage_add_delta from CEF_STORAGE_OLD_DELTA on: the
  * receiver has finished the tick, `delta` holds the delta, and the store is
  * as there.

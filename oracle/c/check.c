@@ -29,18 +29,12 @@ static const struct marked MARKED[] = {
 
 #define MARKED_COUNT (sizeof MARKED / sizeof MARKED[0])
 
-/* Whether the counts are these two and otherwise 0. */
-static int counted(const size_t warnings[CEF_WARNINGS], size_t overlong, size_t padding)
+/* Whether all counts are 0, but for this one of OverlongIntEncoding. */
+static int counted(const size_t warnings[CEF_WARNINGS], size_t overlong)
 {
     int right = 1;
-    for (int i = 0; i < CEF_WARNINGS; i++) {
-        size_t count = 0;
-        if (i == CEF_WARN_OVERLONG_INT_ENCODING)
-            count = overlong;
-        if (i == CEF_WARN_NON_ZERO_INT_PADDING)
-            count = padding;
-        right = right && warnings[i] == count;
-    }
+    for (int i = 0; i < CEF_WARNINGS; i++)
+        right = right && warnings[i] == (i == CEF_WARN_OVERLONG_INT_ENCODING ? overlong : 0);
     return right;
 }
 
@@ -54,28 +48,23 @@ static void check_read(void)
         const struct marked *m = &MARKED[i];
         fill_warnings(warnings);
         CHECK(cef_read_int(m->bytes, m->len, 0, &value, &next, warnings) == CEF_OK);
-        CHECK(value == m->value && next == m->len && counted(warnings, 0, 0));
+        CHECK(value == m->value && next == m->len && counted(warnings, 0));
 
         value = LEFT;
         next = LEFT;
         fill_warnings(warnings);
         CHECK(cef_read_int(m->bytes, m->len - 1, 0, &value, &next, warnings) ==
               CEF_UNEXPECTED_END);
-        CHECK(value == LEFT && next == LEFT && counted(warnings, 0, 0));
+        CHECK(value == LEFT && next == LEFT && counted(warnings, 0));
         CHECK(cef_read_int(m->bytes, m->len, SIZE_MAX, &value, &next, warnings) ==
               CEF_UNEXPECTED_END);
-        CHECK(value == LEFT && next == LEFT && counted(warnings, 0, 0));
+        CHECK(value == LEFT && next == LEFT && counted(warnings, 0));
     }
 
     const uint8_t overlong[] = {0x80, 0x00};
     fill_warnings(warnings);
     CHECK(cef_read_int(overlong, sizeof overlong, 0, &value, &next, warnings) == CEF_OK);
-    CHECK(value == 0 && next == 2 && counted(warnings, 1, 0));
-
-    const uint8_t padding[] = {0x40, 0x80, 0x80, 0x80, 0x80, 0x10};
-    fill_warnings(warnings);
-    CHECK(cef_read_int(padding, sizeof padding, 1, &value, &next, warnings) == CEF_OK);
-    CHECK(value == INT32_MIN && next == 6 && counted(warnings, 0, 1));
+    CHECK(value == 0 && next == 2 && counted(warnings, 1));
 }
 
 static void check_readers(void)
@@ -91,14 +80,14 @@ static void check_readers(void)
     fill_warnings(warnings);
     CHECK(cef_unpacker_read_int(bytes, sizeof bytes, 0, &value, &next, &left, &empty, warnings) ==
           CEF_OK);
-    CHECK(value == 64 && next == 2 && left == 3 && empty == 0 && counted(warnings, 0, 0));
+    CHECK(value == 64 && next == 2 && left == 3 && empty == 0 && counted(warnings, 0));
     CHECK(cef_unpacker_read_int(bytes, sizeof bytes, next, &value, &next, &left, &empty,
                                 warnings) == CEF_OK);
-    CHECK(value == 0 && next == 4 && left == 1 && empty == 0 && counted(warnings, 1, 0));
+    CHECK(value == 0 && next == 4 && left == 1 && empty == 0 && counted(warnings, 1));
     value = LEFT;
     CHECK(cef_unpacker_read_int(bytes, sizeof bytes, next, &value, &next, &left, &empty,
                                 warnings) == CEF_UNEXPECTED_END);
-    CHECK(value == LEFT && next == 5 && left == 0 && empty == 1 && counted(warnings, 0, 0));
+    CHECK(value == LEFT && next == 5 && left == 0 && empty == 1 && counted(warnings, 0));
 
     const int32_t ints[] = {-1, INT32_MIN};
     CHECK(cef_int_unpacker_read_int(ints, 2, 1, &value, &next, &left, &empty) == CEF_OK);
@@ -126,12 +115,12 @@ static void check_longest(void)
     memset(bytes, 1, sizeof bytes);
     fill_warnings(warnings);
     CHECK(cef_read_int(bytes, most + 1, 3, &value, &next, warnings) == CEF_INPUT_TOO_LONG);
-    CHECK(value == LEFT && next == LEFT && counted(warnings, 0, 0));
+    CHECK(value == LEFT && next == LEFT && counted(warnings, 0));
     fill_warnings(warnings);
     CHECK(cef_unpacker_read_int(bytes, most + 1, 3, &value, &next, &left, &empty, warnings) ==
           CEF_INPUT_TOO_LONG);
     CHECK(value == LEFT && next == LEFT && left == LEFT && empty == LEFT);
-    CHECK(counted(warnings, 0, 0));
+    CHECK(counted(warnings, 0));
     CHECK(cef_int_unpacker_read_int(ints, most + 1, 3, &value, &next, &left, &empty) ==
           CEF_INPUT_TOO_LONG);
     CHECK(value == LEFT && next == LEFT && left == LEFT && empty == LEFT);
@@ -139,7 +128,7 @@ static void check_longest(void)
     CHECK(cef_unpack(bytes, most + 1, out, most + 1, &count, &cut, warnings) ==
           CEF_INPUT_TOO_LONG);
     CHECK(count == LEFT && cut == LEFT && out[0] == 0 && out[most] == 0);
-    CHECK(counted(warnings, 0, 0));
+    CHECK(counted(warnings, 0));
 
     CHECK(cef_read_int(bytes, most, 3, &value, &next, warnings) == CEF_OK && next == 4);
     CHECK(cef_unpacker_read_int(bytes, most, 3, &value, &next, &left, &empty, warnings) == CEF_OK);
@@ -173,40 +162,37 @@ static void check_write(void)
 
 static void check_unpack(void)
 {
-    /* All marked cases, an overlong int, a padded one, and one that is cut. */
+    /* All marked cases, an overlong int, and one that is cut. */
     uint8_t src[64];
     size_t len = 0;
     for (size_t i = 0; i < MARKED_COUNT; i++)
         CHECK(cef_write_int(src, sizeof src, len, MARKED[i].value, &len) == CEF_OK);
-    const uint8_t rest[] = {0x80, 0x00, 0x80, 0x80, 0x80, 0x80, 0x10, 0xff};
+    const uint8_t rest[] = {0x80, 0x00, 0xff};
     memcpy(src + len, rest, sizeof rest);
     len += sizeof rest;
 
-    int32_t out[MARKED_COUNT + 3];
+    int32_t out[MARKED_COUNT + 2];
     size_t count = LEFT;
     uint32_t cut = LEFT;
     size_t warnings[CEF_WARNINGS];
-    for (size_t i = 0; i < MARKED_COUNT + 3; i++)
-        out[i] = LEFT;
+    fill_ints(out, MARKED_COUNT + 2);
 
     fill_warnings(warnings);
-    CHECK(cef_unpack(src, len, out, MARKED_COUNT + 1, &count, &cut, warnings) ==
+    CHECK(cef_unpack(src, len, out, MARKED_COUNT, &count, &cut, warnings) ==
           CEF_CAPACITY_ERROR);
-    CHECK(count == LEFT && cut == LEFT && counted(warnings, 1, 1));
-    for (size_t i = 0; i < MARKED_COUNT + 3; i++)
-        CHECK(out[i] == LEFT);
+    CHECK(count == LEFT && cut == LEFT && counted(warnings, 1));
+    CHECK(ints_left(out, 0, MARKED_COUNT + 2));
 
     fill_warnings(warnings);
-    CHECK(cef_unpack(src, len, out, MARKED_COUNT + 3, &count, &cut, warnings) == CEF_OK);
-    CHECK(count == MARKED_COUNT + 2 && cut == 1 && counted(warnings, 1, 1));
+    CHECK(cef_unpack(src, len, out, MARKED_COUNT + 2, &count, &cut, warnings) == CEF_OK);
+    CHECK(count == MARKED_COUNT + 1 && cut == 1 && counted(warnings, 1));
     for (size_t i = 0; i < MARKED_COUNT; i++)
         CHECK(out[i] == MARKED[i].value);
-    CHECK(out[MARKED_COUNT] == 0 && out[MARKED_COUNT + 1] == INT32_MIN);
-    CHECK(out[MARKED_COUNT + 2] == LEFT);
+    CHECK(out[MARKED_COUNT] == 0 && out[MARKED_COUNT + 1] == LEFT);
 
     fill_warnings(warnings);
     CHECK(cef_unpack(src, 0, out, 0, &count, &cut, warnings) == CEF_OK);
-    CHECK(count == 0 && cut == 0 && counted(warnings, 0, 0));
+    CHECK(count == 0 && cut == 0 && counted(warnings, 0));
 }
 
 /* Whether all counts are 0, but for this one of ExcessSnapData. */
@@ -1077,6 +1063,7 @@ int main(void)
     check_differing();
     check_storage();
     check_manager();
+    check_padding();
     printf("C program: %d checks, %d not so\n", checks, failures);
     return failures == 0 ? 0 : 1;
 }

@@ -59,4 +59,7 @@ static inline int only(const size_t warnings[CEF_WARNINGS], int kind)
 void check_storage(void);
 void check_manager(void);
 
+/* Every call that reads bytes, on padding bits that are set. */
+void check_padding(void);
+
 #endif

@@ -31,20 +31,15 @@ pub extern "C" fn cef_read_int(
         value: v,
         next: n,
         overlong,
-        padding,
     } = read
     else {
         return packer::places::refusal(read);
     };
     *value = v;
     *next = n;
-    // Each warning has its own test: the compiler omits both for an integer of one byte.
-    if padding {
-        *warnings = warned_row(overlong, true);
-        return 0;
-    }
+    // The compiler omits this test for an integer of one byte.
     if overlong {
-        *warnings = warned_row(true, false);
+        *warnings = warned_row(true);
         return 0;
     }
     0

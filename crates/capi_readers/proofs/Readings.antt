@@ -21,7 +21,7 @@ use Rattle.capi_readers.specs.Standing.{kept, Stands}
 
 -- the number of what was read
 number-of : (r : IntRead) → refusal r ≡ status (intRead r)
-number-of (Int x next overlong padding) = refl
+number-of (Int x next overlong) = refl
 number-of (Refused e) = refl
 
 module _ {A : Type 0} (o : Outcome IntAt) (entries : List A) (at : ℕ) (a : ReaderAnswer) (h : Answered o entries at a) (m₀ k₀ f₀ m k f : ℕ) (set : (m ≡ kept (refusal (a .read)) m₀ (a .at)) × ((k ≡ kept (refusal (a .read)) k₀ (a .left)) × (f ≡ kept (refusal (a .read)) f₀ (flag (a .empty))))) where
@@ -44,9 +44,9 @@ module _ {A : Type 0} (o : Outcome IntAt) (entries : List A) (at : ℕ) (a : Rea
     no-warnings = let q = h .read-is ∙ ap intRead told in rw q refl
 
   -- an integer was read
-  module _ (x : ℤ) (next : ℕ) (overlong padding : Bool) (told : a .read ≡ Int x next overlong padding) where
+  module _ (x : ℤ) (next : ℕ) (overlong : Bool) (told : a .read ≡ Int x next overlong) where
     pub found : (value₀ value : ℤ) → value ≡ x → (0 ≡ status o) × ((value ≡ output (λ (x : IntAt). x .value) value₀ o) × Stands o entries at m₀ k₀ f₀ m k f)
     found value₀ value p = let e = h .read-is ∙ ap intRead told in (rw e refl, (rw (e, p) refl, stands))
 
-    pub found-warnings : warningsOf o ≡ warned overlong padding
+    pub found-warnings : warningsOf o ≡ warned overlong
     found-warnings = let e = h .read-is ∙ ap intRead told in rw e refl

@@ -26,7 +26,7 @@ fn put_standing(r: ReaderAnswer, next: &mut usize, left: &mut usize, empty: &mut
     *empty = boundary::checked::flag(r.empty);
 }
 
-// The answer of a reader over packed bytes at a place of src. If the bytes end there, only value is unchanged.
+// The answer of a reader over packed bytes at a place of src. If the bytes end there or padding bits are set, only value is unchanged.
 #[no_mangle]
 pub extern "C" fn cef_unpacker_read_int(
     src: &[u8],
@@ -48,7 +48,6 @@ pub extern "C" fn cef_unpacker_read_int(
     let IntRead::Int {
         value: v,
         overlong,
-        padding,
         ..
     } = read
     else {
@@ -56,7 +55,7 @@ pub extern "C" fn cef_unpacker_read_int(
         return packer::places::refusal(read);
     };
     *value = v;
-    *warnings = warned_row(overlong, padding);
+    *warnings = warned_row(overlong);
     0
 }
 

@@ -7,11 +7,11 @@ use lib.Dec.{ltb, eqb}
 use lib.IntN.{ℤ, pos, negsuc}
 use lib.ListN.{length}
 use Rattle.definitions.specs.Ints.{bits}
-use Rattle.definitions.specs.Refusals.{unexpectedEnd, deletedItemsUnpacking, itemDiffsUnpacking, typeIdRange, idRange, negativeSize}
+use Rattle.definitions.specs.Refusals.{unexpectedEnd, deletedItemsUnpacking, itemDiffsUnpacking, typeIdRange, idRange, negativeSize, nonZeroIntPadding}
 use Rattle.definitions.specs.Warnings.{NonZeroPadding, DuplicateDelete, DuplicateUpdate, DeleteUpdate, NumUpdatedItems}
 use Rattle.definitions.specs.Warnings as Warnings
 use Rattle.definitions.specs.Outcome.{Outcome, ok, err, return, refuse, require, warnIf, _>>=_, _>>_}
-use Rattle.definitions.specs.Stream.{Stream, int, end, cut, ints}
+use Rattle.definitions.specs.Stream.{Stream, int, end, cut, padded, ints}
 use Rattle.definitions.specs.Tables.{Item, keyOf, num, find, isSome}
 use Rattle.definitions.specs.TableReading.{nonNegative}
 use Rattle.definitions.specs.Deltas.{Delta, rank, knownSize, updatesInts, writtenDelta}
@@ -26,17 +26,19 @@ abbrev pub intStream : List ℤ → Stream
 intStream [] = end
 intStream (x ∷ l) = int x Warnings.none (intStream l)
 
--- whether nothing is left, not even a cut integer
+-- whether nothing is left, not even an integer that is cut or has padding bits
 abbrev pub isEnd : Stream → Bool
 isEnd (int x w s) = false
 isEnd end = true
 isEnd cut = false
+isEnd padded = false
 
--- the next integer; without one the stream is refused
+-- the next integer; without one the stream is refused, and padding bits are refused as such wherever an end is
 abbrev pub next : ℕ → Stream → Outcome (Got ℤ)
 next refusal (int x w s) = ok (record { value = x; rest = s }) w
 next refusal end = refuse refusal
 next refusal cut = refuse refusal
+next refusal padded = refuse nonZeroIntPadding
 
 -- the next n integers
 unfoldable pub nextInts : ℕ → ℕ → Stream → Outcome (Got (List ℤ))

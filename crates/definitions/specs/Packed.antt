@@ -1,6 +1,6 @@
 -- Packed integers, by the packer's format line. Assumes nothing.
 --   ESDD_DDDD EDDD_DDDD EDDD_DDDD EDDD_DDDD PPPP_DDDD
---   E: another byte follows; S: sign; D: digits, the lowest first; P: padding
+--   E: another byte follows; S: sign; D: digits, the lowest first; P: padding, which must be 0
 use mathlib.Core.List.{List, [], _∷_, _++_}
 use mathlib.Core.Bool.{Bool, true, false, cond}
 use Prim.Native.Nat.{ℕ, zero, suc, _+_, _-_, _*_, _/_, _%_, _^_}
@@ -8,8 +8,8 @@ use lib.Dec.{eqb, leb, ltb}
 use lib.IntN.{ℤ, pos, negsuc}
 use lib.Signed.{mag}
 use Rattle.definitions.specs.Ints.{fromBits}
-use Rattle.definitions.specs.Refusals.{unexpectedEnd}
-use Rattle.definitions.specs.Warnings.{Counts, OverlongIntEncoding, NonZeroIntPadding, none, one, plus}
+use Rattle.definitions.specs.Refusals.{unexpectedEnd, nonZeroIntPadding}
+use Rattle.definitions.specs.Warnings.{Counts, OverlongIntEncoding, none, one}
 use Rattle.definitions.specs.Outcome.{Outcome, ok, err, return, refuse}
 
 -- an integer at the front of some bytes, and the bytes after it
@@ -18,9 +18,8 @@ pub record Read : Type 0 where
   pub rest : List ℕ
 
 -- the warnings of an integer
-abbrev pub warned : Bool → Bool → Counts
-warned overlong padding =
-    plus (cond overlong (one OverlongIntEncoding) none) (cond padding (one NonZeroIntPadding) none)
+abbrev pub warned : Bool → Counts
+warned overlong = cond overlong (one OverlongIntEncoding) none
 
 -- bit 7
 abbrev pub extend : ℕ → Bool
@@ -36,17 +35,18 @@ signed false d = fromBits d
 signed true d = fromBits (2 ^ 32 - 1 - d)
 
 -- the bytes after the first, at most n + 1 of them: d are the digits so far, and w is the weight of the next.
--- A last byte of 0 is overlong. Bit 4 of the fifth byte lands in bit 31, and the bits above are ignored.
+-- A last byte of 0 is overlong. A fifth byte with a padding bit set is refused.
 unfoldable pub more : ℕ → ℕ → ℕ → Bool → List ℕ → Outcome Read
 more n w d s [] = refuse unexpectedEnd
 more zero w d s (b ∷ bs) =
-    ok (record { value = signed s ((d + b * w) % 2 ^ 32); rest = bs }) (warned (eqb b 0) (leb 16 b))
+    cond (leb 16 b) (refuse nonZeroIntPadding)
+    (ok (record { value = signed s (d + b * w); rest = bs }) (warned (eqb b 0)))
 more (suc n) w d s (b ∷ bs) =
     cond (extend b)
     (more n (w * 128) (d + b % 128 * w) s bs)
-    (ok (record { value = signed s (d + b * w); rest = bs }) (warned (eqb b 0) false))
+    (ok (record { value = signed s (d + b * w); rest = bs }) (warned (eqb b 0)))
 
--- the integer at the front of some bytes, refused if they end inside it
+-- the integer at the front of some bytes, refused if they end inside it or a padding bit is set
 unfoldable pub readInt : List ℕ → Outcome Read
 readInt [] = refuse unexpectedEnd
 readInt (b ∷ bs) =

@@ -6,10 +6,10 @@ use lib.Dec.{leb}
 use lib.IntN.{ℤ}
 use lib.ListN.{length, drop}
 use Rattle.definitions.specs.Areas.{lay, layAt, fitsAt}
-use Rattle.definitions.specs.Refusals.{capacityError, inputTooLong}
+use Rattle.definitions.specs.Refusals.{capacityError, inputTooLong, nonZeroIntPadding}
 use Rattle.definitions.specs.Outcome.{Outcome, ok, err, return, refuse, require, _>>_, Wrote}
 use Rattle.definitions.specs.Packed.{Read, readInt, writeInt}
-use Rattle.definitions.specs.Stream.{Stream, stream, ints, warnings, isCut}
+use Rattle.definitions.specs.Stream.{Stream, stream, ints, warnings, isCut, isPadded}
 
 -- an integer at a place, and the place after it
 pub record IntAt : Type 0 where
@@ -43,12 +43,14 @@ pub record Unpacked : Type 0 where
   pub count : ℕ
   pub cut : Bool
 
--- the integers of a stream at the front of an area
+-- the integers of a stream at the front of an area; one with padding bits refuses all of them
 abbrev pub unpackStream : Stream → List ℤ → Wrote Unpacked ℤ
 unpackStream s out =
-    cond (leb (length (ints s)) (length out))
+    cond (isPadded s)
+    (record { answer = err nonZeroIntPadding (warnings s); out = out })
+    (cond (leb (length (ints s)) (length out))
     (record { answer = ok (record { count = length (ints s); cut = isCut s }) (warnings s); out = lay (ints s) out })
-    (record { answer = err capacityError (warnings s); out = out })
+    (record { answer = err capacityError (warnings s); out = out }))
 
 -- the packed integers of at most 1,048,576 bytes at the front of an area
 unfoldable pub unpackCall : List ℕ → List ℤ → Wrote Unpacked ℤ

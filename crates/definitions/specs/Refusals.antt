@@ -108,6 +108,10 @@ knownSizeDiffers = 46
 abbrev pub notInForm : ℕ
 notInForm = 47
 
+-- a packed integer with padding bits that are set
+abbrev pub nonZeroIntPadding : ℕ
+nonZeroIntPadding = 52
+
 -- a rule with fewer than three ints
 abbrev pub shortRule : ℕ
 shortRule = 55

@@ -5,10 +5,10 @@ use Prim.Native.Nat.{ℕ, zero, suc, _+_, _/_, _%_}
 use lib.Dec.{ltb, leb, eqb}
 use lib.IntN.{ℤ, pos, negsuc}
 use lib.ListN.{length, getD}
-use Rattle.definitions.specs.Refusals.{unexpectedEnd, intOutOfRange, tooLongSnap, tooManyItems, offsetsUnpacking, invalidOffset, itemsUnpacking, duplicateKey}
+use Rattle.definitions.specs.Refusals.{unexpectedEnd, intOutOfRange, tooLongSnap, tooManyItems, offsetsUnpacking, invalidOffset, itemsUnpacking, duplicateKey, nonZeroIntPadding}
 use Rattle.definitions.specs.Warnings.{ExcessSnapData}
 use Rattle.definitions.specs.Outcome.{Outcome, return, refuse, require, warn, warnIf, _>>=_, _>>_}
-use Rattle.definitions.specs.Stream.{stream, ints, warnings, isCut}
+use Rattle.definitions.specs.Stream.{stream, ints, warnings, isCut, isPadded}
 use Rattle.definitions.specs.Tables.{Item, Table, written, edge, ends, itemAt, find, isSome, insert}
 
 -- a table with one more item, which must be new, not one too many and not too long
@@ -49,9 +49,10 @@ readTable a = do
   warnIf (ltb (2 + n + bytes / 4) (length a)) ExcessSnapData
   readItems a n
 
--- a packed table: all integers are read first, and one that is cut is dropped with a warning
+-- a packed table: all integers are read first; one with padding bits refuses it, and one that is cut is dropped with a warning
 unfoldable pub readPacked : List ℕ → Outcome Table
 readPacked l = do
   warn (warnings (stream l))
+  require (not (isPadded (stream l))) nonZeroIntPadding
   warnIf (isCut (stream l)) ExcessSnapData
   readTable (ints (stream l))

@@ -1,11 +1,11 @@
--- The 13 kinds of warning, and a count for each. Assumes nothing.
+-- The 12 kinds of warning, and a count for each. Assumes nothing.
 use mathlib.Core.Bool.{cond}
 use Prim.Native.Nat.{ℕ, _+_}
 use lib.Dec.{eqb}
 
--- the kinds: two of the packer, eight of tables and deltas, two of the receiver, one of the store
+-- the kinds: one of the packer, eight of tables and deltas, two of the receiver, one of the store
 pub data Warning : Type 0 where
-  OverlongIntEncoding NonZeroIntPadding : Warning
+  OverlongIntEncoding : Warning
   NonZeroPadding DuplicateDelete DuplicateUpdate UnknownDelete : Warning
   DeleteUpdate NumUpdatedItems ExcessSnapData ExcessUuidItemData : Warning
   DuplicateSnap DifferingAttributes : Warning
@@ -14,23 +14,21 @@ pub data Warning : Type 0 where
 -- the place of a kind in a row of counts
 abbrev pub index : Warning → ℕ
 index OverlongIntEncoding = 0
-index NonZeroIntPadding = 1
-index NonZeroPadding = 2
-index DuplicateDelete = 3
-index DuplicateUpdate = 4
-index UnknownDelete = 5
-index DeleteUpdate = 6
-index NumUpdatedItems = 7
-index ExcessSnapData = 8
-index ExcessUuidItemData = 9
-index DuplicateSnap = 10
-index DifferingAttributes = 11
-index WeirdNegativeDeltaTick = 12
+index NonZeroPadding = 1
+index DuplicateDelete = 2
+index DuplicateUpdate = 3
+index UnknownDelete = 4
+index DeleteUpdate = 5
+index NumUpdatedItems = 6
+index ExcessSnapData = 7
+index ExcessUuidItemData = 8
+index DuplicateSnap = 9
+index DifferingAttributes = 10
+index WeirdNegativeDeltaTick = 11
 
 -- how often each kind was counted
 pub record Counts : Type 0 where
   pub overlongIntEncoding : ℕ
-  pub nonZeroIntPadding : ℕ
   pub nonZeroPadding : ℕ
   pub duplicateDelete : ℕ
   pub duplicateUpdate : ℕ
@@ -48,7 +46,6 @@ abbrev pub counted : (Warning → ℕ) → Counts
 counted f =
     record {
       overlongIntEncoding = f OverlongIntEncoding;
-      nonZeroIntPadding = f NonZeroIntPadding;
       nonZeroPadding = f NonZeroPadding;
       duplicateDelete = f DuplicateDelete;
       duplicateUpdate = f DuplicateUpdate;
@@ -65,7 +62,6 @@ counted f =
 -- the count of a kind
 abbrev pub count : Counts → Warning → ℕ
 count c OverlongIntEncoding = c .overlongIntEncoding
-count c NonZeroIntPadding = c .nonZeroIntPadding
 count c NonZeroPadding = c .nonZeroPadding
 count c DuplicateDelete = c .duplicateDelete
 count c DuplicateUpdate = c .duplicateUpdate

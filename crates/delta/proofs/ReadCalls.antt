@@ -1,6 +1,6 @@
 -- The results of the calls that read a delta, with all their warnings. Assumes nothing.
 use mathlib.Core.Path.{_≡_, refl, sym, ap, ap₂, _∙_}
-use mathlib.Core.Bool.{true, false}
+use mathlib.Core.Bool.{Bool, true, false, _||_, true≢false}
 use mathlib.Core.List.{List, [], _∷_}
 use Prim.Native.Nat.{ℕ, _≤_, _<_}
 use native.Mathlib.Nat.{add-zero, zero-add}
@@ -13,13 +13,13 @@ use Rattle.definitions.specs.Refusals.{scratchTooShort, inputTooLong}
 use Rattle.definitions.specs.Warnings.{Counts, none, plus}
 use Rattle.definitions.specs.Outcome.{Outcome, refuse, after, Wrote}
 use Rattle.definitions.specs.Stored.{stored}
-use Rattle.definitions.specs.Stream.{Stream, stream, ints, warnings, isCut}
+use Rattle.definitions.specs.Stream.{Stream, stream, ints, warnings}
 use Rattle.definitions.specs.DeltaReading.{intStream, readDelta}
 use Rattle.definitions.specs.DeltaCalls.{storedDelta, readFromIntsCall, readCall}
 use Rattle.laws.specs.WarningLaws.{packed}
 use Rattle.laws.specs.OutcomeLaws.{after-none}
 use Rattle.laws.specs.AreaLaws.{lay-append}
-use Rattle.laws.specs.StreamLaws.{few-ints}
+use Rattle.laws.specs.StreamLaws.{few-ints, isWhole, whole-is}
 use Rattle.laws.specs.DeltaReadBack.{ints-intStream}
 use Rattle.packer.specs.Scans.{Scanned}
 use Rattle.packer.specs.declared.checked.Totals.{Totals}
@@ -100,38 +100,49 @@ any-bytes src l sizes out before x e h = ap₂ (λ (a : List ℤ) (s : Stream). 
 -- ---- in one pass
 
 -- the packer's warnings, and those of updates of deleted keys
-ordered-counts : (o p n : ℕ) → deltaCounts o p false false 0 n false ≡ plus (packed o p) (deletedCounts n)
-ordered-counts o p n = rw (add-zero o, add-zero p, zero-add n)
+ordered-counts : (o n : ℕ) → deltaCounts o false false 0 n false ≡ plus (packed o) (deletedCounts n)
+ordered-counts o n = rw (add-zero o, zero-add n)
 
--- ints are never cut
-not-cut : (xs : List ℤ) → isCut (intStream xs) ≡ false
-not-cut [] = refl
-not-cut (x ∷ xs) = not-cut xs
+-- ints are never cut, and have no padding bits
+whole-ints : (xs : List ℤ) → isWhole (intStream xs) ≡ true
+whole-ints [] = refl
+whole-ints (x ∷ xs) = whole-ints xs
 
 -- nor do they count a warning
-no-warnings : (xs : List ℤ) → packed 0 0 ≡ warnings (intStream xs)
+no-warnings : (xs : List ℤ) → packed 0 ≡ warnings (intStream xs)
 no-warnings [] = refl
 no-warnings (x ∷ xs) = ap (plus none) (no-warnings xs)
 
 module _ (sizes src out last : List ℤ) (a : Stored) (n : ℕ) (r : OrderedRead sizes src out last (ordered.Read a n)) where
-  -- of any stream of these ints with so many warnings
-  one-pass : (s : Stream) (o p : ℕ) (w : Counts) → ints s ≡ src → isCut s ≡ false → packed o p ≡ warnings s → w ≡ deltaCounts o p false false 0 n false → storedDelta out (readDelta sizes s) ≡ record { answer = storedWith a w; out = last }
-  one-pass s o p w i c v q =
+  -- of any whole stream of these ints with so many warnings
+  one-pass : (s : Stream) (o : ℕ) (w : Counts) → ints s ≡ src → isWhole s ≡ true → packed o ≡ warnings s → w ≡ deltaCounts o false false 0 n false → storedDelta out (readDelta sizes s) ≡ record { answer = storedWith a w; out = last }
+  one-pass s o w i c v q =
       r s i c
       ∙ ap (λ (u : Counts). record { answer = storedWith a u; out = last })
-      (ap (λ (u : Counts). plus u (deletedCounts n)) (sym v) ∙ (sym (ordered-counts o p n) ∙ sym q))
+      (ap (λ (u : Counts). plus u (deletedCounts n)) (sym v) ∙ (sym (ordered-counts o n) ∙ sym q))
 
   -- of ints
-  pub ordered-ints : (w : Counts) → w ≡ deltaCounts 0 0 false false 0 n false → storedDelta out (readDelta sizes (intStream src)) ≡ record { answer = storedWith a w; out = last }
-  ordered-ints w q = one-pass (intStream src) 0 0 w (ints-intStream src) (not-cut src) (no-warnings src) q
+  pub ordered-ints : (w : Counts) → w ≡ deltaCounts 0 false false 0 n false → storedDelta out (readDelta sizes (intStream src)) ≡ record { answer = storedWith a w; out = last }
+  ordered-ints w q = one-pass (intStream src) 0 w (ints-intStream src) (whole-ints src) (no-warnings src) q
 
--- what one pass over the bytes returns: their ints are at the front of scratch
-scanned-ints : (src : List ℕ) (before after : List ℤ) (t : Totals) → length src ≤ length before → Scanned (stream src) before t after → take (t .count) after ≡ ints (stream src)
-scanned-ints src before after t h s =
-    let all = ints (stream src) in
-    ap₂ take (s .count-is) (s .out-is ∙ lay-append all before (omega (arith, few-ints src))) ∙ take-at all (drop (length all) before) (length all) refl
+module _ (src : List ℕ) (before after : List ℤ) (t : Totals) (s : Scanned (stream src) before t after) where
+  -- what one pass over the bytes returns: their ints are at the front of scratch
+  scanned-ints : length src ≤ length before → take (t .count) after ≡ ints (stream src)
+  scanned-ints h =
+      let all = ints (stream src) in
+      ap₂ take (s .count-is) (s .out-is ∙ lay-append all before (omega (arith, few-ints src))) ∙ take-at all (drop (length all) before) (length all) refl
 
--- of packed bytes that are not cut
-pub ordered-bytes : (src : List ℕ) (sizes out last before scanned : List ℤ) (t : Totals) (a : Stored) (n : ℕ) (w : Counts) → length src ≤ length before → Scanned (stream src) before t scanned → t .cut ≡ false → OrderedRead sizes (take (t .count) scanned) out last (ordered.Read a n) → w ≡ deltaCounts (t .overlong) (t .padding) false false 0 n false → storedDelta out (readDelta sizes (stream src)) ≡ record { answer = storedWith a w; out = last }
-ordered-bytes src sizes out last before scanned t a n w h s c r q =
-    one-pass sizes (take (t .count) scanned) out last a n r (stream src) (t .overlong) (t .padding) w (sym (scanned-ints src before scanned t h s)) (sym (s .cut-is) ∙ c) (s .warnings-are) q
+  -- and whether it came to their end
+  scanned-whole : (t .cut || t .padded) ≡ false → isWhole (stream src) ≡ true
+  scanned-whole e =
+      let n = neither (t .cut) (t .padded) e in
+      whole-is (stream src) (sym (s .cut-is) ∙ n .0) (sym (s .padded-is) ∙ n .1)
+    where
+      neither : (a b : Bool) → (a || b) ≡ false → (a ≡ false) × (b ≡ false)
+      neither false b e = (refl, e)
+      neither true b e = (e, absurd (true≢false e))
+
+  -- of packed bytes that are whole
+  pub ordered-bytes : (sizes out last : List ℤ) (a : Stored) (n : ℕ) (w : Counts) → length src ≤ length before → (t .cut || t .padded) ≡ false → OrderedRead sizes (take (t .count) after) out last (ordered.Read a n) → w ≡ deltaCounts (t .overlong) false false 0 n false → storedDelta out (readDelta sizes (stream src)) ≡ record { answer = storedWith a w; out = last }
+  ordered-bytes sizes out last a n w h c r q =
+      one-pass sizes (take (t .count) after) out last a n r (stream src) (t .overlong) w (sym (scanned-ints h)) (scanned-whole c) (s .warnings-are) q

@@ -1,5 +1,6 @@
 // The steps of reading a delta: in one pass if its keys rise already, else in any order. They leave scratch in any state.
 ghost use mathlib.Core.Path.{_≡_};
+ghost use mathlib.Core.Bool.{_||_};
 ghost use Prim.Native.Nat.{_≤_};
 ghost use lib.ListN.{length};
 ghost use Rattle.definitions.specs.Outcome.{refuse};
@@ -16,6 +17,7 @@ use format::Error;
 use format::Reading;
 use format::Stored;
 use format::Warnings;
+use packer::checked::Totals;
 
 // The refusal of a call before anything is read.
 pub fn refused(error: Error) -> Reading
@@ -41,8 +43,18 @@ pub fn read_ints(src: &[i32], sizes: &[i32], out: &mut [i32], scratch: &mut [i32
     };
     Reading {
         answer,
-        warnings: Warnings::delta(0, 0, false, false, 0, delete_updates, false),
+        warnings: Warnings::delta(0, false, false, 0, delete_updates, false),
     }
+}
+
+// Whether a pass over packed integers came to one that is cut or has padding bits set.
+fn is_stopped(all: Totals) -> bool
+    ensures { λ r. ⌜ r ≡ (all .cut || all .padded) ⌝ }
+{
+    if all.cut {
+        return true;
+    }
+    all.padded
 }
 
 // Reads a packed delta into the front of out.
@@ -50,8 +62,8 @@ pub fn read_packed(src: &[u8], sizes: &[i32], out: &mut [i32], scratch: &mut [i3
     requires { ⌜ (length (now src) ≤ 1048576) × (length (now src) ≤ length (now scratch)) ⌝ }
     ensures { λ r. ⌜ storedDelta (now (out .entry)) (readDelta (now (sizes .entry)) (stream (now (src .entry)))) ≡ record { answer = storedWith (r .answer) (counts (r .warnings)); out = now (out .exit) } ⌝ }
 {
-    let all = packer::checked::scan(src, scratch);
-    if all.cut {
+    let all = packer::checked::scan_all(src, scratch);
+    if is_stopped(all) {
         return read_any(src, &sizes[..0], true, sizes, out, scratch);
     }
     let Ordered::Read {
@@ -63,15 +75,7 @@ pub fn read_packed(src: &[u8], sizes: &[i32], out: &mut [i32], scratch: &mut [i3
     };
     Reading {
         answer,
-        warnings: Warnings::delta(
-            all.overlong,
-            all.padding,
-            false,
-            false,
-            0,
-            delete_updates,
-            false,
-        ),
+        warnings: Warnings::delta(all.overlong, false, false, 0, delete_updates, false),
     }
 }
 

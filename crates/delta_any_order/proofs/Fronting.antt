@@ -14,10 +14,11 @@ use Rattle.definitions.specs.Tables.{Item}
 use Rattle.definitions.specs.DeltaReading.{Got, readUpdate}
 use Rattle.laws.specs.WarningLaws.{packed}
 use Rattle.laws.specs.OutcomeLaws.{ok-value}
+use Rattle.format.specs.declared.Error.{Error}
 use Rattle.delta_index.specs.declared.checked.Tally.{Tally}
 use Rattle.delta_source.specs.Source.{Source, size, from, behindUpdate, Headers, Skips, Items, walked, Judges}
 use Rattle.delta_source.specs.Source as Source
-use Rattle.delta_source.specs.SourceBounds.{Counted, counted-most, header-counted, skip-counted, most, skip-bounded, judged-most}
+use Rattle.delta_source.specs.SourceBounds.{Counted, counted-most, header-counted, skip-counted, skip-most, judged-most}
 use Rattle.delta_source.specs.declared.checked.Skip.the-variants as skip
 use Rattle.delta_source.specs.declared.checked.Header.the-variants as header
 use Rattle.delta_source.specs.declared.checked.Judged.{Judged}
@@ -29,49 +30,45 @@ use Rattle.delta_any_order.specs.declared.checked.Front.{Front}
 -- ---- the front
 
 -- three ints take a place at least
-behind-header : (s : Source) (next o p : ℕ) → Counted s 0 next 3 o p → 1 ≤ next
-behind-header s zero o p c = absurd (omega (arith, c .ints-all))
-behind-header s (suc n) o p c = omega arith
+behind-header : (s : Source) (next o : ℕ) → Counted s 0 next 3 o → 1 ≤ next
+behind-header s zero o c = absurd (omega (arith, c .ints-all))
+behind-header s (suc n) o c = omega arith
 
 -- header and keys make the front
-pub fronting : {s : Source} {k u keys first o p o2 p2 : ℕ} {odd : Bool} → Headers s (header.Delta k u odd keys o p) → Skips s keys k (skip.Past first o2 p2) → Fronts s (record { deleted = k; updated = u; odd = odd; keys = keys; first = first; overlong = o + o2; padding = p + p2 })
-fronting {s} {k} {u} {keys} {first} {o} {p} {o2} {p2} {odd} (Source.delta e b) (Source.past xs l g q a i) =
-    let h : Headers s (header.Delta k u odd keys o p) = Source.delta e b in
-    let m : Skips s keys k (skip.Past first o2 p2) = Source.past xs l g q a i in
+pub fronting :
+    {s : Source} {k u keys first refusal o o2 : ℕ} {odd : Bool} → Headers s (header.Delta k u odd keys o) → Skips s keys k refusal (skip.Past first o2) →
+    Fronts s (record { deleted = k; updated = u; odd = odd; keys = keys; first = first; overlong = o + o2 })
+fronting {s} {k} {u} {keys} {first} {refusal} {o} {o2} {odd} (Source.delta e b) (Source.past xs l g q a i) =
+    let h : Headers s (header.Delta k u odd keys o) = Source.delta e b in
+    let m : Skips s keys k refusal (skip.Past first o2) = Source.past xs l g q a i in
     let ch = header-counted h in
-    let cm = skip-counted m in
     let bh = counted-most ch in
-    let bm = counted-most cm in
-    let one : 1 ≤ keys = behind-header s keys o p ch in
+    let bm = counted-most (skip-counted m) in
+    let one : 1 ≤ keys = behind-header s keys o ch in
     record {
       values = xs;
       overlong-header = o;
-      padding-header = p;
       overlong-keys = o2;
-      padding-keys = p2;
       header-is = e;
       keys-are = g deletedItemsUnpacking;
       overlong-is = refl;
-      padding-is = refl;
       count = l;
-      few-keys = bm .2;
+      few-keys = bm .1;
       few-overlong = omega (arith, bh .0, bm .0);
-      few-padding = omega (arith, bh .1, bm .1);
       keys-inside = b;
       behind = omega arith;
       first-inside = i;
     }
 
 -- the keys begin inside the source
-pub header-inside : {s : Source} {k u keys o p : ℕ} {odd : Bool} → Headers s (header.Delta k u odd keys o p) → keys ≤ size s
+pub header-inside : {s : Source} {k u keys o : ℕ} {odd : Bool} → Headers s (header.Delta k u odd keys o) → keys ≤ size s
 header-inside (Source.delta e b) = b
 
 -- if they are not all there, sums stay small
-pub short-most : {s : Source} {k u keys o p o2 p2 : ℕ} {odd : Bool} → Headers s (header.Delta k u odd keys o p) → Skips s keys k (skip.Short o2 p2) → (o + o2 ≤ 2 * size s) × (p + p2 ≤ 2 * size s)
-short-most h m =
-    let bh = counted-most (header-counted h) in
-    let bm = most (skip-bounded m) in
-    (omega (arith, bh .0, bm .0), omega (arith, bh .1, bm .1))
+pub refused-most :
+    {s : Source} {k u keys refusal o o2 : ℕ} {odd : Bool} {e : Error} → Headers s (header.Delta k u odd keys o) →
+    Skips s keys k refusal (skip.Refused e o2) → o + o2 ≤ 2 * size s
+refused-most h m = omega (arith, counted-most (header-counted h) .0, skip-most m)
 
 -- ---- the same keys and updates
 
@@ -106,7 +103,7 @@ module _ {s : Source} {sizes : List ℤ} {f : Front} {j : Judged} (F : Fronts s 
   told =
       record {
         rest = from s (f .first);
-        warned = packed (F .overlong-keys) (F .padding-keys);
+        warned = packed (F .overlong-keys);
         keysRead = F .keys-are;
         itemsRead = walked (J .walks);
         count = sym (J .count-is);
@@ -117,10 +114,8 @@ module _ {s : Source} {sizes : List ℤ} {f : Front} {j : Judged} (F : Fronts s 
   few-updates t T = omega (arith, T .updated-is, J .count-is, walk-keys (J .walks))
 
   -- sums stay small
-  pub sums-small : (t : Tally) → Tallies (F .values) (J .items) t → size s ≤ 1048576 → (f .overlong + j .overlong < 2 ^ 32) × (f .padding + j .padding < 2 ^ 32) × (t .updated ≤ j .updates)
-  sums-small t T h =
-      let b = judged-most J in
-      (omega (arith, F .few-overlong, b .0), omega (arith, F .few-padding, b .1), few-updates t T)
+  pub sums-small : (t : Tally) → Tallies (F .values) (J .items) t → size s ≤ 1048576 → (f .overlong + j .overlong < 2 ^ 32) × (t .updated ≤ j .updates)
+  sums-small t T h = (omega (arith, F .few-overlong, judged-most J .0), few-updates t T)
 
   -- what was counted of them
   pub weighs : (t : Tally) → Tallies (F .values) (J .items) t → Weighs s sizes f (j .updates) (j .room) t
@@ -135,6 +130,6 @@ module _ {s : Source} {sizes : List ℤ} {f : Front} {j : Judged} (F : Fronts s 
         tallied = T;
         few-keys = F .few-keys;
         few-updates = few-updates t T;
-        more-room = b .3;
-        few-room = b .2;
+        more-room = b .2;
+        few-room = b .1;
       }

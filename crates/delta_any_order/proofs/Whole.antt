@@ -30,7 +30,7 @@ use Rattle.delta_source.specs.declared.checked.Ended.the-variants as ended
 use Rattle.delta_source.specs.declared.checked.Judged.{Judged}
 use Rattle.delta_entries.specs.Told.{Told, Tallies}
 use Rattle.delta_any_order.specs.KeyLaws.{walk-repeats}
-use Rattle.delta_any_order.specs.ReadLaws.{twice, otherCount, readEnding, header-refused, keys-short, delta-walked}
+use Rattle.delta_any_order.specs.ReadLaws.{twice, otherCount, readEnding, header-refused, keys-refused, delta-walked}
 use Rattle.delta_any_order.specs.Fronts.{Fronts}
 use Rattle.delta_any_order.specs.declared.checked.Front.{Front}
 use Rattle.delta_any_order.specs.OrderLaws.{length-bits}
@@ -42,25 +42,33 @@ unfolding storedDelta stored
 refused-stored out n w = refl
 
 module _ {s : Source} {sizes : List ℤ} {f : Front} {j : Judged} (F : Fronts s f) (J : Judges s sizes (f .first) j) (t : Tally) (T : Tallies (F .values) (J .items) t) where
-  -- what it is read as
-  read-is : readDelta sizes (from s 0) ≡ readEnding (refusalOf (j .ended)) (f .overlong + j .overlong) (f .padding + j .padding) (f .odd) (f .updated) (map bits (F .values)) (J .items)
+  -- what it is read as, if its updates end so
+  abbrev reading : Ended → Outcome DeltaRead
+  reading x = readEnding (refusalOf x) (f .overlong + j .overlong) (f .odd) (f .updated) (map bits (F .values)) (J .items)
+
+  read-is : readDelta sizes (from s 0) ≡ reading (j .ended)
   read-is =
-      rw (F .overlong-is, F .padding-is)
-      (delta-walked s sizes (f .deleted) (f .updated) (f .keys) (F .overlong-header) (F .padding-header) (f .odd) (F .header-is) (f .first) (F .overlong-keys) (F .padding-keys) (j .overlong) (j .padding) (F .values) (J .items) (refusalOf (j .ended)) (F .keys-are) (J .walks))
+      rw (F .overlong-is)
+      (delta-walked s sizes (f .deleted) (f .updated) (f .keys) (F .overlong-header) (f .odd) (F .header-is) (f .first) (F .overlong-keys) (j .overlong)
+      (F .values) (J .items) (refusalOf (j .ended)) (F .keys-are) (J .walks))
 
   -- its warnings, as they were counted
   abbrev counted : Bool → Counts
-  counted other = deltaCounts (f .overlong + j .overlong) (f .padding + j .padding) (f .odd) (not (eqb (t .deleted) (f .deleted))) (j .updates - t .updated) (t .crossing) other
+  counted other = deltaCounts (f .overlong + j .overlong) (f .odd) (not (eqb (t .deleted) (f .deleted))) (j .updates - t .updated) (t .crossing) other
 
   -- they are those of the definition
-  counts-are : (other : Bool) → deltaCounts (f .overlong + j .overlong) (f .padding + j .padding) (f .odd) (twice (map bits (F .values))) (repeated [] (J .items)) (countItems (map bits (F .values)) (J .items)) other ≡ counted other
+  counts-are :
+      (other : Bool) →
+      deltaCounts (f .overlong + j .overlong) (f .odd) (twice (map bits (F .values))) (repeated [] (J .items))
+      (countItems (map bits (F .values)) (J .items)) other
+      ≡ counted other
   counts-are other =
       rw (length-bits (F .values), F .count, walk-repeats (J .walks), T .deleted-is, T .updated-is, T .crossing-is, J .count-is)
 
   -- an update is refused
   pub refused-behind : (out : List ℤ) (e : Error) (w : Counts) → j .ended ≡ ended.Refused e → w ≡ counted false → storedDelta out (readDelta sizes (from s 0)) ≡ record { answer = err (number e) w; out = out }
   refused-behind out e w q c =
-      let r : readDelta sizes (from s 0) ≡ err (number e) w = read-is ∙ (ap (λ (x : Ended). readEnding (refusalOf x) (f .overlong + j .overlong) (f .padding + j .padding) (f .odd) (f .updated) (map bits (F .values)) (J .items)) q ∙ ap (err (number e)) (counts-are false ∙ sym c)) in
+      let r : readDelta sizes (from s 0) ≡ err (number e) w = read-is ∙ (ap reading q ∙ ap (err (number e)) (counts-are false ∙ sym c)) in
       ap (storedDelta out) r ∙ refused-stored out (number e) w
 
   -- all updates are there
@@ -68,20 +76,26 @@ module _ {s : Source} {sizes : List ℤ} {f : Front} {j : Judged} (F : Fronts s 
   stored-behind out last r w q c g =
       let d : DeltaRead = deltaRead (map bits (F .values)) (J .items) in
       let other : otherCount (J .items) (f .updated) ≡ not (eqb (j .updates) (f .updated)) = ap (λ (n : ℕ). not (eqb n (f .updated))) (sym (J .count-is)) in
-      let r : readDelta sizes (from s 0) ≡ ok d w = read-is ∙ (ap (λ (x : Ended). readEnding (refusalOf x) (f .overlong + j .overlong) (f .padding + j .padding) (f .odd) (f .updated) (map bits (F .values)) (J .items)) q ∙ ap (ok d) (counts-are (otherCount (J .items) (f .updated)) ∙ (ap counted other ∙ sym c))) in
+      let counts = counts-are (otherCount (J .items) (f .updated)) ∙ (ap counted other ∙ sym c) in
+      let r : readDelta sizes (from s 0) ≡ ok d w = read-is ∙ (ap reading q ∙ ap (ok d) counts) in
       ap (storedDelta out) r ∙ g (F .values) (J .items) w (told F J)
 
 -- ---- before the updates
 
 module _ (s : Source) (sizes out : List ℤ) where
   -- the header is refused
-  pub any-header : {e : Error} {o p : ℕ} {a : Outcome ℕ} → Headers s (header.Refused e o p) → err (number e) (deltaCounts o p false false 0 0 false) ≡ a → storedDelta out (readDelta sizes (from s 0)) ≡ record { answer = a; out = out }
-  any-header {e} {o} {p} (Source.refused h) q =
-      ap (storedDelta out) (header-refused s sizes (number e) o p h)
-      ∙ (refused-stored out (number e) (deltaCounts o p false false 0 0 false) ∙ ap (λ (x : Outcome ℕ). record { answer = x; out = out }) q)
+  pub any-header :
+      {e : Error} {o : ℕ} {a : Outcome ℕ} → Headers s (header.Refused e o) → err (number e) (deltaCounts o false false 0 0 false) ≡ a →
+      storedDelta out (readDelta sizes (from s 0)) ≡ record { answer = a; out = out }
+  any-header {e} {o} (Source.refused h) q =
+      ap (storedDelta out) (header-refused s sizes (number e) o h)
+      ∙ (refused-stored out (number e) (deltaCounts o false false 0 0 false) ∙ ap (λ (x : Outcome ℕ). record { answer = x; out = out }) q)
 
   -- the keys are not all there
-  pub any-short : {k u keys o p o2 p2 : ℕ} {odd : Bool} {a : Outcome ℕ} → Headers s (header.Delta k u odd keys o p) → Skips s keys k (skip.Short o2 p2) → err deletedItemsUnpacking (deltaCounts (o + o2) (p + p2) odd false 0 0 false) ≡ a → storedDelta out (readDelta sizes (from s 0)) ≡ record { answer = a; out = out }
-  any-short {k} {u} {keys} {o} {p} {o2} {p2} {odd} (Source.delta h b) (Source.short l) q =
-      ap (storedDelta out) (keys-short s sizes k u keys o p odd h o2 p2 (l deletedItemsUnpacking))
-      ∙ (refused-stored out deletedItemsUnpacking (deltaCounts (o + o2) (p + p2) odd false 0 0 false) ∙ ap (λ (x : Outcome ℕ). record { answer = x; out = out }) q)
+  pub any-keys :
+      {k u keys o o2 : ℕ} {odd : Bool} {e : Error} {a : Outcome ℕ} → Headers s (header.Delta k u odd keys o) →
+      Skips s keys k deletedItemsUnpacking (skip.Refused e o2) → err (number e) (deltaCounts (o + o2) odd false 0 0 false) ≡ a →
+      storedDelta out (readDelta sizes (from s 0)) ≡ record { answer = a; out = out }
+  any-keys {k} {u} {keys} {o} {o2} {odd} {e} (Source.delta h b) (Source.refused l) q =
+      ap (storedDelta out) (keys-refused s sizes k u keys o odd h (number e) o2 l)
+      ∙ (refused-stored out (number e) (deltaCounts (o + o2) odd false 0 0 false) ∙ ap (λ (x : Outcome ℕ). record { answer = x; out = out }) q)

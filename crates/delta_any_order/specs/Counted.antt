@@ -16,7 +16,7 @@ warnedIf b k = cond b (one k) Warnings.none
 
 -- those that come with the updates
 abbrev pub updateCounts : ℕ → ℕ → Counts
-updateCounts repeats crossing = deltaCounts 0 0 false false repeats crossing false
+updateCounts repeats crossing = deltaCounts 0 false false repeats crossing false
 
 -- ---- the same, put together from those of each step
 
@@ -46,39 +46,47 @@ counts-turn x y v w r c =
     sums a b = rw (zero-add r, zero-add (b + c))
 
 -- equal numbers of each kind
-module _ {o p d t r c u o2 p2 d2 t2 r2 c2 u2 : ℕ} where
+module _ {o d t r c u o2 d2 t2 r2 c2 u2 : ℕ} where
   -- counts are equal if each number is
-  same : o ≡ o2 → p ≡ p2 → d ≡ d2 → t ≡ t2 → r ≡ r2 → c ≡ c2 → u ≡ u2 → countsOf o p d t r c u ≡ countsOf o2 p2 d2 t2 r2 c2 u2
-  same eo ep ed et er ec eu = λ i. countsOf (eo i) (ep i) (ed i) (et i) (er i) (ec i) (eu i)
+  same : o ≡ o2 → d ≡ d2 → t ≡ t2 → r ≡ r2 → c ≡ c2 → u ≡ u2 → countsOf o d t r c u ≡ countsOf o2 d2 t2 r2 c2 u2
+  same eo ed et er ec eu = λ i. countsOf (eo i) (ed i) (et i) (er i) (ec i) (eu i)
 
 -- padding that is not 0
-odd-counts : (b : Bool) → oddPadding b ≡ deltaCounts 0 0 b false 0 0 false
+odd-counts : (b : Bool) → oddPadding b ≡ deltaCounts 0 b false 0 0 false
 odd-counts true = refl
 odd-counts false = refl
 
 -- a key deleted twice
-twice-counts : (b : Bool) → warnedIf b DuplicateDelete ≡ deltaCounts 0 0 false b 0 0 false
+twice-counts : (b : Bool) → warnedIf b DuplicateDelete ≡ deltaCounts 0 false b 0 0 false
 twice-counts true = refl
 twice-counts false = refl
 
 -- a wrong count of updates
-other-counts : (b : Bool) → warnedIf b NumUpdatedItems ≡ deltaCounts 0 0 false false 0 0 b
+other-counts : (b : Bool) → warnedIf b NumUpdatedItems ≡ deltaCounts 0 false false 0 0 b
 other-counts true = refl
 other-counts false = refl
 
 -- header, keys, updates, and the count of updates
-pub counts-whole : (o p o2 p2 o3 p3 r c : ℕ) (odd twice other : Bool) → plus (plus (packed o p) (oddPadding odd)) (plus (packed o2 p2) (plus (warnedIf twice DuplicateDelete) (plus (plus (packed o3 p3) (updateCounts r c)) (plus (warnedIf other NumUpdatedItems) Warnings.none)))) ≡ deltaCounts (o + o2 + o3) (p + p2 + p3) odd twice r c other
-counts-whole o p o2 p2 o3 p3 r c odd twice other =
+pub counts-whole :
+    (o o2 o3 r c : ℕ) (odd twice other : Bool) →
+    plus (plus (packed o) (oddPadding odd))
+    (plus (packed o2) (plus (warnedIf twice DuplicateDelete)
+    (plus (plus (packed o3) (updateCounts r c)) (plus (warnedIf other NumUpdatedItems) Warnings.none))))
+    ≡ deltaCounts (o + o2 + o3) odd twice r c other
+counts-whole o o2 o3 r c odd twice other =
     rw (odd-counts odd, twice-counts twice, other-counts other)
-    (same (omega arith) (omega arith) (omega arith) (omega arith) (omega arith) (omega arith) (omega arith))
+    (same (omega arith) (omega arith) (omega arith) (omega arith) (omega arith) (omega arith))
 
 -- header, keys and updates, after which one is refused
-pub counts-broken : (o p o2 p2 o3 p3 r c : ℕ) (odd twice : Bool) → plus (plus (packed o p) (oddPadding odd)) (plus (packed o2 p2) (plus (warnedIf twice DuplicateDelete) (plus (packed o3 p3) (updateCounts r c)))) ≡ deltaCounts (o + o2 + o3) (p + p2 + p3) odd twice r c false
-counts-broken o p o2 p2 o3 p3 r c odd twice =
+pub counts-broken :
+    (o o2 o3 r c : ℕ) (odd twice : Bool) →
+    plus (plus (packed o) (oddPadding odd)) (plus (packed o2) (plus (warnedIf twice DuplicateDelete) (plus (packed o3) (updateCounts r c))))
+    ≡ deltaCounts (o + o2 + o3) odd twice r c false
+counts-broken o o2 o3 r c odd twice =
     rw (odd-counts odd, twice-counts twice)
-    (same (omega arith) (omega arith) (omega arith) (omega arith) (omega arith) (omega arith) (omega arith))
+    (same (omega arith) (omega arith) (omega arith) (omega arith) (omega arith) (omega arith))
 
 -- header, and keys that are not all there
-pub counts-short : (o p o2 p2 : ℕ) (odd : Bool) → plus (plus (packed o p) (oddPadding odd)) (packed o2 p2) ≡ deltaCounts (o + o2) (p + p2) odd false 0 0 false
-counts-short o p o2 p2 odd =
-    rw (odd-counts odd) (same (omega arith) (omega arith) (omega arith) (omega arith) (omega arith) (omega arith) (omega arith))
+pub counts-refused : (o o2 : ℕ) (odd : Bool) → plus (plus (packed o) (oddPadding odd)) (packed o2) ≡ deltaCounts (o + o2) odd false 0 0 false
+counts-refused o o2 odd =
+    rw (odd-counts odd) (same (omega arith) (omega arith) (omega arith) (omega arith) (omega arith) (omega arith))

@@ -20,17 +20,17 @@ use Rattle.delta_any_order.specs.declared.checked.Front.{Front}
 pub record Fronts (s : Source) (f : Front) : Type 0 where
   pub values : List ℤ
   pub overlong-header : ℕ
-  pub padding-header : ℕ
   pub overlong-keys : ℕ
-  pub padding-keys : ℕ
-  pub header-is : readDeltaHeader (from s 0) ≡ ok (record { value = record { deleted = f .deleted; updated = f .updated }; rest = from s (f .keys) }) (plus (packed overlong-header padding-header) (oddPadding (f .odd)))
-  pub keys-are : nextInts deletedItemsUnpacking (f .deleted) (from s (f .keys)) ≡ ok (record { value = values; rest = from s (f .first) }) (packed overlong-keys padding-keys)
+  pub header-is :
+      readDeltaHeader (from s 0)
+      ≡ ok (record { value = record { deleted = f .deleted; updated = f .updated }; rest = from s (f .keys) })
+      (plus (packed overlong-header) (oddPadding (f .odd)))
+  pub keys-are :
+      nextInts deletedItemsUnpacking (f .deleted) (from s (f .keys)) ≡ ok (record { value = values; rest = from s (f .first) }) (packed overlong-keys)
   pub overlong-is : f .overlong ≡ overlong-header + overlong-keys
-  pub padding-is : f .padding ≡ padding-header + padding-keys
   pub count : length values ≡ f .deleted
   pub few-keys : f .deleted ≤ size s
   pub few-overlong : f .overlong ≤ 2 * size s
-  pub few-padding : f .padding ≤ 2 * size s
   pub keys-inside : f .keys ≤ size s
   pub behind : 1 ≤ f .first
   pub first-inside : f .first ≤ size s

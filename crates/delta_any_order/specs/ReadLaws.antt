@@ -22,7 +22,7 @@ use Rattle.delta_index.specs.RepeatLaws.{repeated}
 use Rattle.delta_source.specs.Source.{Source, from, oddPadding, Walks, whole, broken, more}
 use Rattle.delta_source.specs.SourceLaws.{Reads, got, update-reads}
 use Rattle.format.specs.Sources.{deltaCounts}
-use Rattle.delta_any_order.specs.Counted.{warnedIf, updateCounts, counts-turn, counts-whole, counts-broken, counts-short}
+use Rattle.delta_any_order.specs.Counted.{warnedIf, updateCounts, counts-turn, counts-whole, counts-broken, counts-refused}
 
 -- ---- the updates
 
@@ -33,7 +33,7 @@ ending (some n) l w = err n w
 
 -- an update takes at least one int
 one-less : {s t : Stream} {u : Item} {v : Counts} (fuel : ℕ) → Reads 0 (λ (x : Item). 2 + length (x .values)) s (ok (record { value = u; rest = t }) v) → length (ints s) < suc fuel → length (ints t) < fuel
-one-less fuel (got x y z) h = omega arith
+one-less fuel (got x y) h = omega arith
 
 -- a warning and then the rest
 warned : {A : Type 0} (b : Bool) (k : Warning) (o : Outcome A) → (warnIf b k >> o) ≡ after (warnedIf b k) o
@@ -78,9 +78,10 @@ abbrev pub otherCount : List Item → ℕ → Bool
 otherCount items u = not (eqb (length items) u)
 
 -- a delta read to its end, or up to a refusal; after the packer's warnings
-abbrev pub readEnding : Option ℕ → ℕ → ℕ → Bool → ℕ → List ℕ → List Item → Outcome DeltaRead
-readEnding none o p odd u deleted items = ok (deltaRead deleted items) (deltaCounts o p odd (twice deleted) (repeated [] items) (countItems deleted items) (otherCount items u))
-readEnding (some n) o p odd u deleted items = err n (deltaCounts o p odd (twice deleted) (repeated [] items) (countItems deleted items) false)
+abbrev pub readEnding : Option ℕ → ℕ → Bool → ℕ → List ℕ → List Item → Outcome DeltaRead
+readEnding none o odd u deleted items =
+    ok (deltaRead deleted items) (deltaCounts o odd (twice deleted) (repeated [] items) (countItems deleted items) (otherCount items u))
+readEnding (some n) o odd u deleted items = err n (deltaCounts o odd (twice deleted) (repeated [] items) (countItems deleted items) false)
 
 -- a delta that was read, with the warnings of each step
 steps : (t x : Bool) (d : DeltaRead) (a b c : Counts) → after a (after b (warnIf t DuplicateDelete >> after c (warnIf x NumUpdatedItems >> return d))) ≡ ok d (plus a (plus b (plus (warnedIf t DuplicateDelete) (plus c (plus (warnedIf x NumUpdatedItems) Warnings.none)))))
@@ -95,29 +96,46 @@ steps-refused true n a b c = refl
 steps-refused false n a b c = refl
 
 -- how reading ends, after header and keys
-ends : (e : Option ℕ) (o p o2 p2 o3 p3 : ℕ) (odd : Bool) (u : ℕ) (deleted : List ℕ) (items : List Item) → after (plus (packed o p) (oddPadding odd)) (after (packed o2 p2) (warnIf (twice deleted) DuplicateDelete >> (ending e items (plus (packed o3 p3) (updateCounts (repeated [] items) (countItems deleted items))) >>= λ updated. warnIf (not (eqb (length updated) u)) NumUpdatedItems >> return (deltaRead deleted updated)))) ≡ readEnding e (o + o2 + o3) (p + p2 + p3) odd u deleted items
-ends none o p o2 p2 o3 p3 odd u deleted items =
-    steps (twice deleted) (otherCount items u) (deltaRead deleted items) (plus (packed o p) (oddPadding odd)) (packed o2 p2) (plus (packed o3 p3) (updateCounts (repeated [] items) (countItems deleted items)))
-    ∙ ap (ok (deltaRead deleted items)) (counts-whole o p o2 p2 o3 p3 (repeated [] items) (countItems deleted items) odd (twice deleted) (otherCount items u))
-ends (some n) o p o2 p2 o3 p3 odd u deleted items =
-    steps-refused (twice deleted) n (plus (packed o p) (oddPadding odd)) (packed o2 p2) (plus (packed o3 p3) (updateCounts (repeated [] items) (countItems deleted items)))
-    ∙ ap (err n) (counts-broken o p o2 p2 o3 p3 (repeated [] items) (countItems deleted items) odd (twice deleted))
+ends :
+    (e : Option ℕ) (o o2 o3 : ℕ) (odd : Bool) (u : ℕ) (deleted : List ℕ) (items : List Item) →
+    after (plus (packed o) (oddPadding odd))
+    (after (packed o2)
+    (warnIf (twice deleted) DuplicateDelete
+    >> (ending e items (plus (packed o3) (updateCounts (repeated [] items) (countItems deleted items)))
+    >>= λ updated. warnIf (not (eqb (length updated) u)) NumUpdatedItems >> return (deltaRead deleted updated))))
+    ≡ readEnding e (o + o2 + o3) odd u deleted items
+ends none o o2 o3 odd u deleted items =
+    steps (twice deleted) (otherCount items u) (deltaRead deleted items) (plus (packed o) (oddPadding odd)) (packed o2)
+    (plus (packed o3) (updateCounts (repeated [] items) (countItems deleted items)))
+    ∙ ap (ok (deltaRead deleted items)) (counts-whole o o2 o3 (repeated [] items) (countItems deleted items) odd (twice deleted) (otherCount items u))
+ends (some n) o o2 o3 odd u deleted items =
+    steps-refused (twice deleted) n (plus (packed o) (oddPadding odd)) (packed o2)
+    (plus (packed o3) (updateCounts (repeated [] items) (countItems deleted items)))
+    ∙ ap (err n) (counts-broken o o2 o3 (repeated [] items) (countItems deleted items) odd (twice deleted))
 
 module _ (s : Source) (sizes : List ℤ) where
   -- the header is refused
-  pub header-refused : (n o p : ℕ) → readDeltaHeader (from s 0) ≡ err n (packed o p) → readDelta sizes (from s 0) ≡ err n (deltaCounts o p false false 0 0 false)
+  pub header-refused : (n o : ℕ) → readDeltaHeader (from s 0) ≡ err n (packed o) → readDelta sizes (from s 0) ≡ err n (deltaCounts o false false 0 0 false)
   unfolding readDelta
-  header-refused n o p h = rw h
+  header-refused n o h = rw h
 
-  module _ (k u next o p : ℕ) (odd : Bool) (h : readDeltaHeader (from s 0) ≡ ok (record { value = record { deleted = k; updated = u }; rest = from s next }) (plus (packed o p) (oddPadding odd))) where
+  module _ (k u next o : ℕ) (odd : Bool)
+      (h :
+      readDeltaHeader (from s 0)
+      ≡ ok (record { value = record { deleted = k; updated = u }; rest = from s next }) (plus (packed o) (oddPadding odd))) where
     -- the keys are not all there
-    pub keys-short : (o2 p2 : ℕ) → nextInts deletedItemsUnpacking k (from s next) ≡ err deletedItemsUnpacking (packed o2 p2) → readDelta sizes (from s 0) ≡ err deletedItemsUnpacking (deltaCounts (o + o2) (p + p2) odd false 0 0 false)
+    pub keys-refused :
+        (n o2 : ℕ) → nextInts deletedItemsUnpacking k (from s next) ≡ err n (packed o2) →
+        readDelta sizes (from s 0) ≡ err n (deltaCounts (o + o2) odd false 0 0 false)
     unfolding readDelta
-    keys-short o2 p2 l = rw (h, l) (ap (err deletedItemsUnpacking) (counts-short o p o2 p2 odd))
+    keys-refused n o2 l = rw (h, l) (ap (err n) (counts-refused o o2 odd))
 
     -- the keys are all there, and the updates were walked
-    pub delta-walked : (first o2 p2 o3 p3 : ℕ) (values : List ℤ) (items : List Item) (e : Option ℕ) → nextInts deletedItemsUnpacking k (from s next) ≡ ok (record { value = values; rest = from s first }) (packed o2 p2) → Walks s sizes first items (packed o3 p3) e → readDelta sizes (from s 0) ≡ readEnding e (o + o2 + o3) (p + p2 + p3) odd u (map bits values) items
+    pub delta-walked :
+        (first o2 o3 : ℕ) (values : List ℤ) (items : List Item) (e : Option ℕ) →
+        nextInts deletedItemsUnpacking k (from s next) ≡ ok (record { value = values; rest = from s first }) (packed o2) →
+        Walks s sizes first items (packed o3) e → readDelta sizes (from s 0) ≡ readEnding e (o + o2 + o3) odd u (map bits values) items
     unfolding readDelta
-    delta-walked first o2 p2 o3 p3 values items e l w =
+    delta-walked first o2 o3 values items e l w =
         let ups = walk-reads (map bits values) (length (ints (from s first)) + 1) [] w (omega arith) in
-        rw (h, l, ups) (ends e o p o2 p2 o3 p3 odd u (map bits values) items)
+        rw (h, l, ups) (ends e o o2 o3 odd u (map bits values) items)

@@ -38,12 +38,12 @@ use table::checked::nat_at;
 use table::checked::put;
 
 // The refusal of a delta before its updates, with the warnings up to there.
-pub fn refused(error: Error, overlong: usize, padding: usize, odd: bool) -> Reading
-    ensures { λ r. ⌜ err (number error) (deltaCounts overlong padding odd false 0 0 false) ≡ storedWith (r .answer) (counts (r .warnings)) ⌝ }
+pub fn refused(error: Error, overlong: usize, odd: bool) -> Reading
+    ensures { λ r. ⌜ err (number error) (deltaCounts overlong odd false 0 0 false) ≡ storedWith (r .answer) (counts (r .warnings)) ⌝ }
 {
     Reading {
         answer: Stored::Refused(error),
-        warnings: Warnings::delta(overlong, padding, odd, false, 0, 0, false),
+        warnings: Warnings::delta(overlong, odd, false, 0, 0, false),
     }
 }
 
@@ -55,7 +55,6 @@ pub struct Front {
     pub keys: usize,
     pub first: usize,
     pub overlong: usize,
-    pub padding: usize,
 }
 
 // Writes the header of a delta area.
@@ -88,12 +87,11 @@ fn updates_end(area: &[i32], start: usize, n: usize) -> usize
 
 // The warnings of a delta whose updates were judged and tallied.
 fn counted(front: Front, judged: Judged, t: Tally, other: bool) -> Warnings
-    requires { ⌜ (front .overlong + judged .overlong < 2 ^ 32) × (front .padding + judged .padding < 2 ^ 32) × (t .updated ≤ judged .updates) ⌝ }
-    ensures { λ r. ⌜ counts r ≡ deltaCounts (front .overlong + judged .overlong) (front .padding + judged .padding) (front .odd) (not (eqb (t .deleted) (front .deleted))) (judged .updates - t .updated) (t .crossing) other ⌝ }
+    requires { ⌜ (front .overlong + judged .overlong < 2 ^ 32) × (t .updated ≤ judged .updates) ⌝ }
+    ensures { λ r. ⌜ counts r ≡ deltaCounts (front .overlong + judged .overlong) (front .odd) (not (eqb (t .deleted) (front .deleted))) (judged .updates - t .updated) (t .crossing) other ⌝ }
 {
     Warnings::delta(
         front.overlong + judged.overlong,
-        front.padding + judged.padding,
         front.odd,
         t.deleted != front.deleted,
         judged.updates - t.updated,
@@ -183,9 +181,8 @@ fn front_of(
     keys: usize,
     first: usize,
     overlong: usize,
-    padding: usize,
 ) -> Front
-    ensures { λ r. ⌜ r ≡ record { deleted = deleted; updated = updated; odd = odd; keys = keys; first = first; overlong = overlong; padding = padding } ⌝ }
+    ensures { λ r. ⌜ r ≡ record { deleted = deleted; updated = updated; odd = odd; keys = keys; first = first; overlong = overlong } ⌝ }
 {
     Front {
         deleted,
@@ -194,7 +191,6 @@ fn front_of(
         keys,
         first,
         overlong,
-        padding,
     }
 }
 
@@ -211,37 +207,27 @@ pub fn read_any(
     ensures { λ r. ⌜ storedDelta (now (out .entry)) (readDelta (now (sizes .entry)) (from (source packed (now (bytes .entry)) (now (ints .entry))) 0)) ≡ record { answer = storedWith (r .answer) (counts (r .warnings)); out = now (out .exit) } ⌝ }
 {
     match read_header(bytes, ints, packed) {
-        Header::Refused {
-            error,
-            overlong,
-            padding,
-        } => refused(error, overlong, padding, false),
+        Header::Refused { error, overlong } => refused(error, overlong, false),
         Header::Delta {
             deleted,
             updated,
             odd,
             next: keys,
             overlong,
-            padding,
-        } => match skip_ints(bytes, ints, packed, keys, deleted) {
-            Skip::Short {
-                overlong: o,
-                padding: p,
-            } => refused(Error::DeletedItemsUnpacking, overlong + o, padding + p, odd),
+        } => match skip_ints(
+            bytes,
+            ints,
+            packed,
+            keys,
+            deleted,
+            Error::DeletedItemsUnpacking,
+        ) {
+            Skip::Refused { error, overlong: o } => refused(error, overlong + o, odd),
             Skip::Past {
                 next: first,
                 overlong: o,
-                padding: p,
             } => {
-                let known = front_of(
-                    deleted,
-                    updated,
-                    odd,
-                    keys,
-                    first,
-                    overlong + o,
-                    padding + p,
-                );
+                let known = front_of(deleted, updated, odd, keys, first, overlong + o);
                 read_behind(bytes, ints, packed, sizes, known, index, out)
             }
         },

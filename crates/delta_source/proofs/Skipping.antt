@@ -21,9 +21,11 @@ use Rattle.laws.specs.WarningLaws.{packed, warned-packed, none-plus, plus-none,
 use Rattle.laws.specs.OutcomeLaws.{ok-value, ok-not-err}
 use Rattle.laws.specs.DeltaReadBack.{reads}
 use Rattle.ints.specs.Copies.{Copied, copyAt}
+use Rattle.format.specs.Numbers.{number}
 use Rattle.format.specs.declared.Error.{Error}
+use Rattle.packer.specs.Answers.{missingAs}
 use Rattle.packer.specs.declared.IntRead.the-variants as read
-use Rattle.delta_source.specs.Source.{Source, source, size, from, behindInts, Next, found, nothing, Skips, past, short, Copies}
+use Rattle.delta_source.specs.Source.{Source, source, size, from, behindInts, Next, found, nothing, Skips, past, refused, Copies}
 use Rattle.delta_source.specs.SourcePlaces.{behind-none, behind-step, behind-ints}
 use Rattle.delta_source.specs.declared.checked.Skip.the-variants as skip
 
@@ -42,7 +44,7 @@ one-more : (refusal k : ℕ) {s t : Stream} {x : ℤ} {w : Counts} → s ≡ int
 unfolding nextInts
 one-more refusal k {s} {t} {x} {w} e = rw e (first x w (nextInts refusal k t))
 
-no-more : (refusal k : ℕ) (s : Stream) → next refusal s ≡ refuse refusal → nextInts refusal (suc k) s ≡ refuse refusal
+no-more : (refusal k : ℕ) (s : Stream) {n : ℕ} → next refusal s ≡ refuse n → nextInts refusal (suc k) s ≡ refuse n
 unfolding nextInts
 no-more refusal k s e = rw e
 
@@ -54,79 +56,84 @@ prefixed-twice a b v w (err n u) = ap (err n) (sym (plus-assoc v w u))
 -- ---- skipping
 
 -- those skipped so far, followed by what is left, are the whole
-pub record Skipping (s : Source) (start n at left o p : ℕ) : Type 0 where
+pub record Skipping (s : Source) (start n at left o : ℕ) : Type 0 where
   pub on : start ≤ at
   pub inside : at ≤ size s
   pub few-overlong : o ≤ at
-  pub few-padding : p ≤ at
   pub done : List ℤ
   pub long : length done + left ≡ n
   pub place : behindInts s at left ≡ behindInts s start n
-  pub joins : (refusal : ℕ) → nextInts refusal n (from s start) ≡ prefixed done (packed o p) (nextInts refusal left (from s at))
+  pub joins : (refusal : ℕ) → nextInts refusal n (from s start) ≡ prefixed done (packed o) (nextInts refusal left (from s at))
 
 module _ (s : Source) (start n : ℕ) where
-  nothing-first : (o : Outcome (Got (List ℤ))) → o ≡ prefixed [] (packed 0 0) o
+  nothing-first : (o : Outcome (Got (List ℤ))) → o ≡ prefixed [] (packed 0) o
   nothing-first (ok g v) = ap (ok g) (sym (none-plus v))
   nothing-first (err n v) = ap (err n) (sym (none-plus v))
 
-  pub start-skip : start ≤ size s → Skipping s start n start n 0 0
+  pub start-skip : start ≤ size s → Skipping s start n start n 0
   start-skip h =
       record {
         on = omega arith;
         inside = h;
         few-overlong = omega arith;
-        few-padding = omega arith;
         done = [];
         long = omega arith;
         place = refl;
         joins = λ refusal. nothing-first (nextInts refusal n (from s start));
       }
 
-  module _ {at left o p : ℕ} where
-    joined : (k : ℕ) (overlong padding : Bool) (x : ℤ) (next : ℕ) (i : Skipping s start n at left o p) → left ≡ suc k → from s at ≡ int x (warned overlong padding) (from s next) → (refusal : ℕ) → nextInts refusal n (from s start) ≡ prefixed (i .done ++ x ∷ []) (packed (o + cond overlong 1 0) (p + cond padding 1 0)) (nextInts refusal k (from s next))
-    joined k overlong padding x next i l e refusal =
+  module _ {at left o : ℕ} where
+    joined :
+        (k : ℕ) (overlong : Bool) (x : ℤ) (next : ℕ) (i : Skipping s start n at left o) → left ≡ suc k → from s at ≡ int x (warned overlong) (from s next) →
+        (refusal : ℕ) → nextInts refusal n (from s start) ≡ prefixed (i .done ++ x ∷ []) (packed (o + cond overlong 1 0)) (nextInts refusal k (from s next))
+    joined k overlong x next i l e refusal =
         let rest = nextInts refusal k (from s next) in
         i .joins refusal
-        ∙ ap (λ (m : ℕ). prefixed (i .done) (packed o p) (nextInts refusal m (from s at))) l
-        ∙ ap (prefixed (i .done) (packed o p)) (one-more refusal k e)
-        ∙ prefixed-twice (i .done) (x ∷ []) (packed o p) (warned overlong padding) rest
-        ∙ ap (λ (w : Counts). prefixed (i .done ++ x ∷ []) (plus (packed o p) w) rest) (warned-packed overlong padding)
+        ∙ ap (λ (m : ℕ). prefixed (i .done) (packed o) (nextInts refusal m (from s at))) l
+        ∙ ap (prefixed (i .done) (packed o)) (one-more refusal k e)
+        ∙ prefixed-twice (i .done) (x ∷ []) (packed o) (warned overlong) rest
+        ∙ ap (λ (w : Counts). prefixed (i .done ++ x ∷ []) (plus (packed o) w) rest) (warned-packed overlong)
 
-    pub turn-skip : {x : ℤ} {next : ℕ} (overlong padding : Bool) → Skipping s start n at left o p → 0 < left → Next s at (read.Int x next overlong padding) → Skipping s start n next (left - 1) (o + cond overlong 1 0) (p + cond padding 1 0)
-    turn-skip {x} {next} overlong padding i h (found e q a b) =
+    pub turn-skip :
+        {x : ℤ} {next : ℕ} (overlong : Bool) → Skipping s start n at left o → 0 < left → Next s at (read.Int x next overlong) →
+        Skipping s start n next (left - 1) (o + cond overlong 1 0)
+    turn-skip {x} {next} overlong i h (found e q a b) =
         record {
           on = omega (arith, i .on);
           inside = b;
           few-overlong = omega (arith, i .few-overlong, at-most-one overlong);
-          few-padding = omega (arith, i .few-padding, at-most-one padding);
           done = i .done ++ x ∷ [];
           long = omega (arith, i .long, length-append (i .done) (x ∷ []));
           place = sym (ap (behindInts s at) l ∙ behind-step s at (left - 1) q) ∙ i .place;
-          joins = joined (left - 1) overlong padding x next i l e;
+          joins = joined (left - 1) overlong x next i l e;
         }
       where
         l : left ≡ suc (left - 1)
         l = omega arith
 
     -- all are skipped
-    pub skipped : Skipping s start n at left o p → left ≤ 0 → Skips s start n (skip.Past at o p)
+    pub skipped : {refusal : ℕ} → Skipping s start n at left o → left ≤ 0 → Skips s start n refusal (skip.Past at o)
     unfolding nextInts
     skipped i h = past (i .done) (omega (arith, i .long)) (λ refusal. i .joins refusal ∙ last refusal left h) (sym (ap (behindInts s at) all-past ∙ behind-none s at) ∙ i .place) (i .on) (i .inside)
       where
         all-past : left ≡ 0
         all-past = omega arith
 
-        last : (refusal m : ℕ) → m ≤ 0 → prefixed (i .done) (packed o p) (nextInts refusal m (from s at)) ≡ ok (record { value = i .done; rest = from s at }) (packed o p)
-        last refusal zero h = rw (append-nil (i .done)) (ap (λ (w : Counts). ok (record { value = i .done; rest = from s at }) w) (plus-none (packed o p)))
+        last :
+            (refusal m : ℕ) → m ≤ 0 →
+            prefixed (i .done) (packed o) (nextInts refusal m (from s at)) ≡ ok (record { value = i .done; rest = from s at }) (packed o)
+        last refusal zero h = rw (append-nil (i .done)) (ap (λ (w : Counts). ok (record { value = i .done; rest = from s at }) w) (plus-none (packed o)))
         last refusal (suc m) h = absurd (omega arith)
 
     -- not all are there
-    pub cut-short : {r : Error} → Skipping s start n at left o p → 0 < left → Next s at (read.Refused r) → Skips s start n (skip.Short o p)
-    cut-short i h (nothing e) =
-        short (λ refusal.
-        i .joins refusal
-        ∙ ap (prefixed (i .done) (packed o p)) (ap (λ (m : ℕ). nextInts refusal m (from s at)) l ∙ no-more refusal (left - 1) (from s at) (e refusal))
-        ∙ ap (err refusal) (plus-none (packed o p)))
+    pub stopped-at :
+        {r : Error} (refusal : ℕ) (e : Error) → Skipping s start n at left o → 0 < left → Next s at (read.Refused r) → number e ≡ missingAs (number r) refusal →
+        Skips s start n refusal (skip.Refused e o)
+    stopped-at refusal e i h (nothing f) q =
+        refused {e = e} {o = o}
+        (i .joins refusal
+        ∙ ap (prefixed (i .done) (packed o)) (ap (λ (m : ℕ). nextInts refusal m (from s at)) l ∙ no-more refusal (left - 1) (from s at) (f refusal))
+        ∙ rw (plus-none (packed o), q))
       where
         l : left ≡ suc (left - 1)
         l = omega arith
@@ -144,8 +151,8 @@ module _ (b : List ℕ) (l : List ℤ) (at n : ℕ) where
   unfolding from
   too-few refusal h = few refusal n (drop at l) (simp length-drop (omega arith))
 
-  pub skip-too-few : length l - at < n → Skips (source false b l) at n (skip.Short 0 0)
-  skip-too-few h = short (λ refusal. too-few refusal h)
+  pub skip-too-few : (e : Error) → length l - at < n → Skips (source false b l) at n (number e) (skip.Refused e 0)
+  skip-too-few e h = refused (too-few (number e) h)
 
   module _ (h : at + n ≤ length l) where
     part-long : length (take n (drop at l)) ≡ n
@@ -161,7 +168,7 @@ module _ (b : List ℕ) (l : List ℤ) (at n : ℕ) where
         let g = ap (λ (t : List ℤ). return {A = Got (List ℤ)} (record { value = xs; rest = intStream t })) (drop-drop n at l) in
         e ∙ f ∙ reads refusal xs (drop n (drop at l)) ∙ g
 
-    pub skip-part : Skips (source false b l) at n (skip.Past (at + n) 0 0)
+    pub skip-part : {refusal : ℕ} → Skips (source false b l) at n refusal (skip.Past (at + n) 0)
     skip-part = past (take n (drop at l)) part-long part-read (sym (behind-ints b l at n)) (omega arith) h
 
 -- ---- copying
@@ -209,8 +216,10 @@ module _ (s : Source) (start n to : ℕ) (before : List ℤ) where
       all = omega arith
 
   module _ (out : List ℤ) (at i : ℕ) where
-    pub turn-copy : {x : ℤ} {next : ℕ} (overlong padding : Bool) → Copying s start n to before out at i → i < n → to + n ≤ length before → Next s at (read.Int x next overlong padding) → Copying s start n to before (set out (to + i) x) next (i + 1)
-    turn-copy {x} {next} overlong padding c h room (found e j a b) =
+    pub turn-copy :
+        {x : ℤ} {next : ℕ} (overlong : Bool) → Copying s start n to before out at i → i < n → to + n ≤ length before → Next s at (read.Int x next overlong) →
+        Copying s start n to before (set out (to + i) x) next (i + 1)
+    turn-copy {x} {next} overlong c h room (found e j a b) =
         record {
           few-copied = omega arith;
           same = length-set out (to + i) x ∙ c .same;
@@ -218,7 +227,7 @@ module _ (s : Source) (start n to : ℕ) (before : List ℤ) where
               let l = c .joins xs rest w refusal q in
               let m : n - i ≡ suc (n - (i + 1)) = omega arith in
               let step = one-more refusal (n - (i + 1)) e in
-              let r = behind x (warned overlong padding) (l .warnings) (l .ints) rest (nextInts refusal (n - (i + 1)) (from s next))
+              let r = behind x (warned overlong) (l .warnings) (l .ints) rest (nextInts refusal (n - (i + 1)) (from s next))
               (sym step ∙ ap (λ (k : ℕ). nextInts refusal k (from s at)) (sym m) ∙ l .reading) in
               record {
                 ints = r .ints;

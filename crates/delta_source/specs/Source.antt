@@ -22,6 +22,7 @@ use Rattle.definitions.specs.DeltaReading as Reading
 use Rattle.laws.specs.WarningLaws.{packed}
 use Rattle.format.specs.Numbers.{number}
 use Rattle.format.specs.declared.Error.{Error}
+use Rattle.packer.specs.Answers.{missingAs}
 use Rattle.packer.specs.declared.IntRead.{IntRead}
 use Rattle.packer.specs.declared.IntRead.the-variants as read
 use Rattle.delta_source.specs.declared.checked.Skip.{Skip}
@@ -75,15 +76,19 @@ dataPlace s sizes at key = behindInts s at (headLength (knownSize sizes (key / 6
 abbrev pub behindUpdate : Source → List ℤ → ℕ → Item → ℕ
 behindUpdate s sizes at u = behindInts s (dataPlace s sizes at (u .key)) (length (u .values))
 
--- the integer at a place, or that there is none
+-- the integer at a place, or why it is refused
 pub data Next (s : Source) (at : ℕ) : IntRead → Type 0 where
-  found : {x : ℤ} {next : ℕ} {o p : Bool} → from s at ≡ int x (warned o p) (from s next) → next ≡ behind s at → at < next → next ≤ size s → Next s at (read.Int x next o p)
-  nothing : {e : Error} → ((refusal : ℕ) → Reading.next refusal (from s at) ≡ refuse refusal) → Next s at (read.Refused e)
+  found :
+      {x : ℤ} {next : ℕ} {o : Bool} → from s at ≡ int x (warned o) (from s next) → next ≡ behind s at → at < next → next ≤ size s →
+      Next s at (read.Int x next o)
+  nothing : {e : Error} → ((refusal : ℕ) → Reading.next refusal (from s at) ≡ refuse (missingAs (number e) refusal)) → Next s at (read.Refused e)
 
--- n integers were skipped, or are not all there
-pub data Skips (s : Source) (at n : ℕ) : Skip → Type 0 where
-  past : {next o p : ℕ} (xs : List ℤ) → length xs ≡ n → ((refusal : ℕ) → nextInts refusal n (from s at) ≡ ok (record { value = xs; rest = from s next }) (packed o p)) → next ≡ behindInts s at n → at ≤ next → next ≤ size s → Skips s at n (skip.Past next o p)
-  short : {o p : ℕ} → ((refusal : ℕ) → nextInts refusal n (from s at) ≡ err refusal (packed o p)) → Skips s at n (skip.Short o p)
+-- n integers were skipped, or why they are not all there, where an end has this refusal
+pub data Skips (s : Source) (at n refusal : ℕ) : Skip → Type 0 where
+  past :
+      {next o : ℕ} (xs : List ℤ) → length xs ≡ n → ((other : ℕ) → nextInts other n (from s at) ≡ ok (record { value = xs; rest = from s next }) (packed o)) →
+      next ≡ behindInts s at n → at ≤ next → next ≤ size s → Skips s at n refusal (skip.Past next o)
+  refused : {e : Error} {o : ℕ} → nextInts refusal n (from s at) ≡ err (number e) (packed o) → Skips s at n refusal (skip.Refused e o)
 
 -- n integers of the source are in an area from a place on
 abbrev pub Copies : Source → ℕ → ℕ → ℕ → List ℤ → List ℤ → Type 0
@@ -92,13 +97,19 @@ Copies s at n to before after =
 
 -- the head of an update, or why there is none
 pub data Heads (s : Source) (sizes : List ℤ) (at : ℕ) : Head → Type 0 where
-  update : {k : ℤ} {n d o p : ℕ} → readHead sizes (from s at) ≡ ok (record { value = record { key = bits k; size = n }; rest = from s d }) (packed o p) → d ≡ dataPlace s sizes at (bits k) → at < d → d ≤ size s → Heads s sizes at (head.Update k n d o p)
-  refused : {e : Error} {o p : ℕ} → readHead sizes (from s at) ≡ err (number e) (packed o p) → Heads s sizes at (head.Refused e o p)
+  update :
+      {k : ℤ} {n d o : ℕ} → readHead sizes (from s at) ≡ ok (record { value = record { key = bits k; size = n }; rest = from s d }) (packed o) →
+      d ≡ dataPlace s sizes at (bits k) → at < d → d ≤ size s → Heads s sizes at (head.Update k n d o)
+  refused : {e : Error} {o : ℕ} → readHead sizes (from s at) ≡ err (number e) (packed o) → Heads s sizes at (head.Refused e o)
 
 -- an update, whose n differences begin at d, or why there is none
 pub data Updates (s : Source) (sizes : List ℤ) (at : ℕ) : Update → Type 0 where
-  update : {k : ℤ} {n d next o p : ℕ} (xs : List ℤ) (v : Counts) → length xs ≡ n → ((refusal : ℕ) → nextInts refusal n (from s d) ≡ ok (record { value = xs; rest = from s next }) v) → readUpdate sizes (from s at) ≡ ok (record { value = record { key = bits k; values = xs }; rest = from s next }) (packed o p) → d ≡ dataPlace s sizes at (bits k) → next ≡ behindInts s d n → at < d → d ≤ next → next ≤ size s → Updates s sizes at (whole-update.Update k n d next o p)
-  refused : {e : Error} {o p : ℕ} → readUpdate sizes (from s at) ≡ err (number e) (packed o p) → Updates s sizes at (whole-update.Refused e o p)
+  update :
+      {k : ℤ} {n d next o : ℕ} (xs : List ℤ) (v : Counts) → length xs ≡ n →
+      ((refusal : ℕ) → nextInts refusal n (from s d) ≡ ok (record { value = xs; rest = from s next }) v) →
+      readUpdate sizes (from s at) ≡ ok (record { value = record { key = bits k; values = xs }; rest = from s next }) (packed o) →
+      d ≡ dataPlace s sizes at (bits k) → next ≡ behindInts s d n → at < d → d ≤ next → next ≤ size s → Updates s sizes at (whole-update.Update k n d next o)
+  refused : {e : Error} {o : ℕ} → readUpdate sizes (from s at) ≡ err (number e) (packed o) → Updates s sizes at (whole-update.Refused e o)
 
 -- a warning of padding that is not 0
 abbrev pub oddPadding : Bool → Counts
@@ -106,8 +117,11 @@ oddPadding odd = cond odd (one NonZeroPadding) Warnings.none
 
 -- the header of a delta, or why there is none
 pub data Headers (s : Source) : Header → Type 0 where
-  delta : {k u next o p : ℕ} {odd : Bool} → readDeltaHeader (from s 0) ≡ ok (record { value = record { deleted = k; updated = u }; rest = from s next }) (plus (packed o p) (oddPadding odd)) → next ≤ size s → Headers s (header.Delta k u odd next o p)
-  refused : {e : Error} {o p : ℕ} → readDeltaHeader (from s 0) ≡ err (number e) (packed o p) → Headers s (header.Refused e o p)
+  delta :
+      {k u next o : ℕ} {odd : Bool} →
+      readDeltaHeader (from s 0) ≡ ok (record { value = record { deleted = k; updated = u }; rest = from s next }) (plus (packed o) (oddPadding odd)) →
+      next ≤ size s → Headers s (header.Delta k u odd next o)
+  refused : {e : Error} {o : ℕ} → readDeltaHeader (from s 0) ≡ err (number e) (packed o) → Headers s (header.Refused e o)
 
 -- the updates from a place on, the packer's warnings up to their end, and the refusal that ends them, if any
 pub data Walks (s : Source) (sizes : List ℤ) : ℕ → List Item → Counts → Option ℕ → Type 0 where
@@ -134,6 +148,6 @@ refusalOf (ended.Refused e) = some (number e)
 -- what judging the updates from a place on returns
 pub record Judges (s : Source) (sizes : List ℤ) (at : ℕ) (j : Judged) : Type 0 where
   pub items : List Item
-  pub walks : Walks s sizes at items (packed (j .overlong) (j .padding)) (refusalOf (j .ended))
+  pub walks : Walks s sizes at items (packed (j .overlong)) (refusalOf (j .ended))
   pub count-is : j .updates ≡ length items
   pub room-is : j .room ≡ length (updatesInts [] items)

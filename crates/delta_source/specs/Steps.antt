@@ -48,8 +48,10 @@ headOf sizes type id s = do
 
 -- a head that was read from the place of its size on, or why there is none
 pub data HeadOf (s : Source) (sizes : List ℤ) (at : ℕ) (o : Outcome (Got Reading.Head)) : Head → Type 0 where
-  update : {k : ℤ} {n d over padd : ℕ} → o ≡ ok (record { value = record { key = bits k; size = n }; rest = from s d }) (packed over padd) → d ≡ behindInts s at (sizeLength (knownSize sizes (bits k / 65536))) → at ≤ d → d ≤ size s → HeadOf s sizes at o (head.Update k n d over padd)
-  refused : {e : Error} {over padd : ℕ} → o ≡ err (number e) (packed over padd) → HeadOf s sizes at o (head.Refused e over padd)
+  update :
+      {k : ℤ} {n d over : ℕ} → o ≡ ok (record { value = record { key = bits k; size = n }; rest = from s d }) (packed over) →
+      d ≡ behindInts s at (sizeLength (knownSize sizes (bits k / 65536))) → at ≤ d → d ≤ size s → HeadOf s sizes at o (head.Update k n d over)
+  refused : {e : Error} {over : ℕ} → o ≡ err (number e) (packed over) → HeadOf s sizes at o (head.Refused e over)
 
 -- ---- a header
 
@@ -62,10 +64,14 @@ paddingOf deleted updated s = do
 
 -- a number of the header, or why there is none
 pub data Numbers (s : Source) (at : ℕ) : Number → Type 0 where
-  some-number : {n next o p : ℕ} → headerNumber (from s at) ≡ ok (record { value = n; rest = from s next }) (packed o p) → o ≤ 1 → p ≤ 1 → next ≤ size s → Numbers s at (found.Number n next o p)
-  refused : {e : Error} {o p : ℕ} → headerNumber (from s at) ≡ err (number e) (packed o p) → o ≤ 1 → p ≤ 1 → Numbers s at (found.Refused e o p)
+  some-number :
+      {n next o : ℕ} → headerNumber (from s at) ≡ ok (record { value = n; rest = from s next }) (packed o) → o ≤ 1 → next ≤ size s →
+      Numbers s at (found.Number n next o)
+  refused : {e : Error} {o : ℕ} → headerNumber (from s at) ≡ err (number e) (packed o) → o ≤ 1 → Numbers s at (found.Refused e o)
 
 -- a header that was read, or why there is none
 pub data HeaderOf (s : Source) (r : Outcome (Got DeltaHeader)) : Header → Type 0 where
-  delta : {k u next o p : ℕ} {odd : Bool} → r ≡ ok (record { value = record { deleted = k; updated = u }; rest = from s next }) (plus (packed o p) (oddPadding odd)) → next ≤ size s → HeaderOf s r (header.Delta k u odd next o p)
-  refused : {e : Error} {o p : ℕ} → r ≡ err (number e) (packed o p) → HeaderOf s r (header.Refused e o p)
+  delta :
+      {k u next o : ℕ} {odd : Bool} → r ≡ ok (record { value = record { deleted = k; updated = u }; rest = from s next }) (plus (packed o) (oddPadding odd)) →
+      next ≤ size s → HeaderOf s r (header.Delta k u odd next o)
+  refused : {e : Error} {o : ℕ} → r ≡ err (number e) (packed o) → HeaderOf s r (header.Refused e o)

@@ -10,6 +10,7 @@ ghost use Rattle.definitions.specs.Ints.{bits};
 ghost use Rattle.definitions.specs.Outcome.{after};
 ghost use Rattle.definitions.specs.DeltaReading.{isEnd};
 ghost use Rattle.laws.specs.WarningLaws as Laws;
+ghost use Rattle.format.specs.Numbers.{number};
 ghost use Rattle.delta_source.specs.Source.{source, size, from, Next, Skips, Copies, Heads, Updates, Headers, Judges};
 ghost use Rattle.delta_source.specs.Steps.{sizeOf, headOf, HeadOf, paddingOf, Numbers, HeaderOf};
 ghost use Rattle.delta_source.specs.declared.checked.Head.the-variants as head;
@@ -18,6 +19,7 @@ ghost use Rattle.delta_source.specs.declared.checked.Header.the-variants
 use delta_form::checked::known_size;
 use format::Error;
 use packer::IntRead;
+use packer::checked::missing;
 
 // Reads the integer at a place.
 pub fn next_int(bytes: &[u8], ints: &[i32], packed: bool, at: usize) -> IntRead
@@ -41,68 +43,61 @@ pub fn at_end(bytes: &[u8], ints: &[i32], packed: bool, at: usize) -> bool
     ints.len() <= at
 }
 
-// The result of skipping integers: the place after them, or that they are not all there; with the packer's warnings counted.
+// The result of skipping integers: the place after them, or why they are not all there; with the packer's warnings counted.
 pub enum Skip {
-    Past {
-        next: usize,
-        overlong: usize,
-        padding: usize,
-    },
-    Short {
-        overlong: usize,
-        padding: usize,
-    },
+    Past { next: usize, overlong: usize },
+    Refused { error: Error, overlong: usize },
 }
 
-// Skips n packed integers, as far as the bytes go.
-pub fn skip_packed(bytes: &[u8], start: usize, n: usize) -> Skip
+// Skips n packed integers. If the bytes end before the last of them, the error is the reason.
+pub fn skip_packed(bytes: &[u8], start: usize, n: usize, error: Error) -> Skip
     requires { ⌜ start ≤ length (now bytes) ⌝ }
-    ensures { λ r. ⌜ ((i : List ℤ) → Skips (source true (now (bytes .entry)) i) start n r) ⌝ }
+    ensures { λ r. ⌜ ((i : List ℤ) → Skips (source true (now (bytes .entry)) i) start n (number error) r) ⌝ }
 {
     let mut at = start;
     let mut left = n;
     let mut overlong: usize = 0;
-    let mut padding: usize = 0;
     while 0 < left {
+        let read = packer::checked::read_int(bytes, at);
         let IntRead::Int {
             next,
             overlong: o,
-            padding: p,
             ..
-        } = packer::checked::read_int(bytes, at)
+        } = read
         else {
-            return Skip::Short { overlong, padding };
+            return Skip::Refused {
+                error: missing(read, error),
+                overlong,
+            };
         };
         overlong += ints::one_if(o);
-        padding += ints::one_if(p);
         at = next;
         left -= 1;
     }
-    Skip::Past {
-        next: at,
-        overlong,
-        padding,
-    }
+    Skip::Past { next: at, overlong }
 }
 
-// Skips n integers. Ints are not looked at.
-pub fn skip_ints(bytes: &[u8], ints: &[i32], packed: bool, at: usize, n: usize) -> Skip
+// Skips n integers, of which ints are not looked at. If the source ends before the last of them, the error is the reason.
+pub fn skip_ints(
+    bytes: &[u8],
+    ints: &[i32],
+    packed: bool,
+    at: usize,
+    n: usize,
+    error: Error,
+) -> Skip
     requires { ⌜ at ≤ size (source packed (now bytes) (now ints)) ⌝ }
-    ensures { λ r. ⌜ Skips (source packed (now (bytes .entry)) (now (ints .entry))) at n r ⌝ }
+    ensures { λ r. ⌜ Skips (source packed (now (bytes .entry)) (now (ints .entry))) at n (number error) r ⌝ }
 {
     if packed {
-        return skip_packed(bytes, at, n);
+        return skip_packed(bytes, at, n, error);
     }
     if ints.len() - at < n {
-        return Skip::Short {
-            overlong: 0,
-            padding: 0,
-        };
+        return Skip::Refused { error, overlong: 0 };
     }
     Skip::Past {
         next: at + n,
         overlong: 0,
-        padding: 0,
     }
 }
 
@@ -153,24 +148,18 @@ pub enum Head {
         size: usize,
         data: usize,
         overlong: usize,
-        padding: usize,
     },
     Refused {
         error: Error,
         overlong: usize,
-        padding: usize,
     },
 }
 
 // Why there is no head.
-pub fn head_refused(error: Error, overlong: usize, padding: usize) -> Head
-    ensures { λ r. ⌜ r ≡ head.Refused error overlong padding ⌝ }
+pub fn head_refused(error: Error, overlong: usize) -> Head
+    ensures { λ r. ⌜ r ≡ head.Refused error overlong ⌝ }
 {
-    Head::Refused {
-        error,
-        overlong,
-        padding,
-    }
+    Head::Refused { error, overlong }
 }
 
 // Reads the head with this key, whose size is at a place; adds the warnings so far.
@@ -181,32 +170,29 @@ pub fn read_size(
     at: usize,
     key: i32,
     overlong: usize,
-    padding: usize,
 ) -> Head
-    requires { ⌜ (at ≤ size (source packed (now bytes) (now ints))) × (overlong ≤ 2) × (padding ≤ 2) ⌝ }
-    ensures { λ r. ⌜ HeadOf (source packed (now (bytes .entry)) (now (ints .entry))) [] at (after (Laws.packed overlong padding) (sizeOf none (bits key) (from (source packed (now (bytes .entry)) (now (ints .entry))) at))) r ⌝ }
+    requires { ⌜ (at ≤ size (source packed (now bytes) (now ints))) × (overlong ≤ 2) ⌝ }
+    ensures { λ r. ⌜ HeadOf (source packed (now (bytes .entry)) (now (ints .entry))) [] at (after (Laws.packed overlong) (sizeOf none (bits key) (from (source packed (now (bytes .entry)) (now (ints .entry))) at))) r ⌝ }
 {
+    let read = next_int(bytes, ints, packed, at);
     let IntRead::Int {
         value,
         next,
         overlong: o,
-        padding: p,
-    } = next_int(bytes, ints, packed, at)
+    } = read
     else {
-        return head_refused(Error::ItemDiffsUnpacking, overlong, padding);
+        return head_refused(missing(read, Error::ItemDiffsUnpacking), overlong);
     };
     let overlong = overlong + ints::one_if(o);
-    let padding = padding + ints::one_if(p);
     let size = ints::num(value);
     if 4294967296 <= size {
-        return head_refused(Error::NegativeSize, overlong, padding);
+        return head_refused(Error::NegativeSize, overlong);
     }
     Head::Update {
         key,
         size,
         data: next,
         overlong,
-        padding,
     }
 }
 
@@ -220,30 +206,28 @@ pub fn judge_head(
     type_id: i32,
     id: i32,
     overlong: usize,
-    padding: usize,
 ) -> Head
-    requires { ⌜ (at ≤ size (source packed (now bytes) (now ints))) × (overlong ≤ 2) × (padding ≤ 2) ⌝ }
-    ensures { λ r. ⌜ HeadOf (source packed (now (bytes .entry)) (now (ints .entry))) (now (sizes .entry)) at (after (Laws.packed overlong padding) (headOf (now (sizes .entry)) «type_id» id (from (source packed (now (bytes .entry)) (now (ints .entry))) at))) r ⌝ }
+    requires { ⌜ (at ≤ size (source packed (now bytes) (now ints))) × (overlong ≤ 2) ⌝ }
+    ensures { λ r. ⌜ HeadOf (source packed (now (bytes .entry)) (now (ints .entry))) (now (sizes .entry)) at (after (Laws.packed overlong) (headOf (now (sizes .entry)) «type_id» id (from (source packed (now (bytes .entry)) (now (ints .entry))) at))) r ⌝ }
 {
     let t = ints::num(type_id);
     if 65536 <= t {
-        return head_refused(Error::TypeIdRange, overlong, padding);
+        return head_refused(Error::TypeIdRange, overlong);
     }
     let i = ints::num(id);
     if 65536 <= i {
-        return head_refused(Error::IdRange, overlong, padding);
+        return head_refused(Error::IdRange, overlong);
     }
     let key = format::key(t as u16, i as u16);
     let known = known_size(sizes, t);
     if 4294967296 <= known {
-        return read_size(bytes, ints, packed, at, key, overlong, padding);
+        return read_size(bytes, ints, packed, at, key, overlong);
     }
     Head::Update {
         key,
         size: known,
         data: at,
         overlong,
-        padding,
     }
 }
 
@@ -252,39 +236,27 @@ pub fn read_head(bytes: &[u8], ints: &[i32], packed: bool, sizes: &[i32], at: us
     requires { ⌜ at ≤ size (source packed (now bytes) (now ints)) ⌝ }
     ensures { λ r. ⌜ Heads (source packed (now (bytes .entry)) (now (ints .entry))) (now (sizes .entry)) at r ⌝ }
 {
+    let first = next_int(bytes, ints, packed, at);
     let IntRead::Int {
         value: type_id,
         next: behind,
         overlong: o,
-        padding: p,
-    } = next_int(bytes, ints, packed, at)
+    } = first
     else {
-        return head_refused(Error::ItemDiffsUnpacking, 0, 0);
+        return head_refused(missing(first, Error::ItemDiffsUnpacking), 0);
     };
     let overlong = ints::one_if(o);
-    let padding = ints::one_if(p);
+    let second = next_int(bytes, ints, packed, behind);
     let IntRead::Int {
         value: id,
         next,
         overlong: o2,
-        padding: p2,
-    } = next_int(bytes, ints, packed, behind)
+    } = second
     else {
-        return head_refused(Error::ItemDiffsUnpacking, overlong, padding);
+        return head_refused(missing(second, Error::ItemDiffsUnpacking), overlong);
     };
     let overlong = overlong + ints::one_if(o2);
-    let padding = padding + ints::one_if(p2);
-    judge_head(
-        bytes,
-        ints,
-        packed,
-        sizes,
-        next,
-        type_id,
-        id,
-        overlong,
-        padding,
-    )
+    judge_head(bytes, ints, packed, sizes, next, type_id, id, overlong)
 }
 
 // The same with the place after the update.
@@ -295,24 +267,18 @@ pub enum Update {
         data: usize,
         next: usize,
         overlong: usize,
-        padding: usize,
     },
     Refused {
         error: Error,
         overlong: usize,
-        padding: usize,
     },
 }
 
 // Why there is no update.
-pub fn update_refused(error: Error, overlong: usize, padding: usize) -> Update
-    ensures { λ r. ⌜ r ≡ update.Refused error overlong padding ⌝ }
+pub fn update_refused(error: Error, overlong: usize) -> Update
+    ensures { λ r. ⌜ r ≡ update.Refused error overlong ⌝ }
 {
-    Update::Refused {
-        error,
-        overlong,
-        padding,
-    }
+    Update::Refused { error, overlong }
 }
 
 // Reads the update at a place.
@@ -321,33 +287,20 @@ pub fn read_update(bytes: &[u8], ints: &[i32], packed: bool, sizes: &[i32], at: 
     ensures { λ r. ⌜ Updates (source packed (now (bytes .entry)) (now (ints .entry))) (now (sizes .entry)) at r ⌝ }
 {
     match read_head(bytes, ints, packed, sizes, at) {
-        Head::Refused {
-            error,
-            overlong,
-            padding,
-        } => update_refused(error, overlong, padding),
+        Head::Refused { error, overlong } => update_refused(error, overlong),
         Head::Update {
             key,
             size,
             data,
             overlong,
-            padding,
-        } => match skip_ints(bytes, ints, packed, data, size) {
-            Skip::Short {
-                overlong: o,
-                padding: p,
-            } => update_refused(Error::ItemDiffsUnpacking, overlong + o, padding + p),
-            Skip::Past {
-                next,
-                overlong: o,
-                padding: p,
-            } => Update::Update {
+        } => match skip_ints(bytes, ints, packed, data, size, Error::ItemDiffsUnpacking) {
+            Skip::Refused { error, overlong: o } => update_refused(error, overlong + o),
+            Skip::Past { next, overlong: o } => Update::Update {
                 key,
                 size,
                 data,
                 next,
                 overlong: overlong + o,
-                padding: padding + p,
             },
         },
     }
@@ -361,24 +314,18 @@ pub enum Header {
         odd: bool,
         next: usize,
         overlong: usize,
-        padding: usize,
     },
     Refused {
         error: Error,
         overlong: usize,
-        padding: usize,
     },
 }
 
 // Why there is no header.
-pub fn header_refused(error: Error, overlong: usize, padding: usize) -> Header
-    ensures { λ r. ⌜ r ≡ header.Refused error overlong padding ⌝ }
+pub fn header_refused(error: Error, overlong: usize) -> Header
+    ensures { λ r. ⌜ r ≡ header.Refused error overlong ⌝ }
 {
-    Header::Refused {
-        error,
-        overlong,
-        padding,
-    }
+    Header::Refused { error, overlong }
 }
 
 // A number of the header, and the place of the next one; or why there is none.
@@ -387,12 +334,10 @@ pub enum Number {
         value: usize,
         next: usize,
         overlong: usize,
-        padding: usize,
     },
     Refused {
         error: Error,
         overlong: usize,
-        padding: usize,
     },
 }
 
@@ -401,34 +346,30 @@ pub fn read_number(bytes: &[u8], ints: &[i32], packed: bool, at: usize) -> Numbe
     requires { ⌜ at ≤ size (source packed (now bytes) (now ints)) ⌝ }
     ensures { λ r. ⌜ Numbers (source packed (now (bytes .entry)) (now (ints .entry))) at r ⌝ }
 {
+    let read = next_int(bytes, ints, packed, at);
     let IntRead::Int {
         value,
         next,
         overlong: o,
-        padding: p,
-    } = next_int(bytes, ints, packed, at)
+    } = read
     else {
         return Number::Refused {
-            error: Error::UnexpectedEnd,
+            error: missing(read, Error::UnexpectedEnd),
             overlong: 0,
-            padding: 0,
         };
     };
     let overlong = ints::one_if(o);
-    let padding = ints::one_if(p);
     let number = ints::num(value);
     if 4294967296 <= number {
         return Number::Refused {
             error: Error::IntOutOfRange,
             overlong,
-            padding,
         };
     }
     Number::Number {
         value: number,
         next,
         overlong,
-        padding,
     }
 }
 
@@ -441,19 +382,18 @@ pub fn read_padding(
     deleted: usize,
     updated: usize,
     overlong: usize,
-    padding: usize,
 ) -> Header
-    requires { ⌜ (at ≤ size (source packed (now bytes) (now ints))) × (overlong ≤ 2) × (padding ≤ 2) ⌝ }
-    ensures { λ r. ⌜ HeaderOf (source packed (now (bytes .entry)) (now (ints .entry))) (after (Laws.packed overlong padding) (paddingOf deleted updated (from (source packed (now (bytes .entry)) (now (ints .entry))) at))) r ⌝ }
+    requires { ⌜ (at ≤ size (source packed (now bytes) (now ints))) × (overlong ≤ 2) ⌝ }
+    ensures { λ r. ⌜ HeaderOf (source packed (now (bytes .entry)) (now (ints .entry))) (after (Laws.packed overlong) (paddingOf deleted updated (from (source packed (now (bytes .entry)) (now (ints .entry))) at))) r ⌝ }
 {
+    let read = next_int(bytes, ints, packed, at);
     let IntRead::Int {
         value,
         next,
         overlong: o,
-        padding: p,
-    } = next_int(bytes, ints, packed, at)
+    } = read
     else {
-        return header_refused(Error::UnexpectedEnd, overlong, padding);
+        return header_refused(missing(read, Error::UnexpectedEnd), overlong);
     };
     Header::Delta {
         deleted,
@@ -461,7 +401,6 @@ pub fn read_padding(
         odd: ints::num(value) != 0,
         next,
         overlong: overlong + ints::one_if(o),
-        padding: padding + ints::one_if(p),
     }
 }
 
@@ -470,37 +409,18 @@ pub fn read_header(bytes: &[u8], ints: &[i32], packed: bool) -> Header
     ensures { λ r. ⌜ Headers (source packed (now (bytes .entry)) (now (ints .entry))) r ⌝ }
 {
     match read_number(bytes, ints, packed, 0) {
-        Number::Refused {
-            error,
-            overlong,
-            padding,
-        } => header_refused(error, overlong, padding),
+        Number::Refused { error, overlong } => header_refused(error, overlong),
         Number::Number {
             value: deleted,
             next: behind,
             overlong,
-            padding,
         } => match read_number(bytes, ints, packed, behind) {
-            Number::Refused {
-                error,
-                overlong: o,
-                padding: p,
-            } => header_refused(error, overlong + o, padding + p),
+            Number::Refused { error, overlong: o } => header_refused(error, overlong + o),
             Number::Number {
                 value: updated,
                 next,
                 overlong: o,
-                padding: p,
-            } => read_padding(
-                bytes,
-                ints,
-                packed,
-                next,
-                deleted,
-                updated,
-                overlong + o,
-                padding + p,
-            ),
+            } => read_padding(bytes, ints, packed, next, deleted, updated, overlong + o),
         },
     }
 }
@@ -516,7 +436,6 @@ pub struct Judged {
     pub updates: usize,
     pub room: usize,
     pub overlong: usize,
-    pub padding: usize,
     pub ended: Ended,
 }
 
@@ -530,34 +449,26 @@ pub fn judge_updates(bytes: &[u8], ints: &[i32], packed: bool, sizes: &[i32], at
         updates: 0,
         room: 0,
         overlong: 0,
-        padding: 0,
         ended: Ended::Whole,
     };
     while !at_end(bytes, ints, packed, here) {
         match read_update(bytes, ints, packed, sizes, here) {
-            Update::Refused {
-                error,
-                overlong,
-                padding,
-            } => return Judged {
+            Update::Refused { error, overlong } => return Judged {
                 updates: t.updates,
                 room: t.room,
                 overlong: t.overlong + overlong,
-                padding: t.padding + padding,
                 ended: Ended::Refused(error),
             },
             Update::Update {
                 size,
                 next,
                 overlong,
-                padding,
                 ..
             } => {
                 here = next;
                 t.updates += 1;
                 t.room += 3 + size;
                 t.overlong += overlong;
-                t.padding += padding;
             }
         }
     }

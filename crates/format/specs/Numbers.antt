@@ -38,4 +38,5 @@ number error.StoreFull = Refusals.storeFull
 number error.InvalidTypeId = Refusals.invalidTypeId
 number error.KnownSizeDiffers = Refusals.knownSizeDiffers
 number error.NotInForm = Refusals.notInForm
+number error.NonZeroIntPadding = Refusals.nonZeroIntPadding
 number error.ShortRule = Refusals.shortRule

@@ -16,9 +16,9 @@ excess b = cond b (one ExcessSnapData) none
 abbrev pub uuidExcess : ℕ → Counts
 uuidExcess n = set ExcessUuidItemData n none
 
--- reading a table: the packer's two kinds, how often ints are left over, and kinds with more than four ints
-abbrev pub tableCounts : ℕ → ℕ → ℕ → ℕ → Counts
-tableCounts o p n kinds = set ExcessSnapData n (set ExcessUuidItemData kinds (packed o p))
+-- reading a table: the packer's kind, how often ints are left over, and kinds with more than four ints
+abbrev pub tableCounts : ℕ → ℕ → ℕ → Counts
+tableCounts o n kinds = set ExcessSnapData n (set ExcessUuidItemData kinds (packed o))
 
 -- ---- deltas
 
@@ -26,18 +26,18 @@ tableCounts o p n kinds = set ExcessSnapData n (set ExcessUuidItemData kinds (pa
 abbrev pub deletedCounts : ℕ → Counts
 deletedCounts n = set DeleteUpdate n none
 
--- the packer's two kinds, padding that is not 0, keys deleted twice, repeated updates, updates of deleted keys, a wrong count of updates
-abbrev pub countsOf : ℕ → ℕ → ℕ → ℕ → ℕ → ℕ → ℕ → Counts
-countsOf o p odd twice repeats crossing other =
+-- the packer's kind, padding that is not 0, keys deleted twice, repeated updates, updates of deleted keys, a wrong count of updates
+abbrev pub countsOf : ℕ → ℕ → ℕ → ℕ → ℕ → ℕ → Counts
+countsOf o odd twice repeats crossing other =
     set NonZeroPadding odd
     (set DuplicateDelete twice
     (set DuplicateUpdate repeats
     (set DeleteUpdate crossing
-    (set NumUpdatedItems other (packed o p)))))
+    (set NumUpdatedItems other (packed o)))))
 
 -- the same; three of them are counted at most once
-abbrev pub deltaCounts : ℕ → ℕ → Bool → Bool → ℕ → ℕ → Bool → Counts
-deltaCounts o p odd twice repeats crossing other = countsOf o p (cond odd 1 0) (cond twice 1 0) repeats crossing (cond other 1 0)
+abbrev pub deltaCounts : ℕ → Bool → Bool → ℕ → ℕ → Bool → Counts
+deltaCounts o odd twice repeats crossing other = countsOf o (cond odd 1 0) (cond twice 1 0) repeats crossing (cond other 1 0)
 
 -- ---- applying a delta
 

@@ -9,7 +9,6 @@ abbrev pub counts : Warnings → Counts
 counts w =
     record {
       overlongIntEncoding = w .«overlong_int_encoding»;
-      nonZeroIntPadding = w .«non_zero_int_padding»;
       nonZeroPadding = w .«non_zero_padding»;
       duplicateDelete = w .«duplicate_delete»;
       duplicateUpdate = w .«duplicate_update»;
@@ -27,7 +26,6 @@ counts w =
 abbrev pub row : Counts → List ℕ
 row c =
     c .overlongIntEncoding
-    ∷ c .nonZeroIntPadding
     ∷ c .nonZeroPadding
     ∷ c .duplicateDelete
     ∷ c .duplicateUpdate

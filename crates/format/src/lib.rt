@@ -55,6 +55,7 @@ pub enum Error {
     InvalidTypeId,
     KnownSizeDiffers,
     NotInForm,
+    NonZeroIntPadding,
     ShortRule,
 }
 
@@ -95,18 +96,18 @@ pub fn error_number(e: Error) -> u32
         Error::InvalidTypeId => 45,
         Error::KnownSizeDiffers => 46,
         Error::NotInForm => 47,
+        Error::NonZeroIntPadding => 52,
         Error::ShortRule => 55,
     }
 }
 
 // How many kinds of warning there are.
-pub const WARNING_KINDS: usize = 13;
+pub const WARNING_KINDS: usize = 12;
 
 // How many warnings of each kind were counted.
 pub struct Warnings {
     // From the packer.
     pub overlong_int_encoding: usize,
-    pub non_zero_int_padding: usize,
     // From tables and deltas.
     pub non_zero_padding: usize,
     pub duplicate_delete: usize,
@@ -130,7 +131,6 @@ impl Warnings {
     {
         Warnings {
             overlong_int_encoding: 0,
-            non_zero_int_padding: 0,
             non_zero_padding: 0,
             duplicate_delete: 0,
             duplicate_update: 0,
@@ -145,21 +145,20 @@ impl Warnings {
         }
     }
 
-    // The packer's warnings.
-    pub fn packed(overlong: usize, padding: usize) -> Warnings
-        ensures { λ r. ⌜ counts r ≡ packed overlong padding ⌝ }
+    // The packer's warning.
+    pub fn packed(overlong: usize) -> Warnings
+        ensures { λ r. ⌜ counts r ≡ packed overlong ⌝ }
     {
         let mut w = Warnings::none();
         w.overlong_int_encoding = overlong;
-        w.non_zero_int_padding = padding;
         w
     }
 
     // The warnings of reading a table: the packer's, how often ints are left over, and how many kinds have more than four ints.
-    pub fn table(overlong: usize, padding: usize, excess: usize, kinds: usize) -> Warnings
-        ensures { λ r. ⌜ counts r ≡ tableCounts overlong padding excess kinds ⌝ }
+    pub fn table(overlong: usize, excess: usize, kinds: usize) -> Warnings
+        ensures { λ r. ⌜ counts r ≡ tableCounts overlong excess kinds ⌝ }
     {
-        let mut w = Warnings::packed(overlong, padding);
+        let mut w = Warnings::packed(overlong);
         w.excess_snap_data = excess;
         w.excess_uuid_item_data = kinds;
         w
@@ -169,16 +168,15 @@ impl Warnings {
     // count of updates.
     pub fn delta(
         overlong: usize,
-        padding: usize,
         odd: bool,
         twice: bool,
         repeats: usize,
         crossing: usize,
         other: bool,
     ) -> Warnings
-        ensures { λ r. ⌜ counts r ≡ deltaCounts overlong padding odd twice repeats crossing other ⌝ }
+        ensures { λ r. ⌜ counts r ≡ deltaCounts overlong odd twice repeats crossing other ⌝ }
     {
-        let mut w = Warnings::packed(overlong, padding);
+        let mut w = Warnings::packed(overlong);
         w.non_zero_padding = ints::one_if(odd);
         w.duplicate_delete = ints::one_if(twice);
         w.duplicate_update = repeats;
@@ -237,7 +235,6 @@ pub fn row(w: Warnings) -> [usize; WARNING_KINDS]
 {
     [
         w.overlong_int_encoding,
-        w.non_zero_int_padding,
         w.non_zero_padding,
         w.duplicate_delete,
         w.duplicate_update,
@@ -252,11 +249,11 @@ pub fn row(w: Warnings) -> [usize; WARNING_KINDS]
     ]
 }
 
-// The counts of an integer's warnings in that order.
-pub fn warned_row(overlong: bool, padding: bool) -> [usize; WARNING_KINDS]
-    ensures { λ r. ⌜ r ≡ Totals.row (warned overlong padding) ⌝ }
+// The counts of an integer's warning in that order.
+pub fn warned_row(overlong: bool) -> [usize; WARNING_KINDS]
+    ensures { λ r. ⌜ r ≡ Totals.row (warned overlong) ⌝ }
 {
-    row(Warnings::packed(ints::one_if(overlong), ints::one_if(padding)))
+    row(Warnings::packed(ints::one_if(overlong)))
 }
 
 // How many ints were stored at the front of an area, or why none were.

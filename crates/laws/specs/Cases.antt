@@ -9,8 +9,8 @@ use lib.IntN.{ℤ, pos, negsuc}
 use lib.ListN.{length, take, drop, length-append, length-drop}
 use lib.Seq.{take-all}
 use Rattle.definitions.specs.Ints.{bits, fromBits}
-use Rattle.definitions.specs.Warnings.{OverlongIntEncoding, NonZeroIntPadding, one}
-use Rattle.definitions.specs.Refusals.{tooLongSnap, tooManyItems, invalidOffset}
+use Rattle.definitions.specs.Warnings.{OverlongIntEncoding, one}
+use Rattle.definitions.specs.Refusals.{tooLongSnap, tooManyItems, invalidOffset, nonZeroIntPadding}
 use Rattle.definitions.specs.Outcome.{ok, return, refuse}
 use Rattle.definitions.specs.Packed.{signed, more, readInt, writeMore, writeInt}
 use Rattle.definitions.specs.Tables.{Item, Table, body, offsets, written, num, nat, edge, start, keyAt, valuesAt, all, items, ends, lowest, fits, inForm, tableOf, find, insert, list}
@@ -57,7 +57,8 @@ pub record MarkedCases : Type 0 where
   pub case-greatest : Packs (pos 2147483647) (0xBF ∷ 0xFF ∷ 0xFF ∷ 0xFF ∷ 0x0F ∷ [])
   pub case-least : Packs (negsuc 2147483647) (0xFF ∷ 0xFF ∷ 0xFF ∷ 0xFF ∷ 0x0F ∷ [])
   pub overlong : readInt (0x80 ∷ 0x00 ∷ []) ≡ ok (record { value = pos 0; rest = [] }) (one OverlongIntEncoding)
-  pub padding : readInt (0x80 ∷ 0x80 ∷ 0x80 ∷ 0x80 ∷ 0x10 ∷ []) ≡ ok (record { value = negsuc 2147483647; rest = [] }) (one NonZeroIntPadding)
+  pub overlong-five : readInt (0x80 ∷ 0x80 ∷ 0x80 ∷ 0x80 ∷ 0x00 ∷ []) ≡ ok (record { value = pos 0; rest = [] }) (one OverlongIntEncoding)
+  pub padding : readInt (0x80 ∷ 0x80 ∷ 0x80 ∷ 0x80 ∷ 0x10 ∷ []) ≡ refuse nonZeroIntPadding
   pub bytes-0 : (tick base crc : ℤ) (x : List ℕ) → length x ≡ 0 → deltaChunks tick base x crc ≡ emptyMessage tick base ∷ []
   pub bytes-900 : (tick base crc : ℤ) (x : List ℕ) → length x ≡ 900 → deltaChunks tick base x crc ≡ singleMessage tick base crc x ∷ []
   pub bytes-901 : (tick base crc : ℤ) (x : List ℕ) → length x ≡ 901 → deltaChunks tick base x crc ≡ ofTwo tick base crc 0 (take 900 x) ∷ ofTwo tick base crc 1 (drop 900 x) ∷ []
@@ -103,6 +104,7 @@ marked-cases =
       case-greatest = record { written = refl; read = refl };
       case-least = record { written = refl; read = refl };
       overlong = refl;
+      overlong-five = refl;
       padding = refl;
       bytes-0 = λ tick base crc x n. chunks-none tick base x crc n;
       bytes-900 = λ tick base crc x n. chunks-single tick base x crc (omega arith) (omega arith);

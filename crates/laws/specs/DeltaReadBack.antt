@@ -14,7 +14,7 @@ use Rattle.definitions.specs.Outcome.{Outcome, ok, err, return, refuse, require
 use Rattle.definitions.specs.Warnings.{Counts, DeleteUpdate, one, plus}
 use Rattle.definitions.specs.Warnings as Warnings
 use Rattle.definitions.specs.Packed.{packInts, writeInt}
-use Rattle.definitions.specs.Stream.{Stream, int, end, cut, stream, ints, warnings, isCut, andThen}
+use Rattle.definitions.specs.Stream.{Stream, int, end, cut, padded, stream, ints, warnings, andThen}
 use Rattle.definitions.specs.Tables.{Item, keyOf, num, find, isSome}
 use Rattle.definitions.specs.Deltas.{Delta, rank, keys, signedRising, inOrder, known, knownSize, sizeInts, updateInts, updatesInts, deltaInts, writtenDelta}
 use Rattle.definitions.specs.DeltaCalls.{isSize, sizesMatch}
@@ -25,7 +25,7 @@ use Rattle.laws.specs.DeltaStream.{Took, take-one, take-ints, take-updat
 use Rattle.laws.specs.PackedLaws.{read-write}
 use Rattle.laws.specs.Shortest.{length-writeInt}
 use Rattle.laws.specs.TableShape.{both}
-use Rattle.laws.specs.StreamLaws.{stream-end, stream-step}
+use Rattle.laws.specs.StreamLaws.{stream-end, stream-step, isWhole}
 use Rattle.laws.specs.PackLaws.{Whole, nil, cons}
 
 -- ---- the stream of some ints
@@ -92,6 +92,7 @@ not-ended : (s : Stream) (x : ℤ) (ys : List ℤ) → ints s ≡ x ∷ ys → i
 not-ended (int y w s) x ys e = refl
 not-ended end x ys e = let z : _≡_ {A = ℕ} 0 1 = cc in absurd (omega arith)
 not-ended cut x ys e = refl
+not-ended padded x ys e = refl
 
 update-first : (sizes : List ℤ) (x : Item) (ys : List ℤ) (s : Stream) → ints s ≡ updateInts sizes x ++ ys → isEnd s ≡ false
 unfolding updateInts
@@ -107,14 +108,15 @@ step : (b : Bool) (v : List Item) (f w d : Counts) → after f (after Warnings.n
 step true v f w d = ap (ok v) (tidy f (one DeleteUpdate) w d)
 step false v f w d = ap (ok v) (tidy f Warnings.none w d)
 
-no-updates : (sizes : List ℤ) (deleted : List ℕ) (n : ℕ) (before : List Item) (s : Stream) → isCut s ≡ false → ints s ≡ [] → readUpdates sizes deleted n before s ≡ ok (before ++ []) (plus (warnings s) Warnings.none)
+no-updates : (sizes : List ℤ) (deleted : List ℕ) (n : ℕ) (before : List Item) (s : Stream) → isWhole s ≡ true → ints s ≡ [] → readUpdates sizes deleted n before s ≡ ok (before ++ []) (plus (warnings s) Warnings.none)
 unfolding readUpdates
 no-updates sizes deleted zero before end c e = rw (append-nil before)
 no-updates sizes deleted (suc n) before end c e = rw (append-nil before)
-no-updates sizes deleted n before cut c e = absurd (true≢false c)
+no-updates sizes deleted n before cut c e = absurd (true≢false (sym c))
+no-updates sizes deleted n before padded c e = absurd (true≢false (sym c))
 no-updates sizes deleted n before (int x w s) c e = let z : _≡_ {A = ℕ} 0 1 = cc in absurd (omega arith)
 
-pub reads-updates : (sizes : List ℤ) (deleted : List ℕ) (n low : ℕ) (before l : List Item) (s : Stream) → Under low before → signedRising low (keys l) ≡ true → sizesMatch sizes l ≡ true → length l ≤ n → isCut s ≡ false → ints s ≡ updatesInts sizes l → readUpdates sizes deleted n before s ≡ ok (before ++ l) (plus (warnings s) (deleteUpdates deleted l))
+pub reads-updates : (sizes : List ℤ) (deleted : List ℕ) (n low : ℕ) (before l : List Item) (s : Stream) → Under low before → signedRising low (keys l) ≡ true → sizesMatch sizes l ≡ true → length l ≤ n → isWhole s ≡ true → ints s ≡ updatesInts sizes l → readUpdates sizes deleted n before s ≡ ok (before ++ l) (plus (warnings s) (deleteUpdates deleted l))
 unfolding readUpdates updatesInts signedRising sizesMatch deleteUpdates
 reads-updates sizes deleted n low before [] s u r m h c e = no-updates sizes deleted n before s c e
 reads-updates sizes deleted zero low before (x ∷ l) s u r m h c e = absurd (omega arith)
@@ -214,7 +216,7 @@ whole h l w d =
     ∙ sym (plus-assoc h (plus l w) d ∙ ap (plus h) (plus-assoc l w d))
 
 -- a stream of a delta's ints is read as it, with its own warnings and those of updates of deleted keys
-pub delta-reads : (sizes : List ℤ) (d : Delta) (s : Stream) → inOrder d ≡ true → sizesMatch sizes (d .updated) ≡ true → isCut s ≡ false → ints s ≡ deltaInts sizes d → readDelta sizes s ≡ ok (readBack d) (plus (warnings s) (deleteUpdates (d .deleted) (d .updated)))
+pub delta-reads : (sizes : List ℤ) (d : Delta) (s : Stream) → inOrder d ≡ true → sizesMatch sizes (d .updated) ≡ true → isWhole s ≡ true → ints s ≡ deltaInts sizes d → readDelta sizes s ≡ ok (readBack d) (plus (warnings s) (deleteUpdates (d .deleted) (d .updated)))
 unfolding readDelta deltaInts inOrder
 delta-reads sizes d s o m c e =
     let k = d .deleted in
@@ -232,9 +234,9 @@ delta-reads sizes d s o m c e =
     (ap₂ (λ (r : ℕ) (w : Counts). ok (record { delta = d; room = r }) w) (sym (length-deltaInts [] d))
     (whole (h .front) (l .front) (warnings (l .rest)) (deleteUpdates k u) ∙ ap (λ (w : Counts). plus w (deleteUpdates k u)) (sym (h .all ∙ ap (plus (h .front)) (l .all)))))
 
-not-cut : (xs : List ℤ) → isCut (intStream xs) ≡ false
-not-cut [] = refl
-not-cut (x ∷ xs) = not-cut xs
+whole-ints : (xs : List ℤ) → isWhole (intStream xs) ≡ true
+whole-ints [] = refl
+whole-ints (x ∷ xs) = whole-ints xs
 
 no-warnings : (xs : List ℤ) → warnings (intStream xs) ≡ Warnings.none
 no-warnings [] = refl
@@ -244,5 +246,5 @@ no-warnings (x ∷ xs) = ap (plus Warnings.none) (no-warnings xs)
 pub delta-read : (sizes : List ℤ) (d : Delta) → inOrder d ≡ true → sizesMatch sizes (d .updated) ≡ true → apart (d .deleted) (d .updated) ≡ true → readDelta sizes (intStream (deltaInts sizes d)) ≡ return (readBack d)
 delta-read sizes d o m a =
     let s = intStream (deltaInts sizes d) in
-    delta-reads sizes d s o m (not-cut (deltaInts sizes d)) (ints-intStream (deltaInts sizes d))
+    delta-reads sizes d s o m (whole-ints (deltaInts sizes d)) (ints-intStream (deltaInts sizes d))
     ∙ ap (ok (readBack d)) (ap₂ plus (no-warnings (deltaInts sizes d)) (apart-none (d .deleted) (d .updated) a))

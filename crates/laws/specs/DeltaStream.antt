@@ -12,11 +12,12 @@ use borrow.Author.Tests.{lt-ltb, eqb-true}
 use Rattle.definitions.specs.Warnings.{Counts, plus}
 use Rattle.definitions.specs.Warnings as Warnings
 use Rattle.definitions.specs.Outcome.{Outcome, ok, err, return, refuse, require, after, _>>=_, _>>_}
-use Rattle.definitions.specs.Stream.{Stream, int, end, cut, ints, warnings, isCut}
+use Rattle.definitions.specs.Stream.{Stream, int, end, cut, padded, ints, warnings}
 use Rattle.definitions.specs.Tables.{Item, keyOf, num}
 use Rattle.definitions.specs.Deltas.{knownSize, sizeInts, updateInts}
 use Rattle.definitions.specs.DeltaCalls.{isSize}
 use Rattle.definitions.specs.DeltaReading.{Got, next, nextInts, updateSize, readHead, readUpdate}
+use Rattle.laws.specs.StreamLaws.{isWhole}
 use Rattle.laws.specs.WarningLaws.{none-plus, plus-none, plus-assoc}
 
 -- the result of reading some ints from the front of a stream, followed by ys
@@ -25,7 +26,7 @@ pub record Took {A : Type 0} (read : Stream → Outcome (Got A)) (s : Stream) (a
   pub front : Counts
   pub reads : read s ≡ ok (record { value = a; rest = rest }) front
   pub behind : ints rest ≡ ys
-  pub same-end : isCut rest ≡ isCut s
+  pub same-end : isWhole rest ≡ isWhole s
   pub all : warnings s ≡ plus front (warnings rest)
 
 tail-is : {x y : ℤ} {xs ys : List ℤ} → x ∷ xs ≡ y ∷ ys → xs ≡ ys
@@ -41,6 +42,7 @@ nothing e = let z : _≡_ {A = ℕ} 0 1 = cc in omega arith
 pub take-one : (refusal : ℕ) (s : Stream) (x : ℤ) (ys : List ℤ) → ints s ≡ x ∷ ys → Took (next refusal) s x ys
 take-one refusal end x ys e = absurd (nothing e)
 take-one refusal cut x ys e = absurd (nothing e)
+take-one refusal padded x ys e = absurd (nothing e)
 take-one refusal (int y w s) x ys e =
     record { rest = s; front = w; reads = let q : y ≡ x = head-is e in rw q; behind = tail-is e; same-end = refl; all = refl }
 

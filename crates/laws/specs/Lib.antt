@@ -20,6 +20,8 @@ pub mod TableFind
 pub mod TableHeader
 pub mod TableReadBack
 pub mod TableReadSound
+pub mod Padding
+pub mod Overlongs
 pub mod TableWalk
 pub mod TableSettled
 pub mod TableChanged
@@ -33,6 +35,7 @@ pub mod DeltaWriting
 pub mod DeltaStream
 pub mod DeltaReadBack
 pub mod ReadKinds
+pub mod PaddedDelta
 pub mod ReaderLaws
 pub mod DeltaForm
 pub mod DeltaLaws

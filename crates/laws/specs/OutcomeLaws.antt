@@ -15,6 +15,9 @@ module _ {A : Type 0} where
   pub ok-warnings : {a b : A} {v w : Counts} → ok a v ≡ ok b w → v ≡ w
   ok-warnings e = cc
 
+  pub err-number : {m n : ℕ} {v w : Counts} → _≡_ {A = Outcome A} (err m v) (err n w) → m ≡ n
+  err-number e = cc
+
   pub ok-not-err : {a : A} {n : ℕ} {v w : Counts} → ok a v ≡ err n w → ⊥
   ok-not-err e = let z : _≡_ {A = ℕ} 0 1 = cc in omega arith
 

@@ -1,7 +1,7 @@
 -- Laws of the packed form of some ints: how long it is, how it is laid, and that it is read back. Assumes nothing.
 use mathlib.Core.Path.{_≡_, refl, sym, ap, _∙_}
 use mathlib.Core.List.{List, [], _∷_, _++_, append-assoc}
-use mathlib.Core.Bool.{false}
+use mathlib.Core.Bool.{true}
 use Prim.Native.Nat.{ℕ, suc, _+_, _*_, _≤_, _<_}
 use native.Mathlib.Numerals.{add-one}
 use native.Mathlib.Omega.{arith}
@@ -17,11 +17,11 @@ use Rattle.definitions.specs.Warnings.{Counts, none}
 use Rattle.definitions.specs.Outcome.{ok, err}
 use Rattle.definitions.specs.Packed.{writeInt, packInts}
 use Rattle.definitions.specs.Stored.{stored}
-use Rattle.definitions.specs.Stream.{Stream, stream, ints, warnings, isCut}
+use Rattle.definitions.specs.Stream.{Stream, stream, ints, warnings}
 use Rattle.laws.specs.AreaLaws.{layAt-append}
 use Rattle.laws.specs.PackedLaws.{read-write}
 use Rattle.laws.specs.Shortest.{length-writeInt}
-use Rattle.laws.specs.StreamLaws.{stream-end, stream-step}
+use Rattle.laws.specs.StreamLaws.{stream-end, stream-step, isWhole}
 use Rattle.laws.specs.WarningLaws.{none-plus}
 
 -- ---- results in an area
@@ -75,12 +75,12 @@ pub data Whole : List ℤ → Type 0 where
 pub record Gives (s : Stream) (xs : List ℤ) : Type 0 where
   pub ints-are : ints s ≡ xs
   pub no-warnings : warnings s ≡ none
-  pub not-cut : isCut s ≡ false
+  pub whole : isWhole s ≡ true
 
 -- what was packed is read back
 pub read-packed : {xs : List ℤ} → Whole xs → Gives (stream (packInts xs)) xs
 unfolding packInts
-read-packed nil = rw stream-end (record { ints-are = refl; no-warnings = refl; not-cut = refl })
+read-packed nil = rw stream-end (record { ints-are = refl; no-warnings = refl; whole = refl })
 read-packed (cons {x = x} {xs = xs} f h) =
     let l = packInts xs in
     let some : 0 < length (writeInt x ++ l) = omega (arith, length-append (writeInt x) l, length-writeInt x) in
@@ -89,5 +89,5 @@ read-packed (cons {x = x} {xs = xs} f h) =
     (record {
       ints-are = ap (λ (ys : List ℤ). x ∷ ys) (r .ints-are);
       no-warnings = none-plus (warnings (stream l)) ∙ r .no-warnings;
-      not-cut = r .not-cut;
+      whole = r .whole;
     })

@@ -4,7 +4,7 @@ use mathlib.Core.List.{List, [], _∷_, _++_}
 use mathlib.Core.Bool.{Bool, true, false, cond}
 use mathlib.Core.Logic.{⊎-elim}
 use Prim.Native.Nat.{ℕ, zero, suc, _+_, _-_, _*_, _/_, _%_, _^_, _≤_, _<_}
-use native.Mathlib.Nat.{mod-eq-of-lt, pow-succ', add-mul, mul-assoc, mul-comm}
+use native.Mathlib.Nat.{pow-succ', add-mul, mul-assoc, mul-comm}
 use native.Mathlib.Omega.{arith}
 use borrow.Author.Tests.{lt-ltb, le-ltb, le-leb, lt-leb, ne-eqb, eq-eqb}
 use lib.Dec.{ltb, leb, eqb}
@@ -32,13 +32,13 @@ weigh d m w =
     let f : m / 128 * (w * 128) ≡ m / 128 * 128 * w = ap (λ (k : ℕ). m / 128 * k) (mul-comm w 128) ∙ sym (mul-assoc (m / 128) 128 w) in
     omega (arith, e, f, add-mul (m % 128) (m / 128 * 128) w)
 
-more-write : (n w d m : ℕ) (s : Bool) (rest : List ℕ) → 0 < m → m < 16 * 128 ^ n → d + m * w < 2 ^ 32 → more n w d s (writeMore n m ++ rest) ≡ plain (signed s (d + m * w)) rest
+more-write : (n w d m : ℕ) (s : Bool) (rest : List ℕ) → 0 < m → m < 16 * 128 ^ n → more n w d s (writeMore n m ++ rest) ≡ plain (signed s (d + m * w)) rest
 unfolding more writeMore
-more-write zero w d m s rest p q h =
+more-write zero w d m s rest p q =
     let z : eqb m 0 ≡ false = ne-eqb m 0 (omega arith) in
     let y : leb 16 m ≡ false = lt-leb 16 m (omega arith) in
-    rw (z, y, mod-eq-of-lt h)
-more-write (suc n) w d m s rest p q h =
+    rw (y, z)
+more-write (suc n) w d m s rest p q =
     ⊎-elim
     (λ (k : m < 128).
     let z : eqb m 0 ≡ false = ne-eqb m 0 (omega arith) in
@@ -48,7 +48,7 @@ more-write (suc n) w d m s rest p q h =
     let y : (128 + m % 128) % 128 ≡ m % 128 = omega arith in
     let u : 128 ^ suc n ≡ 128 * 128 ^ n = pow-succ' 128 n in
     simp (le-ltb m 128 k, x, y)
-    (more-write n (w * 128) (d + m % 128 * w) (m / 128) s rest (omega arith) (omega arith) (omega (arith, weigh d m w))
+    (more-write n (w * 128) (d + m % 128 * w) (m / 128) s rest (omega arith) (omega arith)
     ∙ ap (λ (v : ℕ). plain (signed s v) rest) (weigh d m w)))
     (below m 128)
 
@@ -91,7 +91,7 @@ front g m s rest at h =
     let f = at (m % 64) (omega arith) in
     let e : m % 64 + m / 64 * 64 ≡ m = omega arith in
     simp (le-ltb m 64 k, le-leb 128 (128 + g + m % 64) (omega arith), f .digits', f .sign-is')
-    (more-write 3 64 (m % 64) (m / 64) s rest (omega arith) (omega arith) (omega arith)
+    (more-write 3 64 (m % 64) (m / 64) s rest (omega arith) (omega arith)
     ∙ ap (λ (v : ℕ). plain (signed s v) rest) e))
     (below m 64)
 

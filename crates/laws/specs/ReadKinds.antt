@@ -12,13 +12,14 @@ use Rattle.definitions.specs.Refusals.{unexpectedEnd, deletedItemsUnpacking, it
 use Rattle.definitions.specs.Warnings.{NonZeroPadding, DuplicateDelete, DuplicateUpdate, DeleteUpdate, NumUpdatedItems}
 use Rattle.definitions.specs.Outcome.{Outcome, return, _>>=_}
 use Rattle.definitions.specs.Packed.{Read, warned, extend, sign, more, readInt}
-use Rattle.definitions.specs.Stream.{Stream, int, end, cut, andThen, streamUpTo, stream, ints}
+use Rattle.definitions.specs.Stream.{Stream, int, end, cut, padded, andThen, streamUpTo, stream, ints}
 use Rattle.definitions.specs.Tables.{Item, num, find, isSome}
 use Rattle.definitions.specs.TableReading.{nonNegative}
 use Rattle.definitions.specs.Deltas.{Delta, knownSize}
 use Rattle.definitions.specs.DeltaReading.{Got, Head, DeltaHeader, DeltaRead, isEnd, elem, next, nextInts, headerNumber, writtenSize, updateSize, readHead, readUpdate, readUpdates, orderedKeys, readDeltaHeader, readDelta}
 use Rattle.definitions.specs.Receiver.{DataAndCrc}
 use Rattle.definitions.specs.Manager.{receivedDelta, fittingDelta}
+use Rattle.laws.specs.StreamLaws.{either-end}
 use Rattle.laws.specs.WarningKinds.{ofReading, Told, value, refusal, Any, reading, returns, given, warns, either, then}
 
 -- ---- the integers of some bytes
@@ -28,21 +29,20 @@ abbrev pub Kinds : Stream → Type 0
 Kinds (int x w s) = (w ≡ ofReading w) × Kinds s
 Kinds end = Unit {0}
 Kinds cut = Unit {0}
+Kinds padded = Unit {0}
 
 -- a packed integer has
-warned-kinds : (overlong padding : Bool) → warned overlong padding ≡ ofReading (warned overlong padding)
-warned-kinds true true = refl
-warned-kinds true false = refl
-warned-kinds false true = refl
-warned-kinds false false = refl
+warned-kinds : (overlong : Bool) → warned overlong ≡ ofReading (warned overlong)
+warned-kinds true = refl
+warned-kinds false = refl
 
 -- so have its bytes after the first
 more-told : (n w d : ℕ) (s : Bool) (l : List ℕ) → Told ofReading (Any {A = Read}) (more n w d s l)
 unfolding more
 more-told n w d s [] = refusal refl
-more-told zero w d s (b ∷ bs) = value tt (warned-kinds (eqb b 0) (leb 16 b))
+more-told zero w d s (b ∷ bs) = either reading (leb 16 b) (refusal refl) (value tt (warned-kinds (eqb b 0)))
 more-told (suc n) w d s (b ∷ bs) =
-    either reading (extend b) (more-told n (w * 128) (d + b % 128 * w) s bs) (value tt (warned-kinds (eqb b 0) false))
+    either reading (extend b) (more-told n (w * 128) (d + b % 128 * w) s bs) (value tt (warned-kinds (eqb b 0)))
 
 -- the integer at the front
 int-told : (l : List ℕ) → Told ofReading (Any {A = Read}) (readInt l)
@@ -53,7 +53,7 @@ int-told (b ∷ bs) = either reading (extend b) (more-told 3 64 (b % 64) (sign b
 -- it, and then the rest
 then-kinds : {o : Outcome Read} (k : List ℕ → Stream) → Told ofReading (Any {A = Read}) o → ((rest : List ℕ) → Kinds (k rest)) → Kinds (andThen o k)
 then-kinds k (value {a = r} p e) f = (e, f (r .rest))
-then-kinds k (refusal e) f = tt
+then-kinds k (refusal {n = n} e) f = either-end Kinds n tt tt
 
 -- at most n integers
 up-to-kinds : (n : ℕ) (l : List ℕ) → Kinds (streamUpTo n l)
@@ -77,6 +77,7 @@ next-told : (n : ℕ) (s : Stream) → Kinds s → Told ofReading (Leaves {A = �
 next-told n (int x w s) (e, k) = value k e
 next-told n end p = refusal refl
 next-told n cut p = refusal refl
+next-told n padded p = refusal refl
 
 -- the next n integers
 ints-told : (m n : ℕ) (s : Stream) → Kinds s → Told ofReading (Leaves {A = List ℤ}) (nextInts m n s)

@@ -21,6 +21,6 @@ module _ (xs : List ℤ) (at : ℕ) where
   behind : at < length xs → length xs - length (drop (suc at) xs) ≡ at + 1
   behind h = simp length-drop (omega arith)
 
-  pub int-found : at < length xs → plainIntAt xs at ≡ ok (record { value = getD xs at (pos 0); next = at + 1 }) (warned false false)
+  pub int-found : at < length xs → plainIntAt xs at ≡ ok (record { value = getD xs at (pos 0); next = at + 1 }) (warned false)
   unfolding plainIntAt
   int-found h = rw (drop-cons xs at (pos 0) h, ints-intStream (drop (suc at) xs), behind h)

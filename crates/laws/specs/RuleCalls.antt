@@ -17,6 +17,7 @@ use Rattle.definitions.specs.Warnings.{Counts}
 use Rattle.definitions.specs.Outcome.{Outcome, ok, err, return, refuse, require, _>>=_, _>>_}
 use Rattle.definitions.specs.Packed.{packInts}
 use Rattle.definitions.specs.Stored.{stored}
+use Rattle.definitions.specs.Stream.{stream}
 use Rattle.definitions.specs.Tables.{Table, body, offsets, written, rising, tableOf}
 use Rattle.definitions.specs.TableReading.{readTable, readPacked}
 use Rattle.definitions.specs.TableCalls.{held, storedTable, readFromIntsCall, readCall, writeToIntsCall, writeCall}
@@ -29,6 +30,7 @@ use Rattle.laws.specs.IntLaws.{fromBits-fits}
 use Rattle.laws.specs.TickLaws.{both-ways}
 use Rattle.laws.specs.OutcomeLaws.{ok-value, ok-not-err, after-none}
 use Rattle.laws.specs.AreaLaws.{lay-append}
+use Rattle.laws.specs.StreamLaws.{whole-uncut, whole-unpadded}
 use Rattle.laws.specs.PackLaws.{length-packInts, Whole, nil, cons, read-packed}
 use Rattle.laws.specs.TableForm.{length-written}
 use Rattle.laws.specs.TableRoundTrip.{soundly}
@@ -170,7 +172,8 @@ module _ (area : List ℤ) (t : Table) (e : tableOf area ≡ some t) where
   unfolding readPacked
   packed-read ws =
       let g = read-packed (whole-written ws) in
-      rw (g .no-warnings, g .not-cut, g .ints-are, read-written t (soundly area t e .1))
+      let s = stream (packInts (written t)) in
+      rw (g .no-warnings, whole-unpadded s (g .whole), whole-uncut s (g .whole), g .ints-are, read-written t (soundly area t e .1))
 
   -- the table that is read is then held
   read-held : (out : List ℤ) → length (written t) ≤ length out → tableOf (storedTable out (return t) .out) ≡ some t

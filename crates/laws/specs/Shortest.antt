@@ -117,7 +117,11 @@ later nothing = nothing
 used : (n w d : ℕ) (s : Bool) (l : List ℕ) → d < w → w * 128 ^ n ≤ 2 ^ 27 → Used n w l (more n w d s l)
 unfolding more
 used n w d s [] h k = nothing
-used zero w d s (b ∷ bs) h k = all {r = record { value = signed s ((d + b * w) % 2 ^ 32); rest = bs }} (omega arith)
+used zero w d s (b ∷ bs) h k =
+    ⊎-elim
+    (λ (t : b < 16). rw (lt-leb 16 b t) (all {r = record { value = signed s (d + b * w); rest = bs }} (omega arith)))
+    (λ (t : 16 ≤ b). rw (le-leb 16 b t) nothing)
+    (below b 16)
 used (suc n) w d s (b ∷ bs) h k =
     let u = weight n w k in
     ⊎-elim

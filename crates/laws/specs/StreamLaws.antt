@@ -5,14 +5,16 @@ use mathlib.Core.Bool.{Bool, true, false, cond}
 use Prim.Native.Nat.{ℕ, zero, suc, _+_, _-_, _*_, _/_, _%_, _^_, _≤_, _<_}
 use native.Mathlib.Omega.{arith}
 use lib.IntN.{ℤ}
+use lib.Dec.{leb, eqb}
 use lib.ListN.{length, drop, length-drop}
 use lib.Seq.{drop-drop}
+use Rattle.definitions.specs.Refusals.{nonZeroIntPadding}
 use Rattle.definitions.specs.Warnings.{Counts}
 use Rattle.definitions.specs.Outcome.{Outcome, ok, err}
 use Rattle.definitions.specs.Packed.{Read, extend, sign, more, readInt}
 use Rattle.definitions.specs.Packer.{IntAt, placed, readIntAt}
-use Rattle.definitions.specs.Stream.{Stream, int, end, cut, andThen, streamUpTo, stream, ints}
-use Rattle.laws.specs.OutcomeLaws.{ok-value, ok-warnings, ok-not-err}
+use Rattle.definitions.specs.Stream.{Stream, int, end, cut, padded, stopped, andThen, streamUpTo, stream, ints, isCut, isPadded}
+use Rattle.laws.specs.OutcomeLaws.{ok-value, ok-warnings, err-number, ok-not-err}
 
 -- ---- what is left after an integer is a later part of the bytes
 
@@ -38,7 +40,7 @@ here {b} {bs} {x} =
 more-within : (n w d : ℕ) (s : Bool) (l : List ℕ) → Within l (more n w d s l)
 unfolding more
 more-within n w d s [] = nothing
-more-within zero w d s (b ∷ bs) = here
+more-within zero w d s (b ∷ bs) = either (leb 16 b) nothing here
 more-within (suc n) w d s (b ∷ bs) =
     either (extend b) (later (more-within n (w * 128) (d + b % 128 * w) s bs)) here
 
@@ -77,11 +79,50 @@ stream-step (b ∷ bs) h =
     then-same (λ rest. streamUpTo (length bs) rest) stream (read-within (b ∷ bs))
     (λ rest q. same (length bs) (length rest) rest (omega arith) (omega arith))
 
+-- ---- how a stream ends
+
+-- what holds at padding bits and at a cut integer holds at every integer that is refused
+pub either-end : (P : Stream → Type 0) (n : ℕ) → P padded → P cut → P (stopped n)
+either-end P n p c = go (eqb n nonZeroIntPadding)
+  where
+    go : (b : Bool) → P (cond b padded cut)
+    go true = p
+    go false = c
+
+-- behind an integer that is refused there is none
+pub none-behind : (n : ℕ) → ints (stopped n) ≡ []
+none-behind n = either-end (λ (s : Stream). ints s ≡ []) n refl refl
+
+-- whether a stream ends where its bytes do
+abbrev pub isWhole : Stream → Bool
+isWhole (int x w s) = isWhole s
+isWhole end = true
+isWhole cut = false
+isWhole padded = false
+
+pub whole-is : (s : Stream) → isCut s ≡ false → isPadded s ≡ false → isWhole s ≡ true
+whole-is (int x w s) c p = whole-is s c p
+whole-is end c p = refl
+whole-is cut c p = sym c
+whole-is padded c p = sym p
+
+pub whole-uncut : (s : Stream) → isWhole s ≡ true → isCut s ≡ false
+whole-uncut (int x w s) e = whole-uncut s e
+whole-uncut end e = refl
+whole-uncut cut e = sym e
+whole-uncut padded e = refl
+
+pub whole-unpadded : (s : Stream) → isWhole s ≡ true → isPadded s ≡ false
+whole-unpadded (int x w s) e = whole-unpadded s e
+whole-unpadded end e = refl
+whole-unpadded cut e = refl
+whole-unpadded padded e = sym e
+
 -- ---- there are no more integers than bytes
 
 few-then : {l : List ℕ} {o : Outcome Read} (k : List ℕ → Stream) → Within l o → ((rest : List ℕ) → length (ints (k rest)) ≤ length rest) → length (ints (andThen o k)) ≤ length l
 few-then k (part {r = r} h q) f = omega (arith, f (r .rest))
-few-then k nothing f = omega arith
+few-then k (nothing {n = n}) f = omega (arith, ap length (none-behind n))
 
 few-up-to : (n : ℕ) (l : List ℕ) → length (ints (streamUpTo n l)) ≤ length l
 few-up-to zero l = omega arith
@@ -116,13 +157,13 @@ module _ (src : List ℕ) (at : ℕ) where
   unfolding readIntAt
   found x next w e = found-in x next w (readInt (drop at src)) (read-within (drop at src)) (stream-step (drop at src)) e
 
-  cut-in : (n : ℕ) (w : Counts) (o : Outcome Read) → placed (length src) o ≡ err n w → andThen o stream ≡ cut
-  cut-in n w (ok r v) e = absurd (ok-not-err e)
-  cut-in n w (err m v) e = refl
+  stops-in : (n : ℕ) (w : Counts) (o : Outcome Read) → placed (length src) o ≡ err n w → andThen o stream ≡ stopped n
+  stops-in n w (ok r v) e = absurd (ok-not-err e)
+  stops-in n w (err m v) e = ap stopped (err-number e)
 
-  -- the bytes ended inside an integer
-  pub ended : (n : ℕ) (w : Counts) → at < length src → readIntAt src at ≡ err n w → stream (drop at src) ≡ cut
+  -- the integer there was refused: the bytes ended inside it, or it has padding bits
+  pub ended : (n : ℕ) (w : Counts) → at < length src → readIntAt src at ≡ err n w → stream (drop at src) ≡ stopped n
   unfolding readIntAt
   ended n w h e =
       stream-step (drop at src) (simp length-drop (omega arith))
-      ∙ cut-in n w (readInt (drop at src)) e
+      ∙ stops-in n w (readInt (drop at src)) e

@@ -14,13 +14,14 @@ use lib.ListN.{length, getD, length-append}
 use mir.Syntax.{w32}
 use mir.Val.{SFits}
 use mir.Facts.{sfits-lit}
-use Rattle.definitions.specs.Refusals.{offsetsUnpacking, invalidOffset, itemsUnpacking}
+use Rattle.definitions.specs.Refusals.{offsetsUnpacking, invalidOffset, itemsUnpacking, nonZeroIntPadding}
 use Rattle.definitions.specs.Warnings.{Counts, ExcessSnapData}
 use Rattle.definitions.specs.Outcome.{Outcome, ok, err, return, require, warn, warnIf, after, _>>=_, _>>_}
 use Rattle.definitions.specs.Packed.{Read, extend, sign, signed, more, readInt}
-use Rattle.definitions.specs.Stream.{Stream, andThen, streamUpTo, stream, ints, isCut, warnings}
+use Rattle.definitions.specs.Stream.{Stream, andThen, streamUpTo, stream, ints, isCut, isPadded, warnings}
 use Rattle.definitions.specs.Tables.{Item, Table, body, offsets, written, rising, sound, start, keyAt, itemAt, edge, ends, find, isSome, insert}
 use Rattle.definitions.specs.TableReading.{addItem, headerInt, readItems, readTable, readPacked}
+use Rattle.laws.specs.StreamLaws.{none-behind}
 use Rattle.laws.specs.IntLaws.{bits-lt, fromBits-fits}
 use Rattle.laws.specs.PackLaws.{Whole, nil, cons}
 use Rattle.laws.specs.TableShape.{both}
@@ -59,7 +60,8 @@ more-whole d s (b ∷ bs) third h =
     split (extend b) (λ e. more-whole (d + b % 128 * 8192) s bs fourth (omega arith)) (λ e. whole (signed-whole s (d + b * 8192) (omega (arith, leb-false 128 b e))))
 more-whole d s (b ∷ bs) fourth h =
     split (extend b) (λ e. more-whole (d + b % 128 * 1048576) s bs fifth (omega arith)) (λ e. whole (signed-whole s (d + b * 1048576) (omega (arith, leb-false 128 b e))))
-more-whole d s (b ∷ bs) fifth h = whole (signed-whole s ((d + b * 134217728) % 2 ^ 32) (omega arith))
+more-whole d s (b ∷ bs) fifth h =
+    split (leb 16 b) (λ e. nothing) (λ e. whole (signed-whole s (d + b * 134217728) (omega (arith, leb-false 16 b e))))
 
 read-whole : (l : List ℕ) → WholeRead (readInt l)
 unfolding readInt
@@ -68,7 +70,7 @@ read-whole (b ∷ bs) = split (extend b) (λ e. more-whole (b % 64) (sign b) bs 
 
 then-whole : {o : Outcome Read} (k : List ℕ → Stream) → WholeRead o → ((rest : List ℕ) → Whole (ints (k rest))) → Whole (ints (andThen o k))
 then-whole k (whole {r = r} h) f = cons h (f (r .rest))
-then-whole k nothing f = nil
+then-whole k (nothing {n = n}) f = subst Whole (sym (none-behind n)) nil
 
 up-to-whole : (n : ℕ) (l : List ℕ) → Whole (ints (streamUpTo n l))
 up-to-whole zero l = nil
@@ -213,7 +215,8 @@ packed-sound : (l : List ℕ) → Sound (readPacked l)
 unfolding readPacked
 packed-sound l =
     sound-then (warn (warnings (stream l))) _
-    (sound-then (warnIf (isCut (stream l)) ExcessSnapData) _ (table-sound (ints (stream l)) (stream-whole l)))
+    (sound-then (require (not (isPadded (stream l))) nonZeroIntPadding) _
+    (sound-then (warnIf (isCut (stream l)) ExcessSnapData) _ (table-sound (ints (stream l)) (stream-whole l))))
 
 -- a table that is read is sound
 pub read-sound : (l : List ℕ) {t : Table} {w : Counts} → readPacked l ≡ ok t w → sound t ≡ true

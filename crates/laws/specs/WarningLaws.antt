@@ -4,7 +4,7 @@ use mathlib.Core.Bool.{Bool, true, false, cond}
 use Prim.Native.Nat.{ℕ, _+_}
 use native.Mathlib.Nat.{add-assoc, add-comm, add-zero, zero-add}
 use lib.Dec.{eqb}
-use Rattle.definitions.specs.Warnings.{Warning, Counts, OverlongIntEncoding, NonZeroIntPadding, index, count, counted, none, plus}
+use Rattle.definitions.specs.Warnings.{Warning, Counts, OverlongIntEncoding, index, count, counted, none, plus}
 use Rattle.definitions.specs.Packed.{warned}
 
 -- equal numbers for each kind are equal counts
@@ -33,15 +33,13 @@ plus-comm a b =
 abbrev pub set : Warning → ℕ → Counts → Counts
 set w n c = counted (λ k. cond (eqb (index k) (index w)) n (count c k))
 
--- ---- the packer's warnings
+-- ---- the packer's warning
 
--- counts of the packer's two kinds
-abbrev pub packed : ℕ → ℕ → Counts
-packed o p = set OverlongIntEncoding o (set NonZeroIntPadding p none)
+-- counts of the packer's kind alone
+abbrev pub packed : ℕ → Counts
+packed o = set OverlongIntEncoding o none
 
 -- an integer's warnings
-pub warned-packed : (overlong padding : Bool) → warned overlong padding ≡ packed (cond overlong 1 0) (cond padding 1 0)
-warned-packed true true = refl
-warned-packed true false = refl
-warned-packed false true = refl
-warned-packed false false = refl
+pub warned-packed : (overlong : Bool) → warned overlong ≡ packed (cond overlong 1 0)
+warned-packed true = refl
+warned-packed false = refl

@@ -15,7 +15,7 @@ use Rattle.definitions.specs.Ints.{bits}
 use Rattle.definitions.specs.Refusals.{unexpectedEnd, deletedItemsUnpacking, itemDiffsUnpacking}
 use Rattle.definitions.specs.Warnings.{NonZeroPadding, DuplicateDelete, DuplicateUpdate, DeleteUpdate, NumUpdatedItems}
 use Rattle.definitions.specs.Outcome.{Outcome, return, _>>=_}
-use Rattle.definitions.specs.Stream.{Stream, int, end, cut, stream, ints}
+use Rattle.definitions.specs.Stream.{Stream, int, end, cut, padded, stream, ints}
 use Rattle.definitions.specs.Tables.{Item, num, keyOf, find, isSome}
 use Rattle.definitions.specs.TableReading.{nonNegative}
 use Rattle.definitions.specs.Deltas.{keys, inOrder, knownSize, updateInts, updatesInts, writtenDelta}
@@ -48,6 +48,7 @@ next-told : (n : ℕ) (s : Stream) → Left s → Told ofAny (λ (g : Got ℤ). 
 next-told n (int x w s) (cons f h) = value (f, h) refl
 next-told n end p = refusal refl
 next-told n cut p = refusal refl
+next-told n padded p = refusal refl
 
 ints-told : (refusal n : ℕ) (s : Stream) → Left s → Told ofAny (λ (g : Got (List ℤ)). Whole (g .value) × Leaves g) (nextInts refusal n s)
 unfolding nextInts
@@ -101,8 +102,8 @@ update-told sizes s p =
 
 -- the ints of what was read and of what is left are at most as many as before
 with-ints : {A : Type 0} {P : Got A → Type 0} {base : ℕ} {many : A → ℕ} {s : Stream} {o : Outcome (Got A)} → Told ofAny P o → Reads base many s o → Told ofAny (λ (g : Got A). P g × (many (g .value) + length (ints (g .rest)) ≤ base + length (ints s))) o
-with-ints (value p e) (got x y z) = value (p, z) e
-with-ints (refusal e) (refused x y) = refusal e
+with-ints (value p e) (got x y) = value (p, y) e
+with-ints (refusal e) (refused x) = refusal e
 
 -- ---- the updates
 

@@ -33,10 +33,9 @@ fn with_if(line: Line, applies: bool, text: &[u8]) -> Line {
     if applies { line.text(text) } else { line }
 }
 
-// Adds the warnings of an int.
-fn warned(line: Line, overlong: bool, padding: bool) -> Line {
-    let line = with_if(line, overlong, b", overlong");
-    with_if(line, padding, b", padding")
+// Adds the warning of an int.
+fn warned(line: Line, overlong: bool) -> Line {
+    with_if(line, overlong, b", overlong")
 }
 
 // The first bytes of an area.
@@ -53,13 +52,12 @@ fn read_back(bytes: &[u8]) -> Line {
         value,
         next: _,
         overlong,
-        padding,
     } = packer::read_int(bytes, 0)
     else {
         return Line::new().text(b"not read back");
     };
     let line = Line::new().int(value).text(b" =");
-    warned(all_hex(line, bytes), overlong, padding)
+    warned(all_hex(line, bytes), overlong)
 }
 
 // Shows how an int is written.
@@ -82,18 +80,19 @@ fn show_ints(ints: &[i32]) {
     }
 }
 
-// Adds what is read at the front of some bytes.
+// Adds what is read at the front of some bytes, or the refusal.
 fn read(line: Line, bytes: &[u8]) -> Line {
+    let read = packer::read_int(bytes, 0);
     let IntRead::Int {
         value,
         next: _,
         overlong,
-        padding,
-    } = packer::read_int(bytes, 0)
+    } = read
     else {
-        return line.text(b" ends inside");
+        let number = packer::places::refusal(read);
+        return line.text(b" refused").next_number(number as usize);
     };
-    warned(line.text(b" reads ").int(value), overlong, padding)
+    warned(line.text(b" reads ").int(value), overlong)
 }
 
 // Shows what is read at the front of some bytes.
@@ -127,19 +126,21 @@ fn show_marked() {
     show_read(b"\x80\x80\x80\x80\x10");
 }
 
-// Shows the limits of each length, overlong ints, padding, and bytes that end inside an int.
+// Shows the limits of each length, overlong ints, padding bits, and bytes that end inside an int.
 fn show_others() {
     show_ints(&[8191, 8192, -8193, 1048575, 1048576, 134217727, 134217728]);
     show_read(b"\xc0\x00");
     show_read(b"\x80\x80\x80\x80\x00");
+    show_read(b"\x80\x80\x80\x80\x0f");
     show_read(b"\x80\x80\x80\x80\x80");
     show_read(b"\xff\xff\xff\xff\xff");
     show_read(b"\x80\x80");
 }
 
-// Shows the cases, and bytes with several ints of which the last is cut off.
+// Shows the cases, and bytes with several ints of which the last is cut off or has a padding bit set.
 fn main() {
     show_marked();
     show_others();
     show_unpacked(b"\x00\x40\x80\x01\x80");
+    show_unpacked(b"\x00\x40\x80\x80\x80\x80\x10");
 }

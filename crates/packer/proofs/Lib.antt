@@ -4,6 +4,7 @@ pub mod Calls
 pub mod Writes
 pub mod Answers
 pub mod Scanning
+pub mod Pretest
 pub mod Packing
 pub mod PlaceLaws
 pub mod Lending

@@ -1,7 +1,7 @@
 -- Reading an integer at a place, one byte at a time. Assumes nothing.
 use mathlib.Core.Path.{_≡_, refl, sym, ap, _∙_}
 use mathlib.Core.List.{List}
-use mathlib.Core.Bool.{Bool, true, false, true≢false, _||_}
+use mathlib.Core.Bool.{Bool, true, false, true≢false, cond, _||_}
 use mathlib.Core.Logic.{_⊎_, inl, inr, ⊎-elim}
 use Prim.Native.Nat.{ℕ, suc, _+_, _-_, _*_, _%_, _^_, _≤_, _<_}
 use native.Mathlib.Nat.{mul-le-mul-right}
@@ -17,11 +17,14 @@ use Rattle.definitions.specs.Outcome.{Outcome, ok, refuse}
 use Rattle.definitions.specs.Packed.{signed, sign, warned, more, readInt}
 use Rattle.definitions.specs.Packer.{IntAt, readIntAt}
 use Rattle.laws.specs.Tests.{below}
+use Rattle.format.specs.declared.Error.the-variants.{NonZeroIntPadding}
+use Rattle.packer.specs.Answers.{intRead}
 use Rattle.packer.specs.Bytes.{moreAt}
+use Rattle.packer.specs.declared.IntRead.the-variants.{Int, Refused}
 
 -- an int at a place before this one
-abbrev found : ℤ → ℕ → Bool → Bool → Outcome IntAt
-found x next overlong padding = ok (record { value = x; next = next }) (warned overlong padding)
+abbrev found : ℤ → ℕ → Bool → Outcome IntAt
+found x next overlong = ok (record { value = x; next = next }) (warned overlong)
 
 one-less : (n : ℕ) → 0 < n → suc (n - 1) ≡ n
 one-less n h = omega arith
@@ -37,7 +40,7 @@ module _ (src : List ℕ) (p : ℕ) where
   unfolding readIntAt readInt
   read-end h = rw (drop-of-length-le src h)
 
-  pub read-one : p < length src → byte < 128 → readIntAt src p ≡ found (signed (sign byte) (byte % 64)) (p + 1) false false
+  pub read-one : p < length src → byte < 128 → readIntAt src p ≡ found (signed (sign byte) (byte % 64)) (p + 1) false
   unfolding readIntAt readInt
   read-one h k = rw (drop-cons src p 0 h, lt-leb 128 byte k, next h)
 
@@ -50,7 +53,7 @@ module _ (src : List ℕ) (p : ℕ) where
     unfolding moreAt more
     more-end h = rw (drop-of-length-le src h)
 
-    pub more-one : 0 < n → p < length src → byte < 128 → moreAt src p n w d s ≡ found (signed s (d + byte * w)) (p + 1) (eqb byte 0) false
+    pub more-one : 0 < n → p < length src → byte < 128 → moreAt src p n w d s ≡ found (signed s (d + byte * w)) (p + 1) (eqb byte 0)
     unfolding moreAt more
     more-one m h k = rw (← one-less n m, drop-cons src p 0 h, lt-leb 128 byte k, next h)
 
@@ -123,34 +126,59 @@ not-last b w e =
     (λ (h : 128 ≤ b). (h, λ q. absurd (true≢false (sym (eq-eqb w 134217728 q) ∙ (rw (le-ltb b 128 h) at e)))))
     (below b 128)
 
--- the digits of a fifth byte that is padding take more than 31 bits
-padded : (d b : ℕ) → d < 134217728 → leb 16 b ≡ leb 2147483648 (d + b * 134217728)
-padded d b k =
-    ⊎-elim
-    (λ (h : b < 16). lt-leb 16 b h ∙ sym (lt-leb 2147483648 (d + b * 134217728) (omega arith)))
-    (λ (h : 16 ≤ b). le-leb 16 b h ∙ sym (le-leb 2147483648 (d + b * 134217728) (omega arith)))
-    (below b 16)
-
 module _ (src : List ℕ) (p d : ℕ) (s : Bool) (h : p < length src) where
   -- an integer with these digits that ends here
   abbrev whole : ℕ → Outcome IntAt
-  whole m = found (signed s (m % 2 ^ 32)) (p + 1) (eqb (byte src p) 0) (leb 2147483648 m)
+  whole m = intRead (cond (leb 2147483648 m) (Refused NonZeroIntPadding) (Int (signed s m) (p + 1) (eqb (byte src p) 0)))
 
   before-fifth : {n w : ℕ} → Weight n w → 0 < n → d < w → byte src p < 128 → moreAt src p n w d s ≡ whole (d + byte src p * w)
   before-fifth {n} {w} k m l b =
       let f : d + byte src p * w < 2147483648 = omega (arith, digit w b, small k m) in
-      let e : (d + byte src p * w) % 2 ^ 32 ≡ d + byte src p * w = omega arith in
-      more-one src p n w d s m h b ∙ rw (e, lt-leb 2147483648 (d + byte src p * w) f)
+      more-one src p n w d s m h b ∙ rw (lt-leb 2147483648 (d + byte src p * w) f)
 
+  -- the digits of a fifth byte with padding bits take more than 31 bits
   at-fifth : d < 134217728 → moreAt src p 0 134217728 d s ≡ whole (d + byte src p * 134217728)
   unfolding moreAt more
-  at-fifth l = rw (drop-cons src p 0 h, ← padded d (byte src p) l, next src p h)
+  at-fifth l =
+      ⊎-elim
+      (λ (k : byte src p < 16).
+      rw (drop-cons src p 0 h, lt-leb 16 (byte src p) k, lt-leb 2147483648 (d + byte src p * 134217728) (omega arith), next src p h))
+      (λ (k : 16 ≤ byte src p).
+      rw (drop-cons src p 0 h, le-leb 16 (byte src p) k, le-leb 2147483648 (d + byte src p * 134217728) (omega arith)))
+      (below (byte src p) 16)
 
   pub more-last : {n w : ℕ} → Weight n w → d < w → (byte src p < 128) ⊎ (w ≡ 134217728) → moreAt src p n w d s ≡ whole (d + byte src p * w)
   more-last second l e = ⊎-elim (λ b. before-fifth second (omega arith) l b) (λ q. let z : ⊥ = omega arith in absurd z) e
   more-last third l e = ⊎-elim (λ b. before-fifth third (omega arith) l b) (λ q. let z : ⊥ = omega arith in absurd z) e
   more-last fourth l e = ⊎-elim (λ b. before-fifth fourth (omega arith) l b) (λ q. let z : ⊥ = omega arith in absurd z) e
   more-last last l e = at-fifth l
+
+-- ---- four bytes after the first, one after the other
+
+module _ (src : List ℕ) (start first : ℕ) where
+  -- the digits of the first two bytes, of three, and of four
+  abbrev pub two : ℕ
+  two = first + byte src start % 128 * 64
+
+  abbrev pub three : ℕ
+  three = two + byte src (start + 1) % 128 * 8192
+
+  abbrev pub four : ℕ
+  four = three + byte src (start + 1 + 1) % 128 * 1048576
+
+-- the bytes that follow, where each so far says that another one does
+module _ (src : List ℕ) (start first : ℕ) (s : Bool) (room : start + 4 ≤ length src) (second-comes : 128 ≤ byte src start) where
+  pub from-second : moreAt src start 3 64 first s ≡ moreAt src (start + 1) 2 8192 (two src start first) s
+  from-second = more-more src start 3 64 first s (omega arith) (omega arith) second-comes
+
+  module _ (third-comes : 128 ≤ byte src (start + 1)) where
+    pub from-third : moreAt src start 3 64 first s ≡ moreAt src (start + 1 + 1) 1 1048576 (three src start first) s
+    from-third = from-second ∙ more-more src (start + 1) 2 8192 (two src start first) s (omega arith) (omega arith) third-comes
+
+    pub from-fourth :
+        128 ≤ byte src (start + 1 + 1) → moreAt src start 3 64 first s ≡ moreAt src (start + 1 + 1 + 1) 0 134217728 (four src start first) s
+    from-fourth fourth-comes =
+        from-third ∙ more-more src (start + 1 + 1) 1 1048576 (three src start first) s (omega arith) (omega arith) fourth-comes
 
 -- what is left to read from a place on comes to the same as all of it
 pub record Reading (src : List ℕ) (start first : ℕ) (sign : Bool) (at digits weight : ℕ) : Type 0 where

@@ -1,25 +1,28 @@
 // Packed integers.
 // Format: ESDD_DDDD EDDD_DDDD EDDD_DDDD EDDD_DDDD PPPP_DDDD
-// E: another byte follows; S: sign; D: digits, the lowest first; P: padding, written as 0.
+// E: another byte follows; S: sign; D: digits, the lowest first; P: padding, written as 0 and refused if it is not.
 ghost use mathlib.Core.Path.{_≡_};
+ghost use mathlib.Core.Bool.{false};
 ghost use mathlib.Core.List.{[], _∷_};
 ghost use Prim.Native.Nat.{_+_, _≤_, _<_, _^_};
 ghost use lib.Dec.{leb};
 ghost use lib.ListN.{length};
 ghost use lib.Signed.{mag};
 ghost use Rattle.definitions.specs.Areas.{layAt};
-ghost use Rattle.definitions.specs.Outcome.{return};
+ghost use Rattle.definitions.specs.Outcome.{ok, err, return};
 ghost use Rattle.definitions.specs.Packed.{signBit, writeMore, writeInt, packInts};
 ghost use Rattle.definitions.specs.Stored.{stored};
-ghost use Rattle.definitions.specs.Stream as Stream;
-ghost use Rattle.definitions.specs.Stream.{stream};
+ghost use Rattle.definitions.specs.Stream.{stream, isPadded};
 ghost use Rattle.definitions.specs.Packer.{readIntCall, writeIntAt, unpackStream, unpackCall};
 ghost use Rattle.laws.specs.WarningLaws.{packed};
+ghost use Rattle.format.specs.Numbers.{number};
 ghost use Rattle.format.specs.Totals.{counts};
 ghost use Rattle.packer.specs.Answers.{intRead, intWrite, unpacked};
-ghost use Rattle.packer.specs.Bytes.{extendBit};
+ghost use Rattle.packer.specs.Bytes.{extendBit, paddedBytes};
+use checked::Totals;
 use checked::pack_at;
 use checked::scan;
+use checked::scan_all;
 use format::Error;
 use format::Warnings;
 
@@ -37,13 +40,12 @@ pub use readers::read_ints;
 // The most bytes or ints that a call reads.
 pub const MAX_INPUT: usize = 1048576;
 
-// The int at a place, with the place after it and a flag for each warning, or why none is read.
+// The int at a place, with the place after it and whether a shorter form exists, or why none is read.
 pub enum IntRead {
     Int {
         value: i32,
         next: usize,
         overlong: bool,
-        padding: bool,
     },
     Refused(Error),
 }
@@ -172,36 +174,69 @@ fn put(out: &mut [i32], at: usize, x: i32)
     }
 }
 
-// All the packed integers of src, into the front of out, which has room for them.
-fn unpack_all(src: &[u8], out: &mut [i32]) -> Unpacked
-    requires { ⌜ length (Stream.ints (stream (now src))) ≤ length (now out) ⌝ }
-    ensures { λ r. ⌜ unpackStream (stream (now (src .entry))) (now (out .entry)) ≡ record { answer = unpacked (r .answer) (counts (r .warnings)); out = now (out .exit) } ⌝ }
+// Whether five bytes are those of an integer with padding bits set. There is no early exit, so that the compiler can test several places
+// at once.
+fn is_padded(a: u8, b: u8, c: u8, d: u8, e: u8) -> bool
+    ensures { λ r. ⌜ r ≡ paddedBytes a b c d e ⌝ }
 {
-    let all = scan(src, out);
+    (128 <= a) & (128 <= b) & (128 <= c) & (128 <= d) & (16 <= e)
+}
+
+// Whether an integer of src may have padding bits set. No place is passed over, whether an integer begins there or not, and the answer is
+// the same: in bytes without padding each integer ends at the first byte below 128.
+fn may_have_padding(src: &[u8]) -> bool
+    ensures { λ r. ⌜ (r ≡ false → isPadded (stream (now (src .entry))) ≡ false) ⌝ }
+{
+    let places = checked::places_of_five(src.len());
+    let mut found = false;
+    let mut p: usize = 0;
+    while p < places {
+        found = found | is_padded(src[p], src[p + 1], src[p + 2], src[p + 3], src[p + 4]);
+        p += 1;
+    }
+    found
+}
+
+// The answer of a pass that wrote all integers.
+fn all_unpacked(all: Totals) -> Unpacked
+    ensures { λ r. ⌜ unpacked (r .answer) (counts (r .warnings)) ≡ ok (record { count = all .count; cut = all .cut }) (packed (all .overlong)) ⌝ }
+{
     Unpacked {
         answer: IntsRead::Ints {
             count: all.count,
             cut: all.cut,
         },
-        warnings: Warnings::packed(all.overlong, all.padding),
+        warnings: Warnings::packed(all.overlong),
     }
 }
 
-// Unpacks all integers of src into the front of out. If they do not fit, out is unchanged.
+// The answer of a pass that wrote none.
+fn none_unpacked(error: Error, all: Totals) -> Unpacked
+    ensures { λ r. ⌜ unpacked (r .answer) (counts (r .warnings)) ≡ err (number error) (packed (all .overlong)) ⌝ }
+{
+    Unpacked {
+        answer: IntsRead::Refused(error),
+        warnings: Warnings::packed(all.overlong),
+    }
+}
+
+// Unpacks all integers of src into the front of out. If one has padding bits set or they do not fit, out is unchanged.
 fn unpack_judged(src: &[u8], out: &mut [i32]) -> Unpacked
     ensures { λ r. ⌜ unpackStream (stream (now (src .entry))) (now (out .entry)) ≡ record { answer = unpacked (r .answer) (counts (r .warnings)); out = now (out .exit) } ⌝ }
 {
     if src.len() <= out.len() {
-        return unpack_all(src, out);
+        if !may_have_padding(src) {
+            return all_unpacked(scan_all(src, out));
+        }
     }
     let all = scan(src, &mut out[..0]);
-    if out.len() < all.count {
-        return Unpacked {
-            answer: IntsRead::Refused(Error::CapacityError),
-            warnings: Warnings::packed(all.overlong, all.padding),
-        };
+    if all.padded {
+        return none_unpacked(Error::NonZeroIntPadding, all);
     }
-    unpack_all(src, out)
+    if out.len() < all.count {
+        return none_unpacked(Error::CapacityError, all);
+    }
+    all_unpacked(scan(src, out))
 }
 
 // Unpacks all integers of src into the front of out. A refused call leaves out unchanged.

@@ -18,7 +18,7 @@ use Rattle.format.specs.Sources.{excess, tableCounts}
 use Rattle.format.specs.declared.Stored.{Stored}
 
 -- the counts of ints left over
-left-over : (x : Bool) → tableCounts 0 0 (cond x 1 0) 0 ≡ excess x
+left-over : (x : Bool) → tableCounts 0 (cond x 1 0) 0 ≡ excess x
 left-over true = refl
 left-over false = refl
 
@@ -27,7 +27,7 @@ module _ (src out : List ℤ) where
   unfolding stored
   ints-too-long h = rw (lt-leb (length src) 1048576 h)
 
-  pub ints-read : (last : List ℤ) (r : Stored) (x : Bool) (w : Counts) → length src ≤ 1048576 → w ≡ tableCounts 0 0 (cond x 1 0) 0 → storedTable out (readTable src) ≡ record { answer = storedWith r (excess x); out = last } → readFromIntsCall src out ≡ record { answer = storedWith r w; out = last }
+  pub ints-read : (last : List ℤ) (r : Stored) (x : Bool) (w : Counts) → length src ≤ 1048576 → w ≡ tableCounts 0 (cond x 1 0) 0 → storedTable out (readTable src) ≡ record { answer = storedWith r (excess x); out = last } → readFromIntsCall src out ≡ record { answer = storedWith r w; out = last }
   ints-read last r x w h q e =
       rw (le-leb (length src) 1048576 h)
       (ap (storedTable out) (after-none (readTable src))

@@ -35,10 +35,10 @@ pub fn refused(error: Error) -> Reading
     }
 }
 
-// A packed table's ints at the front of an area, and what the packer counted; or why they are not read.
+// A packed table's ints at the front of an area, and what the packer counted; or the answer to a call that can't read them.
 pub enum Unpacked {
     Ints(Totals),
-    Refused(Error),
+    Refused(Reading),
 }
 
 // Unpacks a packed table into the front of scratch, which needs at least 16,384 entries and one for each byte.
@@ -46,23 +46,30 @@ pub fn unpack(src: &[u8], scratch: &mut [i32]) -> Unpacked
     ensures { λ r. ⌜ UnpacksTo (now (src .entry)) (length (now (scratch .entry))) (now (scratch .exit)) r ⌝ }
 {
     if scratch.len() < 16384 {
-        return Unpacked::Refused(Error::ScratchTooShort);
+        return Unpacked::Refused(refused(Error::ScratchTooShort));
     }
     if scratch.len() < src.len() {
-        return Unpacked::Refused(Error::ScratchTooShort);
+        return Unpacked::Refused(refused(Error::ScratchTooShort));
     }
     if 1048576 < src.len() {
-        return Unpacked::Refused(Error::InputTooLong);
+        return Unpacked::Refused(refused(Error::InputTooLong));
     }
-    Unpacked::Ints(packer::checked::scan(src, scratch))
+    let all = packer::checked::scan_all(src, scratch);
+    if all.padded {
+        return Unpacked::Refused(Reading {
+            answer: Stored::Refused(Error::NonZeroIntPadding),
+            warnings: Warnings::packed(all.overlong),
+        });
+    }
+    Unpacked::Ints(all)
 }
 
 // The warnings of reading a packed table: the packer's, and those for a cut integer, for ints left over, and for kinds.
 pub fn packed_warnings(all: Totals, more: bool, kinds: usize) -> Warnings
-    ensures { λ r. ⌜ counts r ≡ plus (packed (all .overlong) (all .padding)) (plus (excess (all .cut)) (plus (excess more) (uuidExcess kinds))) ⌝ }
+    ensures { λ r. ⌜ counts r ≡ plus (packed (all .overlong)) (plus (excess (all .cut)) (plus (excess more) (uuidExcess kinds))) ⌝ }
 {
     let excess = ints::one_if(all.cut) + ints::one_if(more);
-    Warnings::table(all.overlong, all.padding, excess, kinds)
+    Warnings::table(all.overlong, excess, kinds)
 }
 
 // Reads a packed table into the front of out. Leaves scratch in any state.
@@ -71,7 +78,7 @@ pub fn read_packed(src: &[u8], out: &mut [i32], scratch: &mut [i32]) -> Reading
 {
     let unpacked = unpack(src, scratch);
     match unpacked {
-        Unpacked::Refused(e) => refused(e),
+        Unpacked::Refused(read) => read,
         Unpacked::Ints(all) => {
             let count = all.count;
             let read = read_table(&scratch[..count], out);

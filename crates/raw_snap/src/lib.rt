@@ -143,7 +143,7 @@ pub fn read_from_ints(src: &[i32], out: &mut [i32]) -> Reading
     let answer = read.answer;
     Reading {
         answer,
-        warnings: Warnings::table(0, 0, ints::one_if(read.excess), 0),
+        warnings: Warnings::table(0, ints::one_if(read.excess), 0),
     }
 }
 

@@ -3,7 +3,7 @@
 //     c ROOM LEN INT.. INT..      the delta from a base of LEN ints to a target: COUNT INT.., or refused 10 KEY, or refused NUMBER
 //     i ROOM LEN INT.. INT..      a delta is written to ints under LEN known sizes: COUNT INT.., or refused NUMBER
 //     b ROOM LEN INT.. INT..      the same, packed: LEN HEX, or refused NUMBER
-//     r ROOM LEN INT.. INT..      a delta of ints is read under LEN known sizes: COUNT, seven counts of warnings, INT.., or refused NUMBER and the counts
+//     r ROOM LEN INT.. INT..      a delta of ints is read under LEN known sizes: COUNT, six counts of warnings, INT.., or refused NUMBER and the counts
 //     p ROOM LEN INT.. HEX        the same for a packed delta
 //     m ROOM HAS LEN INT.. INT..  the differences of an item's data from the LEN ints of its base, if it has one: COUNT INT.., or refused NUMBER
 //     a ROOM HAS LEN INT.. INT..  the same with the differences given, which are applied: COUNT INT.., or refused NUMBER
@@ -55,7 +55,7 @@ fn write_to_ints(sizes: &[i32], delta: &[i32], area: &mut [i32]) -> Line {
 fn read_ints(sizes: &[i32], src: &[i32], area: &mut [i32]) -> Line {
     let mut scratch = scratch();
     let read = delta::read_from_ints(src, sizes, area, &mut scratch);
-    reading(read, area, &[0, 1, 2, 3, 4, 6, 7])
+    reading(read, area, &[0, 1, 2, 3, 5, 6])
 }
 
 // Answers m, with whether there is a base, its data, the item's data and an area of ROOM ints.
@@ -122,7 +122,7 @@ fn bytes_case(case: &[u8]) -> Line {
 fn read_packed(sizes: &[i32], src: &[u8], area: &mut [i32]) -> Line {
     let mut scratch = scratch();
     let read = delta::read(src, sizes, area, &mut scratch);
-    reading(read, area, &[0, 1, 2, 3, 4, 6, 7])
+    reading(read, area, &[0, 1, 2, 3, 5, 6])
 }
 
 // Answers p ROOM LEN INT.. HEX, with the known sizes.

@@ -5,7 +5,7 @@
 //     i TICK DIST CRC LEN INT.. HEX           a single message, under LEN known sizes
 //     e TICK DIST                             an empty message
 //     l PLACE                                 looks up the table at a place
-// Answer: 13 warning counts, COUNT ACK (tables held, tick acknowledged or -), then more, tick TICK, or refused NUMBER. For l: TICK INT.., or end.
+// Answer: 12 warning counts, COUNT ACK (tables held, tick acknowledged or -), then more, tick TICK, or refused NUMBER. For l: TICK INT.., or end.
 use crate::fields::at_most;
 use crate::fields::distance;
 use crate::fields::letter;
@@ -33,7 +33,7 @@ use storage::Storage;
 // The warnings of a message and the store's numbers.
 fn head(w: Warnings, s: Storage) -> Line {
     let line = Line::new();
-    let line = warnings(line, w, &[0, 1, 2, 3, 4, 5, 6, 7, 8, 9, 10, 11, 12]);
+    let line = warnings(line, w, &[0, 1, 2, 3, 4, 5, 6, 7, 8, 9, 10, 11]);
     tick_or_none(line.next_number(s.count), s.ack_tick())
 }
 

@@ -1,9 +1,9 @@
 // Cases on packed integers.
-//     r AT HEX        an int is read: VALUE NEXT OVERLONG PADDING, or refused 1
-//     b AT HEX        the same by a reader over the bytes: VALUE AT LEFT EMPTY OVERLONG PADDING, or refused 1 AT LEFT EMPTY
+//     r AT HEX        an int is read: VALUE NEXT OVERLONG, or refused NUMBER
+//     b AT HEX        the same by a reader over the bytes: VALUE AT LEFT EMPTY OVERLONG, or refused NUMBER AT LEFT EMPTY
 //     i AT INT..      the same by a reader over the ints
 //     w ROOM AT INT   an int is written into ROOM bytes aa, at most 16: NEXT HEX, or refused 40 HEX
-//     u ROOM HEX      all ints are unpacked into ROOM ints, at most 64: COUNT CUT OVERLONG PADDING INT.., or refused 40 OVERLONG PADDING
+//     u ROOM HEX      all ints are unpacked into ROOM ints, at most 64: COUNT CUT OVERLONG INT.., or refused NUMBER OVERLONG
 use crate::fields::letter;
 use crate::fields::odd;
 use crate::fields::part;
@@ -26,11 +26,6 @@ fn flag(line: Line, b: bool) -> Line {
     line.next_number(ints::one_if(b))
 }
 
-// Adds the warnings of an int.
-fn flags(line: Line, overlong: bool, padding: bool) -> Line {
-    flag(flag(line, overlong), padding)
-}
-
 // The int that was read, or the refusal.
 fn int_read(read: IntRead) -> Line {
     match read {
@@ -38,8 +33,7 @@ fn int_read(read: IntRead) -> Line {
             value,
             next,
             overlong,
-            padding,
-        } => flags(Line::new().int(value).next_number(next), overlong, padding),
+        } => flag(Line::new().int(value).next_number(next), overlong),
         IntRead::Refused(e) => refused(e),
     }
 }
@@ -64,8 +58,7 @@ fn reader_read(r: ReaderAnswer) -> Line {
             value,
             next: _,
             overlong,
-            padding,
-        } => flags(standing(Line::new().int(value), r), overlong, padding),
+        } => flag(standing(Line::new().int(value), r), overlong),
         IntRead::Refused(e) => standing(refused(e), r),
     }
 }
@@ -111,9 +104,9 @@ fn all_unpacked(unpacked: Unpacked, area: &[i32]) -> Line {
     match answer {
         IntsRead::Ints { count, cut } => {
             let line = flag(Line::new().number(count), cut);
-            warnings(line, unpacked.warnings, &[0, 1]).ints(area, count)
+            warnings(line, unpacked.warnings, &[0]).ints(area, count)
         }
-        IntsRead::Refused(e) => warnings(refused(e), unpacked.warnings, &[0, 1]),
+        IntsRead::Refused(e) => warnings(refused(e), unpacked.warnings, &[0]),
     }
 }
 

@@ -100,7 +100,7 @@ pub fn answer(state: State, case: &[u8], parts: &mut [u8; 28800]) -> Answered {
     let m = state.manager;
     let called = call(m.receiver, case, parts, &mut joined);
     let answer = called.answer;
-    let line = warnings(Line::new(), called.warnings, &[10, 11]);
+    let line = warnings(Line::new(), called.warnings, &[9, 10]);
     let line = received(line, answer, &joined);
     state.answered(with_receiver(m, called.receiver), line)
 }

@@ -1,6 +1,6 @@
 // Cases on types, builders and applied deltas. ROOM is the length of the lent area, at most 128.
 // TYPE is six ints: whether the type is a kind, its number, and the four ints of the kind.
-// COUNTS are the warnings: overlong integers, padding of integers, unknown deletes, ints left over, kinds that are too long.
+// COUNTS are the warnings: overlong integers, unknown deletes, ints left over, kinds that are too long.
 //     r ROOM LEN INT.. INT..     a delta is applied to a base of LEN ints: COUNT COUNTS INT.., or refused NUMBER COUNTS
 //     d ROOM LEN INT.. INT..     the same with the types of the result judged
 //     i ROOM INT..               a table of ints is read with its types judged: the same answers
@@ -35,7 +35,7 @@ use snap::TypeId;
 
 // The answer of a call that reads or applies, with COUNTS.
 fn made(read: Reading, area: &[i32]) -> Line {
-    reading(read, area, &[0, 1, 5, 8, 9])
+    reading(read, area, &[0, 4, 7, 8])
 }
 
 // The type that a case begins with, after its letter.

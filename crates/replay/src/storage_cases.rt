@@ -42,7 +42,7 @@ struct Called {
 
 // The warnings of a call and the store's numbers.
 fn head(w: Warnings, s: Storage) -> Line {
-    let line = warnings(Line::new(), w, &[5, 9, 12]).next_number(s.count);
+    let line = warnings(Line::new(), w, &[4, 8, 11]).next_number(s.count);
     tick_or_none(tick_or_none(line, s.ack_tick()), s.delta_tick())
 }
 

@@ -1,6 +1,6 @@
 // Cases on tables. ROOM is the length of the lent area, at most 64.
 //     i ROOM INT..               a table of ints is read: COUNT EXCESS INT.., or refused NUMBER EXCESS
-//     b ROOM HEX                 a packed table is read: COUNT OVERLONG PADDING EXCESS INT.., or refused NUMBER and the three counts
+//     b ROOM HEX                 a packed table is read: COUNT OVERLONG EXCESS INT.., or refused NUMBER and the two counts
 //     w INT..                    an area is packed: LEN HEX, or refused NUMBER
 //     q INT..                    an area is counted, summed and walked: ITEMS SUM KEY.., or refused NUMBER
 //     l TYPE ID INT..            an item of an area is looked up: item INT.., or none, or refused NUMBER
@@ -28,7 +28,7 @@ use replay_text::words::word;
 // Answers i ROOM INT.., with the ints and an area of ROOM ints.
 fn read_ints(src: &[i32], area: &mut [i32]) -> Line {
     let read = raw_snap::read_from_ints(src, area);
-    reading(read, area, &[8])
+    reading(read, area, &[7])
 }
 
 // Answers i ROOM INT..
@@ -44,7 +44,7 @@ fn ints_case(case: &[u8]) -> Line {
 fn read_bytes(src: &[u8], area: &mut [i32]) -> Line {
     let mut scratch = scratch();
     let read = raw_snap::read(src, area, &mut scratch);
-    reading(read, area, &[0, 1, 8])
+    reading(read, area, &[0, 7])
 }
 
 // Answers b ROOM HEX.

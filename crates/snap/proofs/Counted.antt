@@ -20,7 +20,7 @@ use Rattle.format.specs.declared.Stored.{Stored}
 use Rattle.snap.specs.Answers.{typedTable}
 
 -- the counts of ints left over and of kinds
-left-over : (x : Bool) (k : ℕ) → tableCounts 0 0 (cond x 1 0) k ≡ plus (excess x) (uuidExcess k)
+left-over : (x : Bool) (k : ℕ) → tableCounts 0 (cond x 1 0) k ≡ plus (excess x) (uuidExcess k)
 left-over true k = rw (zero-add k)
 left-over false k = rw (zero-add k)
 
@@ -34,7 +34,7 @@ module _ (src out : List ℤ) (scratch : ℕ) where
     unfolding stored
     ints-too-long k = rw (le-leb 16384 scratch h, lt-leb (length src) 1048576 k)
 
-    pub ints-read : (last : List ℤ) (r : Stored) (x : Bool) (k : ℕ) (w : Counts) → length src ≤ 1048576 → w ≡ tableCounts 0 0 (cond x 1 0) k → storedTable out (typedTable src) ≡ record { answer = storedWith r (plus (excess x) (uuidExcess k)); out = last } → typedReadFromIntsCall src out scratch ≡ record { answer = storedWith r w; out = last }
+    pub ints-read : (last : List ℤ) (r : Stored) (x : Bool) (k : ℕ) (w : Counts) → length src ≤ 1048576 → w ≡ tableCounts 0 (cond x 1 0) k → storedTable out (typedTable src) ≡ record { answer = storedWith r (plus (excess x) (uuidExcess k)); out = last } → typedReadFromIntsCall src out scratch ≡ record { answer = storedWith r w; out = last }
     ints-read last r x k w l q e =
         rw (le-leb 16384 scratch h, le-leb (length src) 1048576 l)
         (ap (storedTable out) (after-none (after none (typedTable src)) ∙ after-none (typedTable src))

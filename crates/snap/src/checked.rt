@@ -135,7 +135,7 @@ pub fn read_ints(src: &[i32], out: &mut [i32], scratch: usize) -> Reading
     let answer = read.answer;
     Reading {
         answer,
-        warnings: Warnings::table(0, 0, ints::one_if(read.excess), read.kinds),
+        warnings: Warnings::table(0, ints::one_if(read.excess), read.kinds),
     }
 }
 
@@ -145,7 +145,7 @@ pub fn read_packed(src: &[u8], out: &mut [i32], scratch: &mut [i32]) -> Reading
 {
     let unpacked = unpack(src, scratch);
     match unpacked {
-        Unpacked::Refused(e) => refused(e),
+        Unpacked::Refused(read) => read,
         Unpacked::Ints(all) => {
             let count = all.count;
             let read = read_typed(&scratch[..count], out);

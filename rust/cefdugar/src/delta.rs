@@ -103,9 +103,10 @@ pub fn read_from_ints(
 }
 
 /// Reads a packed delta, its keys in any order, into the front of `out` and
-/// gives how many ints it takes there. A refused call leaves `out`. `scratch`,
-/// of [`table::SCRATCH`](crate::table::SCRATCH) ints and one a byte or more,
-/// is zeros afterwards.
+/// gives how many ints it takes there. An integer with a padding bit set is
+/// refused where it is read (`NON_ZERO_INT_PADDING`). A refused call leaves
+/// `out`. `scratch`, of [`table::SCRATCH`](crate::table::SCRATCH) ints and one
+/// a byte or more, is zeros afterwards.
 pub fn read(
     src: &[u8],
     sizes: &[i32],

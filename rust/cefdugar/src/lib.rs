@@ -55,6 +55,8 @@ impl Refusal {
     pub const INVALID_TYPE_ID: Refusal = Refusal(45);
     pub const KNOWN_SIZE_DIFFERS: Refusal = Refusal(46);
     pub const NOT_IN_FORM: Refusal = Refusal(47);
+    /// A packed integer has a padding bit set; its value is not used.
+    pub const NON_ZERO_INT_PADDING: Refusal = Refusal(52);
     pub const SHORT_RULE: Refusal = Refusal(55);
 }
 
@@ -67,7 +69,7 @@ impl fmt::Display for Refusal {
 impl std::error::Error for Refusal {}
 
 /// How many kinds of warning there are.
-pub const WARNINGS: usize = 13;
+pub const WARNINGS: usize = 12;
 
 /// The counts of all kinds of warning, in the order of the constants.
 #[derive(Clone, Copy, Debug, Default, Eq, Hash, PartialEq)]
@@ -75,19 +77,18 @@ pub struct Warnings(pub [usize; WARNINGS]);
 
 impl Warnings {
     pub const OVERLONG_INT_ENCODING: usize = 0;
-    pub const NON_ZERO_INT_PADDING: usize = 1;
-    pub const NON_ZERO_PADDING: usize = 2;
-    pub const DUPLICATE_DELETE: usize = 3;
-    pub const DUPLICATE_UPDATE: usize = 4;
-    pub const UNKNOWN_DELETE: usize = 5;
-    pub const DELETE_UPDATE: usize = 6;
-    pub const NUM_UPDATED_ITEMS: usize = 7;
-    pub const EXCESS_SNAP_DATA: usize = 8;
-    pub const EXCESS_UUID_ITEM_DATA: usize = 9;
-    pub const DUPLICATE_SNAP: usize = 10;
+    pub const NON_ZERO_PADDING: usize = 1;
+    pub const DUPLICATE_DELETE: usize = 2;
+    pub const DUPLICATE_UPDATE: usize = 3;
+    pub const UNKNOWN_DELETE: usize = 4;
+    pub const DELETE_UPDATE: usize = 5;
+    pub const NUM_UPDATED_ITEMS: usize = 6;
+    pub const EXCESS_SNAP_DATA: usize = 7;
+    pub const EXCESS_UUID_ITEM_DATA: usize = 8;
+    pub const DUPLICATE_SNAP: usize = 9;
     /// A part whose base, part count or sum is not the first part's.
-    pub const DIFFERING_ATTRIBUTES: usize = 11;
-    pub const WEIRD_NEGATIVE_DELTA_TICK: usize = 12;
+    pub const DIFFERING_ATTRIBUTES: usize = 10;
+    pub const WEIRD_NEGATIVE_DELTA_TICK: usize = 11;
 
     /// Whether nothing was worth a warning.
     pub fn is_none(&self) -> bool {
@@ -105,7 +106,7 @@ fn answer<T>(number: u32, value: T) -> Result<T, Refusal> {
 
 /// The packed integer that begins at place `at` of `src`, and the place after
 /// it. Refused: `INPUT_TOO_LONG`; `UNEXPECTED_END` where the bytes end inside
-/// it.
+/// it; `NON_ZERO_INT_PADDING`.
 pub fn read_int(src: &[u8], at: usize) -> (Result<(i32, usize), Refusal>, Warnings) {
     let (mut value, mut next) = (0, 0);
     let mut warnings = Warnings::default();
@@ -116,7 +117,7 @@ pub fn read_int(src: &[u8], at: usize) -> (Result<(i32, usize), Refusal>, Warnin
 /// Where a reader stands after a read.
 #[derive(Clone, Copy, Debug, Eq, PartialEq)]
 pub struct Standing {
-    /// Its place: behind the integer, or the end where there was none; where
+    /// Its place: behind the integer, or the end where it was refused; where
     /// it stood if the entries are too many to read.
     pub at: usize,
     /// How many entries are left.
@@ -133,7 +134,7 @@ fn standing(len: usize, at: usize) -> (usize, usize, u32) {
 
 /// The next integer of a reader over packed bytes that stands at place `at`,
 /// and where it then stands. Refused: `INPUT_TOO_LONG`; `UNEXPECTED_END` where
-/// the bytes end inside it.
+/// the bytes end inside it; `NON_ZERO_INT_PADDING`.
 pub fn unpacker_read_int(src: &[u8], at: usize) -> (Result<i32, Refusal>, Standing, Warnings) {
     let mut value = 0;
     let (mut next, mut left, mut empty) = standing(src.len(), at);
@@ -190,8 +191,8 @@ pub struct Unpacked {
 }
 
 /// Reads all the packed integers of `src` into the front of `out`. Refused:
-/// `INPUT_TOO_LONG`; `CAPACITY_ERROR` where they do not fit. `out` is then left
-/// as it was.
+/// `INPUT_TOO_LONG`; `NON_ZERO_INT_PADDING`, with the warnings of the integers
+/// before; `CAPACITY_ERROR` where they do not fit. `out` is then left as it was.
 pub fn unpack(src: &[u8], out: &mut [i32]) -> (Result<Unpacked, Refusal>, Warnings) {
     let (mut count, mut cut) = (0, 0);
     let mut warnings = Warnings::default();

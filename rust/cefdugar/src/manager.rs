@@ -112,7 +112,8 @@ impl Manager {
     }
 
     /// Takes a part of a delta. With the last part missing the delta is read
-    /// and goes to the store.
+    /// and goes to the store. If reading refuses it, also for a set padding bit
+    /// (`NON_ZERO_INT_PADDING`), its tick is finished and the store is left.
     pub fn snap(&mut self, snap: Snap<'_>, lent: Lent) -> Handled {
         handled(|outputs| self.plain_snap(snap.numbers(), snap.data, lent, outputs))
     }

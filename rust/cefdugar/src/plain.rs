@@ -11,7 +11,7 @@ mod snap;
 
 pub use snap::*;
 
-/// Reads the packed integer at place `at` of `src`. Refused (42, 1): `value`
+/// Reads the packed integer at place `at` of `src`. Refused (42, 1, 52): `value`
 /// and `next` are left. `warnings` is always set.
 pub fn read_int(
     src: &[u8],
@@ -25,8 +25,8 @@ pub fn read_int(
 
 /// What a reader over packed bytes answers that stands at place `at`: the next
 /// integer, and its place, the bytes left and whether there are none. Refused
-/// (1): `value` is left. Refused (42): `value`, `next`, `left` and `empty` are
-/// left. `warnings` is always set.
+/// (1, 52): `value` is left. Refused (42): `value`, `next`, `left` and `empty`
+/// are left. `warnings` is always set.
 pub fn unpacker_read_int(
     src: &[u8],
     at: usize,
@@ -69,7 +69,7 @@ pub fn write_int(out: &mut [u8], at: usize, value: i32, next: &mut usize) -> u32
 }
 
 /// Reads all the packed integers of `src` into the front of `out`. Refused
-/// (42, 40): `out`, `count` and `cut` are left. `warnings` is always set.
+/// (42, 52, 40): `out`, `count` and `cut` are left. `warnings` is always set.
 pub fn unpack(
     src: &[u8],
     out: &mut [i32],

@@ -49,8 +49,9 @@ pub fn uuid_from_ints(ints: [i32; 4]) -> [u8; 16] {
 }
 
 /// Reads a packed table with sound types into the front of `out` and gives how
-/// many ints it takes. A refused call leaves `out`. `scratch`, of
-/// [`table::SCRATCH`](crate::table::SCRATCH) ints and one a byte or more, is
+/// many ints it takes. Padding bits are refused as in
+/// [`table::read`](crate::table::read). A refused call leaves `out`. `scratch`,
+/// of [`table::SCRATCH`](crate::table::SCRATCH) ints and one a byte or more, is
 /// zeros afterwards.
 pub fn read(
     src: &[u8],

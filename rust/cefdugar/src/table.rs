@@ -23,8 +23,9 @@ pub fn empty(out: &mut [i32]) -> Result<usize, Refusal> {
 }
 
 /// Reads a packed table into the front of `out` and gives how many ints it
-/// takes. A refused call leaves `out`. `scratch`, of [`SCRATCH`] ints and one
-/// a byte or more, is zeros afterwards.
+/// takes. An integer with a padding bit set, also behind the table, refuses it
+/// (`NON_ZERO_INT_PADDING`). A refused call leaves `out`. `scratch`, of
+/// [`SCRATCH`] ints and one a byte or more, is zeros afterwards.
 pub fn read(
     src: &[u8],
     out: &mut [i32],

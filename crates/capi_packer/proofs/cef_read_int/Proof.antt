@@ -1,5 +1,5 @@
 -- `capi_packer::cef_read_int` meets its contract: by what `read_int` found. Assumes nothing.
-use mathlib.Core.Path.{_≡_, refl, sym, ap, ap₂, _∙_}
+use mathlib.Core.Path.{_≡_, refl, sym, ap, _∙_}
 use mathlib.Core.Bool.{Bool}
 use mathlib.Core.List.{List}
 use Prim.Native.Nat.{ℕ}
@@ -34,10 +34,7 @@ module _ (c : tie.After-known-told) where
   abbrev overlong : Bool
   overlong = c .before .read .given .0 .1 .1 .0
 
-  abbrev padding : Bool
-  padding = c .before .read .given .0 .1 .1 .1 .0
-
-  read : readIntCall (c .before .before .before .before .before .before .before .args .src .now) (c .before .before .before .before .before .before .before .args .at) ≡ ok x (warned overlong padding)
+  read : readIntCall (c .before .before .before .before .before .before .before .args .src .now) (c .before .before .before .before .before .before .before .args .at) ≡ ok x (warned overlong)
   read = c .before .before .before .read-int .ensures ∙ ap intRead (c .before .read .given .1)
 
   value : toZ w32 (ofZ w32 (x .value)) ≡ x .value
@@ -73,20 +70,12 @@ warned-row-requires c κs = search needs
 returns-2 : tie.Need-returns-2
 returns-2 c =
     let r = c .before .before in
-    found _ (read r) _ _ _ _ (value r) (c .warned-row .ensures ∙ ap row (sym (ap (warned (overlong r)) (c .before .if1 .taken))))
-
-warned-row-requires-2 : tie.Need-warned-row-requires-2
-warned-row-requires-2 c κs = search needs
+    found _ (read r) _ _ _ _ (value r) (c .warned-row .ensures ∙ ap row (sym (ap warned (c .before .if1 .taken))))
 
 returns-3 : tie.Need-returns-3
 returns-3 c =
-    let r = c .before .before .before in
-    found _ (read r) _ _ _ _ (value r) (c .warned-row2 .ensures ∙ ap row (sym (ap₂ warned (c .before .if2 .taken) (c .before .before .if1 .left))))
-
-returns-4 : tie.Need-returns-4
-returns-4 c =
-    let r = c .before .before in
-    found _ (read r) _ _ _ _ (value r) (c .before .before .before .before .before .before .row .ensures ∙ ap row (c .before .before .before .before .before .before .before .none .ensures ∙ sym (ap₂ warned (c .if2 .left) (c .before .if1 .left))))
+    let r = c .before in
+    found _ (read r) _ _ _ _ (value r) (c .before .before .before .before .before .row .ensures ∙ ap row (c .before .before .before .before .before .before .none .ensures ∙ sym (ap warned (c .if1 .left))))
 
 pub cef-read-int-spec : {M : Type 1} → statement M
 cef-read-int-spec =
@@ -101,6 +90,4 @@ cef-read-int-spec =
     returns
     warned-row-requires
     returns-2
-    warned-row-requires-2
-    returns-3
-    returns-4)
+    returns-3)

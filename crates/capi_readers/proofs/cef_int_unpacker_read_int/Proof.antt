@@ -28,7 +28,7 @@ returns c =
 returns-2 : tie.Need-returns-2
 returns-2 c =
     let a = c .before .before .before .before .before .before .before .read-ints in
-    found _ _ _ (a .result) (a .ensures) _ _ _ _ _ _ (c .before .before .before .put-standing .ensures) _ _ _ _ (c .before .read .given .1) _ _ (toZ-ofZ (record { sfits = c .known-told .given .0 .1 }))
+    found _ _ _ (a .result) (a .ensures) _ _ _ _ _ _ (c .before .before .before .put-standing .ensures) _ _ _ (c .before .read .given .1) _ _ (toZ-ofZ (record { sfits = c .known-told .given .0 .1 }))
 
 pub cef-int-unpacker-read-int-spec : {M : Type 1} → statement M
 cef-int-unpacker-read-int-spec =

@@ -44,8 +44,8 @@ returns-2 c =
     let a = c .before .before .before .before .before .before .before .before .read-bytes in
     let set = c .before .before .before .before .put-standing .ensures in
     let g = c .before .before .read .given in
-    let h = found _ _ _ (a .result) (a .ensures) _ _ _ _ _ _ set _ _ _ _ (g .1) _ _ (toZ-ofZ (record { sfits = c .before .known-told .given .0 .1 })) in
-    (h .0, (h .1 .0, (h .1 .1, c .warned-row .ensures ∙ ap row (sym (found-warnings _ _ _ (a .result) (a .ensures) _ _ _ _ _ _ set _ _ _ _ (g .1))))))
+    let h = found _ _ _ (a .result) (a .ensures) _ _ _ _ _ _ set _ _ _ (g .1) _ _ (toZ-ofZ (record { sfits = c .before .known-told .given .0 .1 })) in
+    (h .0, (h .1 .0, (h .1 .1, c .warned-row .ensures ∙ ap row (sym (found-warnings _ _ _ (a .result) (a .ensures) _ _ _ _ _ _ set _ _ _ (g .1))))))
 
 pub cef-unpacker-read-int-spec : {M : Type 1} → statement M
 cef-unpacker-read-int-spec =

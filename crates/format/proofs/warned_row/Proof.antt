@@ -1,5 +1,5 @@
--- `warned_row` meets its contract: the two counts make the integer's warnings. Assumes nothing.
-use mathlib.Core.Path.{sym, ap, ap₂, _∙_}
+-- `warned_row` meets its contract: the count makes the integer's warning. Assumes nothing.
+use mathlib.Core.Path.{sym, ap, _∙_}
 use Rattle.laws.specs.WarningLaws.{packed, warned-packed}
 use Rattle.format.specs.Totals.{row}
 use borrow.Author.Needs.{needs}
@@ -9,9 +9,6 @@ use Rattle.format.proofs.warned_row.Tie as tie
 one-if-requires : tie.Need-one-if-requires
 one-if-requires c κs = search needs
 
-one-if-requires-2 : tie.Need-one-if-requires-2
-one-if-requires-2 c κs = search needs
-
 packed-requires : tie.Need-packed-requires
 packed-requires c κs = search needs
 
@@ -20,10 +17,10 @@ row-requires c κs = search needs
 
 returns : tie.Need-returns
 returns c =
-    let a = c .before .before .before .before .args in
+    let a = c .before .before .before .args in
     c .row .ensures
-    ∙ ap row (c .before .packed .ensures ∙ (ap₂ packed (c .before .before .before .one-if .ensures) (c .before .before .one-if2 .ensures) ∙ sym (warned-packed (a .overlong) (a .padding))))
+    ∙ ap row (c .before .packed .ensures ∙ (ap packed (c .before .before .one-if .ensures) ∙ sym (warned-packed (a .overlong))))
 
 pub warned-row-spec : {M : Type 1} → statement M
 warned-row-spec =
-    tie.close (tie.spec one-if-requires one-if-requires-2 packed-requires row-requires returns)
+    tie.close (tie.spec one-if-requires packed-requires row-requires returns)

@@ -5,6 +5,7 @@ pub mod bench;
 pub mod counted;
 pub mod damage;
 pub mod oracle;
+pub mod padding;
 pub mod random;
 pub mod record;
 pub mod report;

@@ -29,7 +29,9 @@ impl Warn<libtw2_packer::Warning> for Tally {
     fn warn(&mut self, warning: libtw2_packer::Warning) {
         self.count(match warning {
             libtw2_packer::Warning::OverlongIntEncoding => Warnings::OVERLONG_INT_ENCODING,
-            libtw2_packer::Warning::NonZeroIntPadding => Warnings::NON_ZERO_INT_PADDING,
+            // The Rust is given no padded bytes. If it were, this count would show it; a
+            // panic here would make the Rust's own loops slower.
+            libtw2_packer::Warning::NonZeroIntPadding => Warnings::WEIRD_NEGATIVE_DELTA_TICK,
             libtw2_packer::Warning::ExcessData => panic!("ExcessData arises nowhere"),
         });
     }

@@ -5,9 +5,11 @@ use super::Part;
 use super::Rounds;
 use crate::core::oracle::Number;
 use crate::core::oracle::Tally;
+use crate::core::padding::padded_at;
 use crate::core::report::Difference;
 use crate::core::report::Run;
 use crate::core::report::Shown;
+use crate::core::text::hex;
 use crate::core::told::told;
 use crate::core::told::Told;
 use cefdugar::Warnings;
@@ -16,6 +18,7 @@ use libtw2_gamenet_snap::SnapSingle;
 use libtw2_packer::with_packer;
 use libtw2_packer::IntUnpacker;
 use libtw2_packer::Unpacker;
+use libtw2_packer::Warning::NonZeroIntPadding;
 use libtw2_snapshot::format::apply_item_delta;
 use libtw2_snapshot::format::create_item_delta;
 use libtw2_snapshot::format::DeltaDifferingSizes;
@@ -24,6 +27,7 @@ use libtw2_snapshot::snap::RawBuilder;
 use libtw2_snapshot::snap::RawSnap;
 use libtw2_snapshot::Delta;
 use libtw2_snapshot::Manager;
+use libtw2_warn::Warn;
 use std::fmt::Debug;
 
 pub fn part() -> Part {
@@ -66,6 +70,7 @@ fn compare(run: &mut Run) -> Result<(), Difference> {
     let mut examples = Examples { run };
     item_deltas(&mut examples)?;
     packed_ints(&mut examples)?;
+    padded_ints(&mut examples)?;
     tables(&mut examples)?;
     warnings(&mut examples)?;
     chunks(&mut examples)?;
@@ -131,6 +136,47 @@ fn packed_ints(examples: &mut Examples) -> Result<(), Difference> {
     )
 }
 
+/// Takes only the packer's warnings.
+#[derive(Default)]
+struct Heard(Vec<libtw2_packer::Warning>);
+
+impl Warn<libtw2_packer::Warning> for Heard {
+    fn warn(&mut self, warning: libtw2_packer::Warning) {
+        self.0.push(warning);
+    }
+}
+
+/// The place of the first int of which the Rust warns that it is padded.
+fn warned_at(bytes: &[u8]) -> Option<usize> {
+    let mut unpacker = Unpacker::new(bytes);
+    loop {
+        let at = unpacker.num_bytes_read();
+        let mut heard = Heard::default();
+        unpacker.read_int(&mut heard).ok()?;
+        if heard.0.contains(&NonZeroIntPadding) {
+            return Some(at);
+        }
+    }
+}
+
+/// The Rust warns of a padded int and uses its value, so that such bytes are not
+/// compared as they are. The model finds exactly those of which the Rust warns.
+fn padded_ints(examples: &mut Examples) -> Result<(), Difference> {
+    let mut heard = Heard::default();
+    let read = Unpacker::new(&[0x80, 0x80, 0x80, 0x80, 0x10]).read_int(&mut heard);
+    let expected = (Ok(i32::MIN), vec![NonZeroIntPadding]);
+    examples.is("a padded int", (read, heard.0), expected)?;
+
+    const TELLING: [u8; 7] = [0x00, 0x0f, 0x10, 0x40, 0x80, 0x90, 0xff];
+    for len in 0..=6 {
+        for number in 0..TELLING.len().pow(len) {
+            let bytes = super::packer::numbered(number, len, &TELLING);
+            examples.is(&hex(&bytes), warned_at(&bytes), padded_at(&bytes))?;
+        }
+    }
+    Ok(())
+}
+
 /// The lines of `tablelist`, or the refusal.
 fn listed(bytes: &[u8]) -> (Told<String>, Warnings) {
     let mut tally = Tally::default();
@@ -192,11 +238,10 @@ fn tables(examples: &mut Examples) -> Result<(), Difference> {
 
 /// Warnings come through all layers, each once.
 fn warnings(examples: &mut Examples) -> Result<(), Difference> {
-    // An overlong int, a padded one that is 0, and one that is cut off.
-    let bytes = [0x80, 0x00, 0x80, 0x80, 0x80, 0x80, 0x20, 0x80];
+    // Two overlong ints, and one that is cut off.
+    let bytes = [0x80, 0x00, 0x80, 0x80, 0x80, 0x80, 0x00, 0x80];
     let mut expected = Warnings::default();
-    expected.0[Warnings::OVERLONG_INT_ENCODING] = 1;
-    expected.0[Warnings::NON_ZERO_INT_PADDING] = 1;
+    expected.0[Warnings::OVERLONG_INT_ENCODING] = 2;
     expected.0[Warnings::EXCESS_SNAP_DATA] = 1;
     let lines = "items 0 sum 0\n".to_string();
     let expected = (Told::Value(lines), expected);

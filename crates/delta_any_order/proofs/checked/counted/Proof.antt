@@ -6,9 +6,6 @@ use Rattle.delta_any_order.proofs.checked.counted.Tie as tie
 add-delta : tie.Need-add-delta
 add-delta c = search needs
 
-add-delta-2 : tie.Need-add-delta-2
-add-delta-2 c = search needs
-
 sub-delta : tie.Need-sub-delta
 sub-delta c = search needs
 
@@ -19,5 +16,4 @@ returns : tie.Need-returns
 returns c = c .delta .ensures
 
 pub counted-spec : {M : Type 1} → statement M
-counted-spec =
-    tie.close (tie.spec add-delta add-delta-2 sub-delta delta-requires returns)
+counted-spec = tie.close (tie.spec add-delta sub-delta delta-requires returns)

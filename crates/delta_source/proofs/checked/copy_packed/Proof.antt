@@ -66,8 +66,10 @@ loop-again c =
     let v = c .before .value .given in
     let z = toZ-ofZ {w = w32} {z = v .0 .0} (record { sfits = c .known-told .given .0 .1 }) in
     rw z
-    (λ i. turn-copy (source true (a .bytes .now) i) (a .start) (a .n) (a .to) (a .out .now) (l .out) (l .at) (l .i) (v .0 .1 .1 .0) (v .0 .1 .1 .1 .0) (l .inv i) (c .before .before .before .before .loop-test .taken) (c .before .before .before .before .before .before .before .pre .1)
-    (read-next (a .bytes .now) i (l .at) (read.Int (v .0 .0) (v .0 .1 .0) (v .0 .1 .1 .0) (v .0 .1 .1 .1 .0)) (c .before .before .before .read-int .ensures ∙ ap intRead (v .1))))
+    (λ i. turn-copy (source true (a .bytes .now) i) (a .start) (a .n) (a .to) (a .out .now) (l .out) (l .at) (l .i) (v .0 .1 .1 .0) (l .inv i)
+    (c .before .before .before .before .loop-test .taken) (c .before .before .before .before .before .before .before .pre .1)
+    (read-next (a .bytes .now) i (l .at) (read.Int (v .0 .0) (v .0 .1 .0) (v .0 .1 .1 .0))
+    (c .before .before .before .read-int .ensures ∙ ap intRead (v .1))))
 
 same-length-2 : tie.Need-same-length-2 Inv-loop μ-loop
 same-length-2 c = c .before .loop .inv [] .same

@@ -21,7 +21,7 @@ returns : tie.Need-returns
 returns c =
     let a = c .before .before .before .before .args in
     let e : c .before .before .num .result ≡ num (a .type-id) = c .before .before .num .ensures .0 ∙ ap num (toZ-ofZ (c .before .before .before .before .fits .type-id)) in
-    rw (c .head-refused .ensures) (type-range _ (a .sizes .now) (a .at) (a .type-id) (a .id) (a .overlong) (a .padding) (omega arith))
+    rw (c .head-refused .ensures) (type-range _ (a .sizes .now) (a .at) (a .type-id) (a .id) (a .overlong) (omega arith))
 
 num-requires-2 : tie.Need-num-requires-2
 num-requires-2 c κs = search needs
@@ -34,7 +34,7 @@ returns-2 c =
     let a = c .before .before .before .before .before .before .args in
     let e : c .before .before .before .before .num .result ≡ num (a .type-id) = c .before .before .before .before .num .ensures .0 ∙ ap num (toZ-ofZ (c .before .before .before .before .before .before .fits .type-id)) in
     let f : c .before .before .num2 .result ≡ num (a .id) = c .before .before .num2 .ensures .0 ∙ ap num (toZ-ofZ (c .before .before .before .before .before .before .fits .id)) in
-    rw (c .head-refused2 .ensures) (id-range _ (a .sizes .now) (a .at) (a .type-id) (a .id) (a .overlong) (a .padding) (omega arith) (omega arith))
+    rw (c .head-refused2 .ensures) (id-range _ (a .sizes .now) (a .at) (a .type-id) (a .id) (a .overlong) (omega arith) (omega arith))
 
 cast-key : tie.Need-cast-key
 cast-key c = search needs
@@ -57,7 +57,8 @@ returns-3 c =
     let e : c .before .before .before .before .before .before .before .num .result ≡ num (a .type-id) = c .before .before .before .before .before .before .before .num .ensures .0 ∙ ap num (toZ-ofZ (c .before .before .before .before .before .before .before .before .before .fits .type-id)) in
     let f : c .before .before .before .before .before .num2 .result ≡ num (a .id) = c .before .before .before .before .before .num2 .ensures .0 ∙ ap num (toZ-ofZ (c .before .before .before .before .before .before .before .before .before .fits .id)) in
     let z = toZ-ofZ {w = w32} {z = c .before .before .before .key .result} (record { sfits = c .before .before .before .key .ok }) in
-    size-unknown (source (a .packed) (a .bytes .now) (a .ints .now)) (a .sizes .now) (a .at) (a .type-id) (a .id) (a .overlong) (a .padding) (omega arith) (omega arith) (c .before .before .before .key .result) (c .before .before .known-size .result)
+    size-unknown (source (a .packed) (a .bytes .now) (a .ints .now)) (a .sizes .now) (a .at) (a .type-id) (a .id) (a .overlong) (omega arith) (omega arith)
+    (c .before .before .before .key .result) (c .before .before .known-size .result)
     (c .before .before .before .key .ensures ∙ ap₂ keyOf e f) (ap (knownSize (a .sizes .now)) (sym e) ∙ c .before .before .known-size .ensures .0) (c .before .if3 .taken) (rw z at (c .read-size .ensures))
 
 returns-4 : tie.Need-returns-4
@@ -66,7 +67,7 @@ returns-4 c =
     let e : c .before .before .before .before .before .before .num .result ≡ num (a .type-id) = c .before .before .before .before .before .before .num .ensures .0 ∙ ap num (toZ-ofZ (c .before .before .before .before .before .before .before .before .fits .type-id)) in
     let f : c .before .before .before .before .num2 .result ≡ num (a .id) = c .before .before .before .before .num2 .ensures .0 ∙ ap num (toZ-ofZ (c .before .before .before .before .before .before .before .before .fits .id)) in
     rw (toZ-ofZ (record { sfits = c .before .before .key .ok }))
-    (size-known _ (a .sizes .now) (a .at) (a .type-id) (a .id) (a .overlong) (a .padding) (omega arith) (omega arith)
+    (size-known _ (a .sizes .now) (a .at) (a .type-id) (a .id) (a .overlong) (omega arith) (omega arith)
     (c .before .before .key .ensures ∙ ap₂ keyOf e f) (ap (knownSize (a .sizes .now)) (sym e) ∙ c .before .known-size .ensures .0) (c .if3 .left) (c .before .before .before .before .before .before .before .before .pre .0))
 
 pub judge-head-spec : {M : Type 1} → statement M

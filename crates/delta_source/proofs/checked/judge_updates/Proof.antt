@@ -1,13 +1,15 @@
 -- `checked::judge_updates` meets its contract. The loop's invariant: those walked so far, followed by what is left, are the whole. Assumes nothing.
 use borrow.Author.Needs.{needs}
-use mathlib.Core.Path.{sym, _∙_}
-use Prim.Native.Nat.{_-_, _^_}
+use mathlib.Core.Path.{_≡_, sym, _∙_}
+use mathlib.Core.Bool.{false}
+use Prim.Native.Nat.{_-_, _<_, _^_}
 use native.Mathlib.Omega.{arith}
 use borrow.Author.Tests.{not-true, not-false}
-use Rattle.delta_source.specs.Source.{source, size, Updates}
+use Rattle.definitions.specs.DeltaReading.{isEnd}
+use Rattle.delta_source.specs.Source.{Source, source, size, from, Updates}
 use Rattle.delta_source.specs.SourceLaws.{size-below}
 use Rattle.delta_source.specs.declared.checked.Update.the-variants as update
-use Rattle.delta_source.proofs.Judging.{Judging, start-judging, turn-judging, all-judged, one-refused, refused-sums, update-sums, update-on}
+use Rattle.delta_source.proofs.Judging.{Judging, start-judging, turn-judging, all-judged, one-refused, refused-sum, update-sums, update-on}
 use Rattle.delta_source.proofs.checked.judge_updates.Statement.{statement}
 use Rattle.delta_source.proofs.checked.judge_updates.Tie as tie
 
@@ -17,12 +19,31 @@ Inv-loop bytes ints packed sizes at here₀ t₀ here t = Judging (source packed
 abbrev μ-loop : tie.MeasureT-loop
 μ-loop bytes ints packed sizes at here₀ t₀ here t = size (source packed bytes ints) - here
 
+abbrev src : tie.Start Inv-loop μ-loop → Source
+src c = source (c .args .packed) (c .args .bytes .now) (c .args .ints .now)
+
+small : (c : tie.Start Inv-loop μ-loop) → size (src c) < 2 ^ 63
+small c = size-below (c .args .packed) (c .args .bytes .now) (c .args .ints .now) (2 ^ 63) (omega (arith, c .good .0 .1)) (omega (arith, c .good .1 .0 .1))
+
+-- something is left
+more : (c : tie.Then1 Inv-loop μ-loop) → isEnd (from (src (c .before .before .before .before)) (c .before .before .loop .here)) ≡ false
+more c = sym (c .before .at-end .ensures) ∙ not-true _ (c .if1 .taken)
+
 -- the update that was read
-told : (c : tie.After-size Inv-loop μ-loop) → Updates (source (c .before .before .before .before .before .before .before .args .packed) (c .before .before .before .before .before .before .before .args .bytes .now) (c .before .before .before .before .before .before .before .args .ints .now)) (c .before .before .before .before .before .before .before .args .sizes .now) (c .before .before .before .before .before .loop .here) (update.Update (c .size .given .0 .0) (c .size .given .0 .1 .0) (c .size .given .0 .1 .1 .0) (c .size .given .0 .1 .1 .1 .0) (c .size .given .0 .1 .1 .1 .1 .0) (c .size .given .0 .1 .1 .1 .1 .1 .0))
+told :
+    (c : tie.After-size Inv-loop μ-loop) →
+    let s = c .before .before .before .before .before .before .before in
+    let v = c .size .given .0 in
+    Updates (src s) (s .args .sizes .now) (c .before .before .before .before .before .loop .here)
+    (update.Update (v .0) (v .1 .0) (v .1 .1 .0) (v .1 .1 .1 .0) (v .1 .1 .1 .1 .0))
 told c = rw (c .size .given .1) at (c .before .before .read-update .ensures)
 
 -- why there is none
-refusal : (c : tie.After-error Inv-loop μ-loop) → Updates (source (c .before .before .before .before .before .before .before .args .packed) (c .before .before .before .before .before .before .before .args .bytes .now) (c .before .before .before .before .before .before .before .args .ints .now)) (c .before .before .before .before .before .before .before .args .sizes .now) (c .before .before .before .before .before .loop .here) (update.Refused (c .error .given .0 .0) (c .error .given .0 .1 .0) (c .error .given .0 .1 .1 .0))
+refusal :
+    (c : tie.After-error Inv-loop μ-loop) →
+    let s = c .before .before .before .before .before .before .before in
+    let v = c .error .given .0 in
+    Updates (src s) (s .args .sizes .now) (c .before .before .before .before .before .loop .here) (update.Refused (v .0) (v .1 .0))
 refusal c = rw (c .error .given .1) at (c .before .before .read-update .ensures)
 
 loop-holds : tie.Need-loop-holds Inv-loop μ-loop
@@ -37,38 +58,53 @@ read-update-requires c κs = c .before .before .loop .inv .inside
 enum-known-error : tie.Need-enum-known-error Inv-loop μ-loop
 enum-known-error c = search needs
 
-add-t19 : tie.Need-add-t19 Inv-loop μ-loop
-add-t19 c = let m = refused-sums _ _ _ (c .before .before .before .before .before .before .before .loop .inv) (refusal (c .before .before)) in let z = size-below (c .before .before .before .before .before .before .before .before .before .args .packed) (c .before .before .before .before .before .before .before .before .before .args .bytes .now) (c .before .before .before .before .before .before .before .before .before .args .ints .now) (2 ^ 63) (omega (arith, c .before .before .before .before .before .before .before .before .before .good .0 .1)) (omega (arith, c .before .before .before .before .before .before .before .before .before .good .1 .0 .1)) in omega (arith, m .0)
-
-add-t20 : tie.Need-add-t20 Inv-loop μ-loop
-add-t20 c = let m = refused-sums _ _ _ (c .before .before .before .before .before .before .before .before .loop .inv) (refusal (c .before .before .before)) in let z = size-below (c .before .before .before .before .before .before .before .before .before .before .args .packed) (c .before .before .before .before .before .before .before .before .before .before .args .bytes .now) (c .before .before .before .before .before .before .before .before .before .before .args .ints .now) (2 ^ 63) (omega (arith, c .before .before .before .before .before .before .before .before .before .before .good .0 .1)) (omega (arith, c .before .before .before .before .before .before .before .before .before .before .good .1 .0 .1)) in omega (arith, m .1)
+add-t17 : tie.Need-add-t17 Inv-loop μ-loop
+add-t17 c =
+    let m = refused-sum _ _ _ (c .before .before .before .before .before .before .before .loop .inv) (refusal (c .before .before)) in
+    omega (arith, small (c .before .before .before .before .before .before .before .before .before))
 
 returns : tie.Need-returns Inv-loop μ-loop
-returns c = one-refused _ (c .before .before .before .before .before .before .before .before .before .before .args .sizes .now) (c .before .before .before .before .before .before .before .before .before .before .args .at) (c .before .before .before .before .before .before .before .before .loop .inv) (sym (c .before .before .before .before .before .before .before .at-end .ensures) ∙ not-true _ (c .before .before .before .before .before .before .if1 .taken)) (refusal (c .before .before .before))
+returns c =
+    let s = c .before .before .before .before .before .before .before .before .before in
+    one-refused (src s) (s .args .sizes .now) (s .args .at) (c .before .before .before .before .before .before .before .loop .inv)
+    (more (c .before .before .before .before .before)) (refusal (c .before .before))
 
 enum-known-size : tie.Need-enum-known-size Inv-loop μ-loop
 enum-known-size c = search needs
 
 add-t : tie.Need-add-t Inv-loop μ-loop
-add-t c = let z = size-below (c .before .before .before .before .before .before .before .before .before .args .packed) (c .before .before .before .before .before .before .before .before .before .args .bytes .now) (c .before .before .before .before .before .before .before .before .before .args .ints .now) (2 ^ 63) (omega (arith, c .before .before .before .before .before .before .before .before .before .good .0 .1)) (omega (arith, c .before .before .before .before .before .before .before .before .before .good .1 .0 .1)) in omega (arith, c .before .before .before .before .before .before .before .loop .inv .few-updates, c .before .before .before .before .before .before .before .loop .inv .inside)
+add-t c =
+    let i = c .before .before .before .before .before .before .before .loop .inv in
+    omega (arith, i .few-updates, i .inside, small (c .before .before .before .before .before .before .before .before .before))
 
 add-t-2 : tie.Need-add-t-2 Inv-loop μ-loop
-add-t-2 c = let m = update-sums _ _ _ (c .before .before .before .before .before .before .before .loop .inv) (told (c .before .before)) in let z = size-below (c .before .before .before .before .before .before .before .before .before .args .packed) (c .before .before .before .before .before .before .before .before .before .args .bytes .now) (c .before .before .before .before .before .before .before .before .before .args .ints .now) (2 ^ 63) (omega (arith, c .before .before .before .before .before .before .before .before .before .good .0 .1)) (omega (arith, c .before .before .before .before .before .before .before .before .before .good .1 .0 .1)) in omega (arith, m .2)
+add-t-2 c =
+    let m = update-sums _ _ _ (c .before .before .before .before .before .before .before .loop .inv) (told (c .before .before)) in
+    omega (arith, m .1, small (c .before .before .before .before .before .before .before .before .before))
 
 add-t-3 : tie.Need-add-t-3 Inv-loop μ-loop
-add-t-3 c = let m = update-sums _ _ _ (c .before .before .before .before .before .before .before .before .loop .inv) (told (c .before .before .before)) in let z = size-below (c .before .before .before .before .before .before .before .before .before .before .args .packed) (c .before .before .before .before .before .before .before .before .before .before .args .bytes .now) (c .before .before .before .before .before .before .before .before .before .before .args .ints .now) (2 ^ 63) (omega (arith, c .before .before .before .before .before .before .before .before .before .before .good .0 .1)) (omega (arith, c .before .before .before .before .before .before .before .before .before .before .good .1 .0 .1)) in omega (arith, m .2)
+add-t-3 c =
+    let m = update-sums _ _ _ (c .before .before .before .before .before .before .before .before .loop .inv) (told (c .before .before .before)) in
+    omega (arith, m .1, small (c .before .before .before .before .before .before .before .before .before .before))
 
 add-t-4 : tie.Need-add-t-4 Inv-loop μ-loop
-add-t-4 c = let m = update-sums _ _ _ (c .before .before .before .before .before .before .before .before .before .loop .inv) (told (c .before .before .before .before)) in let z = size-below (c .before .before .before .before .before .before .before .before .before .before .before .args .packed) (c .before .before .before .before .before .before .before .before .before .before .before .args .bytes .now) (c .before .before .before .before .before .before .before .before .before .before .before .args .ints .now) (2 ^ 63) (omega (arith, c .before .before .before .before .before .before .before .before .before .before .before .good .0 .1)) (omega (arith, c .before .before .before .before .before .before .before .before .before .before .before .good .1 .0 .1)) in omega (arith, m .0)
-
-add-t-5 : tie.Need-add-t-5 Inv-loop μ-loop
-add-t-5 c = let m = update-sums _ _ _ (c .before .before .before .before .before .before .before .before .before .before .loop .inv) (told (c .before .before .before .before .before)) in let z = size-below (c .before .before .before .before .before .before .before .before .before .before .before .before .args .packed) (c .before .before .before .before .before .before .before .before .before .before .before .before .args .bytes .now) (c .before .before .before .before .before .before .before .before .before .before .before .before .args .ints .now) (2 ^ 63) (omega (arith, c .before .before .before .before .before .before .before .before .before .before .before .before .good .0 .1)) (omega (arith, c .before .before .before .before .before .before .before .before .before .before .before .before .good .1 .0 .1)) in omega (arith, m .1)
+add-t-4 c =
+    let m = update-sums _ _ _ (c .before .before .before .before .before .before .before .before .before .loop .inv) (told (c .before .before .before .before)) in
+    omega (arith, m .0, small (c .before .before .before .before .before .before .before .before .before .before .before))
 
 loop-less : tie.Need-loop-less Inv-loop μ-loop
-loop-less c = let n = turn-judging _ _ _ (c .before .before .before .before .before .before .before .before .before .before .loop .inv) (sym (c .before .before .before .before .before .before .before .before .before .at-end .ensures) ∙ not-true _ (c .before .before .before .before .before .before .before .before .if1 .taken)) (told (c .before .before .before .before .before)) in omega (arith, update-on (told (c .before .before .before .before .before)), n .inside)
+loop-less c =
+    let u = told (c .before .before .before .before) in
+    let i = c .before .before .before .before .before .before .before .before .before .loop .inv in
+    let n = turn-judging _ _ _ i (more (c .before .before .before .before .before .before .before)) u in
+    omega (arith, update-on u, n .inside)
 
 loop-again : tie.Need-loop-again Inv-loop μ-loop
-loop-again c = turn-judging _ (c .before .before .before .before .before .before .before .before .before .before .before .before .args .sizes .now) (c .before .before .before .before .before .before .before .before .before .before .before .before .args .at) (c .before .before .before .before .before .before .before .before .before .before .loop .inv) (sym (c .before .before .before .before .before .before .before .before .before .at-end .ensures) ∙ not-true _ (c .before .before .before .before .before .before .before .before .if1 .taken)) (told (c .before .before .before .before .before))
+loop-again c =
+    let s = c .before .before .before .before .before .before .before .before .before .before .before in
+    let i = c .before .before .before .before .before .before .before .before .before .loop .inv in
+    turn-judging (src s) (s .args .sizes .now) (s .args .at) i (more (c .before .before .before .before .before .before .before))
+    (told (c .before .before .before .before))
 
 returns-2 : tie.Need-returns-2 Inv-loop μ-loop
 returns-2 c = all-judged _ (c .before .before .before .before .args .sizes .now) (c .before .before .before .before .args .at) (c .before .before .loop .inv) (sym (c .before .at-end .ensures) ∙ not-false _ (c .if1 .left))
@@ -83,15 +119,13 @@ judge-updates-spec =
     at-end-requires
     read-update-requires
     enum-known-error
-    add-t19
-    add-t20
+    add-t17
     returns
     enum-known-size
     add-t
     add-t-2
     add-t-3
     add-t-4
-    add-t-5
     loop-less
     loop-again
     returns-2)

@@ -6,44 +6,43 @@ use native.Mathlib.Omega.{arith}
 use mir.Syntax.{w32}
 use mir.Facts.{toZ-ofZ}
 use Rattle.definitions.specs.Ints.{bits}
+use Rattle.definitions.specs.Refusals.{itemDiffsUnpacking}
 use Rattle.definitions.specs.Tables.{num}
 use Rattle.laws.specs.Tests.{at-most-one}
-use Rattle.delta_source.proofs.Reading.{size-end, size-negative, size-read}
+use Rattle.delta_source.proofs.Nexts.{missing-as}
+use Rattle.delta_source.proofs.Reading.{no-size, size-negative, size-read}
 use Rattle.delta_source.proofs.checked.read_size.Statement.{statement}
 use Rattle.delta_source.proofs.checked.read_size.Tie as tie
 
 next-int-requires : tie.Need-next-int-requires
 next-int-requires c κs = search needs
 
-enum-known-value : tie.Need-enum-known-value
-enum-known-value c = search needs
+enum-known-read : tie.Need-enum-known-read
+enum-known-read c = search needs
 
 enum-told : tie.Need-enum-told
 enum-told c = search needs
+
+missing-requires : tie.Need-missing-requires
+missing-requires c κs = search needs
 
 head-refused-requires : tie.Need-head-refused-requires
 head-refused-requires c κs = search needs
 
 returns : tie.Need-returns
 returns c =
-    let a = c .before .before .before .before .before .args in
-    rw (c .head-refused .ensures) (size-end _ (a .at) (bits (a .key)) (a .overlong) (a .padding) (rw (c .before .enum-told .given .1) at (c .before .before .before .next-int .ensures)))
+    let a = c .before .before .before .before .before .before .args in
+    let e = c .before .before .enum-told .given .1 in
+    rw (c .head-refused .ensures)
+    (no-size _ (a .at) (bits (a .key)) (a .overlong) _ (rw e at (c .before .before .before .before .next-int .ensures)) (missing-as itemDiffsUnpacking (c .before .missing .ensures) e))
 
 one-if-requires : tie.Need-one-if-requires
 one-if-requires c κs = search needs
 
 add-overlong : tie.Need-add-overlong
 add-overlong c =
-    let o : c .one-if .result ≤ 1 = rw (c .one-if .ensures) (at-most-one (c .before .before .value .given .0 .1 .1 .0)) in
+    let o : c .one-if .result ≤ 1 = rw (c .one-if .ensures) (at-most-one (c .before .before .read .given .0 .1 .1 .0)) in
     omega (arith, c .before .before .before .before .before .before .pre .1)
-
-one-if-requires-2 : tie.Need-one-if-requires-2
-one-if-requires-2 c κs = search needs
-
-add-padding : tie.Need-add-padding
-add-padding c =
-    let o : c .one-if2 .result ≤ 1 = rw (c .one-if2 .ensures) (at-most-one (c .before .before .before .value .given .0 .1 .1 .1 .0)) in
-    omega (arith, c .before .before .before .before .before .before .before .pre .2)
 
 num-requires : tie.Need-num-requires
 num-requires c κs = search needs
@@ -53,37 +52,38 @@ head-refused-requires-2 c κs = search needs
 
 returns-2 : tie.Need-returns-2
 returns-2 c =
-    let a = c .before .before .before .before .before .before .before .before .before .before .args in
-    let v = c .before .before .before .before .before .before .value .given in
-    let f = c .before .before .before .before .before .known-told .given .0 .1 in
+    let a = c .before .before .before .before .before .before .before .before .before .args in
+    let v = c .before .before .before .before .before .read .given in
+    let f = c .before .before .before .before .known-told .given .0 .1 in
     let e : c .before .before .num .result ≡ num (v .0 .0) = c .before .before .num .ensures .0 ∙ ap num (toZ-ofZ {w = w32} {z = v .0 .0} (record { sfits = f })) in
     let h : 4294967296 ≤ num (v .0 .0) = omega arith in
-    rw (c .head-refused2 .ensures, c .before .before .before .before .one-if .ensures, c .before .before .before .one-if2 .ensures)
-    (size-negative _ (a .at) (bits (a .key)) (a .overlong) (a .padding) (v .0 .1 .1 .0) (v .0 .1 .1 .1 .0) (rw (v .1) at (c .before .before .before .before .before .before .before .before .next-int .ensures)) f h)
+    rw (c .head-refused2 .ensures, c .before .before .before .one-if .ensures)
+    (size-negative _ (a .at) (bits (a .key)) (a .overlong) (v .0 .1 .1 .0)
+    (rw (v .1) at (c .before .before .before .before .before .before .before .next-int .ensures)) f h)
 
 returns-3 : tie.Need-returns-3
 returns-3 c =
-    let a = c .before .before .before .before .before .before .before .before .before .args in
-    let v = c .before .before .before .before .before .value .given in
-    let f = c .before .before .before .before .known-told .given .0 .1 in
+    let a = c .before .before .before .before .before .before .before .before .args in
+    let v = c .before .before .before .before .read .given in
+    let f = c .before .before .before .known-told .given .0 .1 in
     let e : c .before .num .result ≡ num (v .0 .0) = c .before .num .ensures .0 ∙ ap num (toZ-ofZ {w = w32} {z = v .0 .0} (record { sfits = f })) in
     let h : num (v .0 .0) < 4294967296 = omega arith in
-    rw (toZ-ofZ (c .before .before .before .before .before .before .before .before .before .fits .key), e, c .before .before .before .one-if .ensures, c .before .before .one-if2 .ensures)
-    (size-read _ (a .at) (bits (a .key)) (a .overlong) (a .padding) (v .0 .1 .1 .0) (v .0 .1 .1 .1 .0) refl (rw (v .1) at (c .before .before .before .before .before .before .before .next-int .ensures)) h)
+    rw (toZ-ofZ (c .before .before .before .before .before .before .before .before .fits .key), e, c .before .before .one-if .ensures)
+    (size-read _ (a .at) (bits (a .key)) (a .overlong) (v .0 .1 .1 .0) refl
+    (rw (v .1) at (c .before .before .before .before .before .before .next-int .ensures)) h)
 
 pub read-size-spec : {M : Type 1} → statement M
 read-size-spec =
     tie.close
     (tie.spec
     next-int-requires
-    enum-known-value
+    enum-known-read
     enum-told
+    missing-requires
     head-refused-requires
     returns
     one-if-requires
     add-overlong
-    one-if-requires-2
-    add-padding
     num-requires
     head-refused-requires-2
     returns-2

@@ -20,10 +20,10 @@ sub-if2 c = rw (c .if1 .left) at (c .before .before .pre)
 returns-2 : tie.Need-returns-2
 returns-2 c =
     let a = c .before .before .before .args in
-    rw (c .before .if1 .left) (skip-too-few (a .bytes .now) (a .ints .now) (a .at) (a .n) (c .if2 .taken))
+    rw (c .before .if1 .left) (skip-too-few (a .bytes .now) (a .ints .now) (a .at) (a .n) (a .error) (c .if2 .taken))
 
-add-t7 : tie.Need-add-t7
-add-t7 c =
+add-t8 : tie.Need-add-t8
+add-t8 c =
     let h : c .before .before .before .args .at ≤ length (c .before .before .before .args .ints .now) = rw (c .before .if1 .left) at (c .before .before .before .pre) in
     omega arith
 
@@ -35,4 +35,4 @@ returns-3 c =
 
 pub skip-ints-spec : {M : Type 1} → statement M
 skip-ints-spec =
-    tie.close (tie.spec skip-packed-requires returns sub-if2 returns-2 add-t7 returns-3)
+    tie.close (tie.spec skip-packed-requires returns sub-if2 returns-2 add-t8 returns-3)

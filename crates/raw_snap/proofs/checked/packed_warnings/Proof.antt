@@ -28,7 +28,7 @@ returns : tie.Need-returns
 returns c =
     let i = c .before in
     let a = i .before .before .args in
-    (rw (i .before .one-if .ensures, i .one-if2 .ensures) at (c .table .ensures)) ∙ all-counts (a .all .overlong) (a .all .padding) (a .all .cut) (a .more) (a .kinds)
+    (rw (i .before .one-if .ensures, i .one-if2 .ensures) at (c .table .ensures)) ∙ all-counts (a .all .overlong) (a .all .cut) (a .more) (a .kinds)
 
 pub packed-warnings-spec : {M : Type 1} → statement M
 packed-warnings-spec =

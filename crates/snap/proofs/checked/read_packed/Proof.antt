@@ -1,14 +1,10 @@
 -- `checked::read_packed` meets its contract: by what was unpacked. Assumes nothing.
-use mathlib.Core.Path.{sym, _∙_}
+use mathlib.Core.Path.{sym}
 use lib.ListN.{length}
 use lib.Seq.{length-take-le}
 use denote.Ref.{now}
-use Rattle.definitions.specs.Outcome.{_>>=_}
-use Rattle.definitions.specs.TableReading.{readPacked}
 use Rattle.definitions.specs.Types.{typed}
-use Rattle.laws.specs.OutcomeLaws.{after-bind}
-use Rattle.table_reading.specs.Counted.{answered}
-use Rattle.raw_snap.specs.Unpacking.{Unpacks, refused-unpacked, read-unpacked}
+use Rattle.raw_snap.specs.Unpacking.{Unpacks, read-unpacked}
 use borrow.Author.Needs.{needs}
 use Rattle.snap.proofs.checked.read_packed.Statement.{statement}
 use Rattle.snap.proofs.checked.read_packed.Tie as tie
@@ -22,9 +18,6 @@ unpack-requires c κs = search needs
 
 enum-known-unpacked : tie.Need-enum-known-unpacked
 enum-known-unpacked c = search needs
-
-refused-requires : tie.Need-refused-requires
-refused-requires c κs = search needs
 
 enum-known-unpacked-2 : tie.Need-enum-known-unpacked-2
 enum-known-unpacked-2 c = search needs
@@ -46,10 +39,8 @@ same-length c = search needs
 
 returns : tie.Need-returns
 returns c =
-    let a = c .before .before .before .before .before .before .before .before .args in
-    let u = rw (c .before .before .unpacked .given .1) at (c .before .before .before .before .before .unpack .ensures) in
-    refused-unpacked (now (a .src)) (length (now (a .scratch))) _ (readPacked (now (a .src)) >>= typed) (now (a .out)) (u (readPacked (now (a .src)) >>= typed))
-    ∙ answered _ (c .refused .ensures)
+    let u = rw (c .before .unpacked .given .1) at (c .before .before .before .before .unpack .ensures) in
+    u typed (now (c .before .before .before .before .before .before .before .args .out))
 
 same-length-2 : tie.Need-same-length-2
 same-length-2 c = search needs
@@ -63,7 +54,7 @@ returns-2 c =
     let a = k .before .before .before .before .before .before .args in
     let t = k .unpacked2 .given .0 .0 in
     let r = c .before .before .read-typed in
-    read-unpacked (λ o. o >>= typed) (λ w o. after-bind w o typed) (now (a .src)) (length (now (a .scratch))) _ t (now (a .out)) _ (r .result .answer) _ _ (unpacks k)
+    read-unpacked typed (now (a .src)) (length (now (a .scratch))) _ t (now (a .out)) _ (r .result .answer) _ _ (unpacks k)
     (r .ensures) (c .packed-warnings .ensures)
 
 pub read-packed-spec : {M : Type 1} → statement M
@@ -72,7 +63,6 @@ read-packed-spec =
     (tie.spec
     unpack-requires
     enum-known-unpacked
-    refused-requires
     enum-known-unpacked-2
     slice-reshare-prefix-read-typed
     slice-aggregate-read-typed

@@ -3,7 +3,6 @@
 use super::oracle::known_size;
 use crate::core::random::Random;
 use crate::core::shrink::Shrink;
-use crate::parts::packer::packed;
 use crate::parts::tables;
 use crate::parts::tables::oracle::parts;
 use crate::parts::tables::oracle::Item;
@@ -139,28 +138,6 @@ pub fn sent(deleted: &[i32], updated: &[Item], sizes: &[i32]) -> Vec<i32> {
         ints.extend(data);
     }
     ints
-}
-
-/// Packed ints, sometimes overlong or with padding bits.
-pub fn loose(ints: &[i32], random: &mut Random) -> Vec<u8> {
-    let mut bytes = vec![];
-    for &int in ints {
-        let mut int = packed(&[int]);
-        if random.chance(1, 3) {
-            let len = random.between(int.len(), 5);
-            let last = int.len() - 1;
-            if last + 1 < len {
-                int[last] |= 0x80;
-                int.resize(len - 1, 0x80);
-                int.push(0);
-            }
-            if len == 5 && random.chance(1, 2) {
-                int[4] |= random.byte() & 0xf0;
-            }
-        }
-        bytes.extend(int);
-    }
-    bytes
 }
 
 /// The lengths of updates by their types, in a list of `len` types; all others

@@ -1,9 +1,12 @@
 //! The Rust's answers on deltas, or those of docs/FORMAT.md if the Rust has no
-//! such call: an area in form is one that begins with ints which the Rust
-//! reads as a delta and would write unchanged.
+//! such call or another rule: an area in form is one that begins with ints which
+//! the Rust reads as a delta and would write unchanged, and a padded int is
+//! refused where an end inside it would be.
 
 use crate::core::oracle::Number;
 use crate::core::oracle::Tally;
+use crate::core::padding::cut_inside;
+use crate::core::text::hex_short;
 use crate::core::told::told;
 use crate::core::told::Told;
 use crate::parts::tables;
@@ -165,6 +168,27 @@ pub fn read(src: &[u8], sizes: &[i32], scratch: usize) -> (Told<Read>, Warnings)
     if src.len() > table::INPUT {
         return (Told::Refused(42), Warnings::default());
     }
+    let Some(cut) = cut_inside(src) else {
+        return rust_read(src, sizes);
+    };
+    match rust_read(cut, sizes) {
+        (Told::Refused(number), warnings) => (Told::Refused(if_padded(number)), warnings),
+        said => panic!("{} ends inside an int: {said:?}", hex_short(cut)),
+    }
+}
+
+/// The refusal of a delta with a padded int, by the Rust's refusal of the delta
+/// that ends inside that int: 52 for the refusals of an end (1, 3, 4), and any
+/// other as it is, for what is wrong before.
+pub fn if_padded(number: u32) -> u32 {
+    match number {
+        1 | 3 | 4 => 52,
+        number => number,
+    }
+}
+
+/// What the Rust reads of bytes without a padded int.
+fn rust_read(src: &[u8], sizes: &[i32]) -> (Told<Read>, Warnings) {
     read_any(
         sizes,
         || ints_in(src),

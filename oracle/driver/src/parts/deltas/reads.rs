@@ -10,8 +10,11 @@ use crate::core::random::Random;
 use crate::core::report::Length;
 use crate::core::report::Run;
 use crate::core::told::Told;
+use crate::parts::packer::loose;
 use crate::parts::packer::numbered;
 use crate::parts::packer::packed;
+use crate::parts::packer::with_five_bytes;
+use crate::parts::packer::with_twice_five_bytes;
 use crate::parts::tables;
 use crate::parts::tables::inputs::KEYS;
 use crate::parts::tables::oracle::parts;
@@ -37,6 +40,8 @@ fn both(run: &mut Run, calls: &mut Calls, ints: &[i32], sizes: &[i32]) -> Result
 pub fn fixed(run: &mut Run, calls: &mut Calls) -> Result {
     short_lists(run, calls)?;
     short_strings(run, calls)?;
+    five_bytes(run, calls)?;
+    padded_deltas(run, calls)?;
     few_updates(run, calls)?;
     few_keys(run, calls)?;
     cut(run, calls)?;
@@ -76,6 +81,59 @@ fn short_strings(run: &mut Run, calls: &mut Calls) -> Result {
             calls.read(run, &src, &[], SCRATCH)?;
             src.splice(0..0, [1, 1, 0]);
             calls.read(run, &src, &[0, 1], SCRATCH)?;
+        }
+    }
+    Ok(())
+}
+
+/// All strings of up to five ints over a small alphabet with an overlong int and
+/// padded ones (six in a full run), with and without a header before them.
+fn five_bytes(run: &mut Run, calls: &mut Calls) -> Result {
+    const TELLING: [&[u8]; 6] = [
+        &[0x00],
+        &[0x01],
+        &[0x40],
+        &[0x80, 0x80, 0x80, 0x80, 0x00],
+        &[0x80, 0x80, 0x80, 0x80, 0x10],
+        &[0xff, 0xff, 0xff, 0xff, 0x1f],
+    ];
+    let most = match run.length {
+        Length::Quick => 5,
+        Length::Full => 6,
+    };
+    for len in 0..=most {
+        for number in 0..TELLING.len().pow(len) {
+            let mut src = numbered(number, len, &TELLING).concat();
+            calls.read(run, &src, &[], SCRATCH)?;
+            src.splice(0..0, [1, 1, 0]);
+            calls.read(run, &src, &[], SCRATCH)?;
+            calls.read(run, &src, &[0, 1], SCRATCH)?;
+        }
+    }
+    Ok(())
+}
+
+/// Whole deltas with ints of five bytes in every two places, also behind the last
+/// update, with sizes unknown and known; types and ids out of range before a
+/// padded int; updates of keys that are repeated and deleted.
+fn padded_deltas(run: &mut Run, calls: &mut Calls) -> Result {
+    let updated = updates(&[65_538, 9, 65_538], &[1, 0, 2]);
+    let deltas: [&[i32]; 7] = [
+        &[0, 0, 0],
+        &[1, 1, 7, 65_538, 1, 2, 1, 5],
+        &[2, 1, 0, 9, 9, 0, 9, 0],
+        &[0, 1, 0, 65_536, 3, 0],
+        &[0, 1, 0, 3, -1, 0],
+        &[0, 1, 0, 3, 3, -1],
+        &inputs::listed(&[9, 65_538, 9], &updated),
+    ];
+    for ints in deltas {
+        let mut all = with_five_bytes(ints);
+        all.extend(with_twice_five_bytes(ints));
+        for src in &all {
+            for sizes in [&[][..], &[0, 1], &[-1, 2]] {
+                calls.read(run, src, sizes, SCRATCH)?;
+            }
         }
     }
     Ok(())
@@ -154,7 +212,7 @@ fn cut(run: &mut Run, calls: &mut Calls) -> Result {
         }
         let mut random = run.random(u64::MAX);
         for _ in 0..8 {
-            let src = inputs::loose(&ints, &mut random);
+            let src = loose(&ints, &mut random);
             for len in 0..=src.len() {
                 calls.read(run, &src[..len], &[], SCRATCH)?;
             }
@@ -226,9 +284,12 @@ fn lengths(run: &mut Run, calls: &mut Calls) -> Result {
         let ints = vec![0; len];
         calls.read_ints(run, &ints, &[], SCRATCH)?;
         calls.read_ints(run, &ints, &[], SCRATCH - 1)?;
-        let src = vec![0; len];
-        for scratch in [len, len - 1] {
-            calls.read(run, &src, &[], scratch)?;
+        let mut padded = vec![0; len];
+        padded[len - 5..].copy_from_slice(&[0x80, 0x80, 0x80, 0x80, 0x10]);
+        for src in [vec![0; len], padded, vec![0xff; len]] {
+            for scratch in [len, len - 1] {
+                calls.read(run, &src, &[], scratch)?;
+            }
         }
     }
     Ok(())
@@ -301,7 +362,7 @@ pub fn random(run: &mut Run, calls: &mut Calls, random: &mut Random) -> Result {
         let sizes = inputs::sizes(&updated, random);
         let mut ints = inputs::sent(&deleted, &updated, &sizes);
         both(run, calls, &ints, &sizes)?;
-        let src = inputs::loose(&ints, random);
+        let src = loose(&ints, random);
         calls.read(run, &src, &sizes, enough(&src))?;
         for _ in 0..random.between(1, 2) {
             damage(&mut ints, random);

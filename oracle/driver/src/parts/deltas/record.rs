@@ -8,7 +8,7 @@
 //!     b ROOM LEN INT.. INT..   COUNT HEX, or refused NUMBER (the same, packed)
 //!     r ROOM LEN INT.. INT..   COUNT WARNINGS INT.., or refused NUMBER
 //!                              WARNINGS (LEN known sizes, ints that are
-//!                              read; of the warnings the seven counts that
+//!                              read; of the warnings the six counts that
 //!                              reading can give, in their order)
 //!     p ROOM LEN INT.. HEX     the same for packed ints
 //!     m ROOM HAS LEN INT.. INT..  COUNT INT.., or refused NUMBER (whether
@@ -24,7 +24,9 @@ use crate::core::random::Random;
 use crate::core::record::Record;
 use crate::core::text::hex;
 use crate::core::told::Told;
+use crate::parts::packer::loose;
 use crate::parts::packer::packed;
+use crate::parts::packer::with_five_bytes;
 use crate::parts::tables;
 use crate::parts::tables::inputs::KEYS;
 use crate::parts::tables::oracle::Item;
@@ -100,9 +102,8 @@ fn write(record: &mut Record, area: &[i32], sizes: &[i32], spare: isize) {
 }
 
 /// The kinds of warning that reading can give.
-const READ_WARNINGS: [usize; 7] = [
+const READ_WARNINGS: [usize; 6] = [
     Warnings::OVERLONG_INT_ENCODING,
-    Warnings::NON_ZERO_INT_PADDING,
     Warnings::NON_ZERO_PADDING,
     Warnings::DUPLICATE_DELETE,
     Warnings::DUPLICATE_UPDATE,
@@ -163,6 +164,7 @@ pub fn fill(record: &mut Record, random: &mut Random) {
     random_cases(record, random);
     reads(record);
     cut_reads(record);
+    padded_reads(record);
     known_reads(record);
     random_reads(record, random);
 }
@@ -365,6 +367,25 @@ fn cut_reads(record: &mut Record) {
     }
 }
 
+/// Ints of five bytes, overlong and padded, in each place of a delta and behind
+/// it, also where a type, an id or a size before them is wrong.
+fn padded_reads(record: &mut Record) {
+    let whole = inputs::listed(&[7, 7], &[(65_538, vec![70]), (65_538, vec![-70])]);
+    for src in with_five_bytes(&whole) {
+        read(record, &src, &[], 0);
+    }
+    for wrong in [
+        &[-1, 0, 0][..],
+        &[0, 1, 0, 65_536, 0, 0],
+        &[0, 1, 0, 0, -1, 0],
+        &[0, 1, 0, 3, 0, -1, 0],
+    ] {
+        for src in with_five_bytes(wrong) {
+            read(record, &src, &[0], 0);
+        }
+    }
+}
+
 /// Known sizes of all shapes.
 fn known_reads(record: &mut Record) {
     let updated = [
@@ -405,7 +426,7 @@ fn random_reads(record: &mut Record, random: &mut Random) {
         match i % 2 {
             0 => read_ints(record, &src, &sizes, spare),
             _ => {
-                let src = inputs::loose(&src, random);
+                let src = loose(&src, random);
                 if src.len() <= 2 * MOST_INTS {
                     read(record, &src, &sizes, spare);
                 }

@@ -9,6 +9,11 @@ use crate::core::damage::damage;
 use crate::core::random::Random;
 use crate::core::told::Told;
 use crate::parts::deltas;
+use crate::parts::packer::ints_of;
+use crate::parts::packer::loose;
+use crate::parts::packer::packed;
+use crate::parts::packer::with_five_bytes;
+use crate::parts::packer::FIVE_BYTES;
 use crate::parts::receiver::inputs::any_tick;
 use crate::parts::receiver::inputs::changed;
 use crate::parts::receiver::inputs::differ;
@@ -128,20 +133,12 @@ fn tick_messages(
         0 => crc = random.int(),
         1 => damage(&mut bytes, random),
         2 => bytes.clear(),
-        3 => bytes = deltas::inputs::loose(&unpacked(&bytes), random),
+        3 | 4 => bytes = loose(&ints_of(&bytes), random),
         _ => {}
     }
     let mut messages = messages_of(tick, base, &bytes, crc);
     disturb(random, &mut messages);
     messages
-}
-
-/// The ints of a packed list.
-fn unpacked(bytes: &[u8]) -> Vec<i32> {
-    let mut out = vec![0; bytes.len()];
-    let (said, _) = cefdugar::unpack(bytes, &mut out);
-    out.truncate(said.map_or(0, |unpacked| unpacked.count));
-    out
 }
 
 /// The ticks of a list: the last one, and the newest that was not refused.
@@ -177,6 +174,84 @@ impl Ticks {
             }
         }
     }
+}
+
+/// Tick 4 in some messages, after a table of tick 3 with the sum 5. Then tick 4
+/// comes once more, and newer ticks with the base 3. For a delta that is refused,
+/// the delta area has no room beyond the empty delta.
+fn around(messages: Vec<Call>) -> List {
+    let second = packed(&[0, 1, 0, 1, 1, 1, 2]);
+    let mut steps = vec![Step {
+        call: Call::Single([3, 4, 5], packed(&[0, 1, 0, 1, 1, 1, 5])),
+        spare: [40; 2],
+    }];
+    let after = [
+        Call::Single([4, 1, 7], second.clone()),
+        Call::Empty([5, 2]),
+        Call::Single([6, 3, 7], second),
+    ];
+    for (call, spare) in messages
+        .into_iter()
+        .map(|call| (call, [0; 2]))
+        .chain(after.map(|call| (call, [40; 2])))
+    {
+        steps.push(Step { call, spare });
+    }
+    List {
+        sizes: vec![],
+        steps,
+    }
+}
+
+/// A delta with an int of five bytes, overlong or padded, in each place: one
+/// deleted key and one update, to a table with the sum 7.
+fn five_byte_deltas() -> Vec<Vec<u8>> {
+    with_five_bytes(&[1, 1, 0, 9, 1, 1, 1, 2])
+}
+
+/// Each of these deltas in a single message; and in the first part of two, of
+/// which the second is lost.
+pub fn padded_singles() -> Vec<List> {
+    let mut lists = vec![];
+    for bytes in five_byte_deltas() {
+        lists.push(around(vec![Call::Snap([4, 1, 2, 0, 7], bytes.clone())]));
+        lists.push(around(vec![Call::Single([4, 1, 7], bytes)]));
+    }
+    lists
+}
+
+/// Each of these deltas in two parts, cut at each byte, the second part first or
+/// last.
+pub fn padded_parts() -> Vec<List> {
+    let mut lists = vec![];
+    for bytes in five_byte_deltas() {
+        for cut in 0..=bytes.len() {
+            let (first, second) = bytes.split_at(cut);
+            let mut messages = vec![
+                Call::Snap([4, 1, 2, 0, 7], first.to_vec()),
+                Call::Snap([4, 1, 2, 1, 7], second.to_vec()),
+            ];
+            messages.rotate_left(cut % 2);
+            lists.push(around(messages));
+        }
+    }
+    lists
+}
+
+/// A delta of more than 900 bytes, 1,000 deleted keys, with an int of five bytes
+/// near the end of the first part.
+pub fn padded_at_900() -> Vec<List> {
+    let mut lists = vec![];
+    for at in 894..=901 {
+        for int in FIVE_BYTES {
+            let mut bytes = packed(&[1_000, 0, 0]);
+            bytes.resize(at, 1);
+            bytes.extend(int);
+            bytes.resize(1_008, 1);
+            lists.push(around(messages_of(4, 3, &bytes, 5)));
+        }
+    }
+    lists
 }
 
 /// A list of messages to a new manager.

@@ -52,6 +52,7 @@ fn compare(run: &mut Run) -> Result {
     let mut areas = Areas::new();
     forms(run, &mut areas)?;
     differing(run, &mut areas)?;
+    padded(run, &mut areas)?;
     for round in 0..run.rounds {
         let mut random = run.random(round);
         let list = inputs::list(&mut random);
@@ -106,7 +107,22 @@ fn differing(run: &mut Run, areas: &mut Areas) -> Result {
     Ok(())
 }
 
-/// Every message in cases that the port alone refuses.
+/// Deltas with an int of five bytes, overlong or padded: in one message, and in
+/// two parts of which both may have bytes of that int.
+fn padded(run: &mut Run, areas: &mut Areas) -> Result {
+    let lists = [
+        inputs::padded_singles(),
+        inputs::padded_parts(),
+        inputs::padded_at_900(),
+    ];
+    for list in lists.into_iter().flatten() {
+        all(run, areas, list)?;
+    }
+    Ok(())
+}
+
+/// Every message in cases that the port alone refuses; the bytes are too many for
+/// a part, and padded.
 fn refused(
     run: &mut Run,
     areas: &mut Areas,
@@ -115,8 +131,8 @@ fn refused(
     number: u32,
 ) -> Result {
     let messages = [
-        Call::Snap([i32::MAX, 2, 3, 0, 9], vec![1; 901]),
-        Call::Single([i32::MAX, 2, 9], vec![1; 901]),
+        Call::Snap([i32::MAX, 2, 3, 0, 9], vec![0x80; 901]),
+        Call::Single([i32::MAX, 2, 9], vec![0x80; 901]),
         Call::Empty([i32::MAX, 2]),
     ];
     for call in &messages {

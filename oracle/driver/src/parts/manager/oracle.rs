@@ -1,5 +1,6 @@
 //! The answers of the Rust's manager to a message, or those of docs/FORMAT.md if
-//! the Rust has no such limit: the room of both areas, and 900 bytes a part.
+//! the Rust has no such limit or another rule: the room of both areas, 900 bytes
+//! a part, and a delta with a padded int.
 //!
 //! The Rust's manager shows only the table that it took. So its parts (receiver,
 //! delta and store, all the Rust's) get the same messages, and show what was
@@ -8,6 +9,8 @@
 use crate::core::oracle::comparable;
 use crate::core::oracle::Number;
 use crate::core::oracle::Tally;
+use crate::core::padding::cut_inside;
+use crate::core::report::Compared;
 use crate::core::report::Shown;
 use crate::core::told::told;
 use crate::core::told::Told;
@@ -125,6 +128,10 @@ impl Printer {
             });
         }
         let (said, received) = self.parts_call(sizes, call, room);
+        if let (Some(delta), Some(cut)) = (received, cut_inside(&said.joined)) {
+            self.finish_padded(sizes, &delta, cut, &said)?;
+            return Ok(said);
+        }
         let ample = said.number != 40;
         let mut tally = Tally::default();
         let told = if ample {
@@ -164,6 +171,31 @@ impl Printer {
         let single = Call::Single([delta.tick.0, distance.0, 0], data);
         let said = manager_call(&mut self.rust, &[], &single, &mut Tally::default());
         assert!(said.number() != 0);
+    }
+
+    /// The Rust's manager if the delta has a padded int: it gets the delta cut
+    /// inside that int as a single message, which finishes the tick as well. The
+    /// receiver's warnings are then others.
+    fn finish_padded(
+        &mut self,
+        sizes: &[i32],
+        delta: &ReceivedDelta,
+        cut: &[u8],
+        said: &Said,
+    ) -> Compared {
+        let single = Call::Single(
+            [delta.tick.0, delta.tick.since(delta.delta_tick).0, 0],
+            cut.to_vec(),
+        );
+        let mut tally = Tally::default();
+        let told = manager_call(&mut self.rust, sizes, &single, &mut tally);
+        let number = deltas::oracle::if_padded(told.number());
+        let [parts, whole] = [said.warnings, tally.0].map(|mut warnings| {
+            warnings.0[Warnings::DUPLICATE_SNAP] = 0;
+            comparable(warnings)
+        });
+        Shown::compare(&(said.number, parts), &(number, whole))?;
+        Shown::compare(&self.store.ack_tick(), &self.rust.ack_tick())
     }
 
     /// The answer of the parts, and the delta that was received.

@@ -9,7 +9,7 @@
 //!     e TICK DIST                             an empty message
 //!     l PLACE                                 the table at a place
 //!
-//! Answers: the 13 warning counts (that of `DifferingAttributes` is the
+//! Answers: the 12 warning counts (that of `DifferingAttributes` is the
 //! model's), COUNT ACK, how many tables are held and the tick acknowledged (`-`
 //! if there is none), and then `more`, `tick TICK`, or `refused NUMBER`. For
 //! `l`: `TICK INT..`, or `end`.
@@ -156,9 +156,26 @@ pub fn fill(record: &mut Record, random: &mut Random) {
         look(record, &list.printer.store, 0);
         look(record, &list.printer.store, 1);
     }
+    let parts = inputs::padded_parts().into_iter().step_by(13);
+    for messages in inputs::padded_singles().into_iter().chain(parts) {
+        padded_list(record, &messages);
+    }
     for _ in 0..60 {
         random_list(record, random);
     }
+}
+
+/// A delta with an int of five bytes, overlong or padded, and what is held then.
+fn padded_list(record: &mut Record, messages: &inputs::List) {
+    let room = Room {
+        delta: 20,
+        area: 60,
+    };
+    let mut list = List::new(record, room, &messages.sizes);
+    for step in &messages.steps {
+        list.call(record, &step.call);
+    }
+    look(record, &list.printer.store, 0);
 }
 
 fn random_list(record: &mut Record, random: &mut Random) {

@@ -5,6 +5,7 @@ use crate::core::area::Area;
 use crate::core::area::LEFT_FLAG;
 use crate::core::area::LEFT_INT;
 use crate::core::area::LEFT_SIZE;
+use crate::core::counted::room;
 use crate::core::report::Compared;
 use crate::core::report::Difference;
 use crate::core::report::Run;
@@ -108,8 +109,8 @@ impl Calls {
         )
     }
 
-    /// Unpacks `src` into an area with as much room as it needs and `spare`
-    /// more, or none if that is negative.
+    /// Unpacks `src` into an area with as much room as it needs, up to a padded
+    /// int, and `spare` more, or none if that is negative.
     pub fn unpack(&mut self, run: &mut Run, src: &[u8], spare: isize) -> Result<(), Difference> {
         let compared = self.compare_unpack(src, spare);
         run.case(
@@ -206,31 +207,30 @@ impl Calls {
         left.map_err(|how| Shown::touched("out", how))
     }
 
-    fn compare_unpack(&mut self, src: &[u8], spare: isize) -> Compared {
-        let (said, warnings) = oracle::unpack(src, &mut self.oracle_ints);
+    /// What `unpack` must answer, and the room that it is lent.
+    fn expected_unpack(&mut self, src: &[u8], spare: isize) -> (Unpacked, usize) {
+        let (said, warnings) = oracle::unpack_any(src, &mut self.oracle_ints);
         let needed = self.oracle_ints.ints.len();
-        let room = (needed as isize).saturating_add(spare).max(0) as usize;
-        let oracle = match said.number() {
-            0 if oracle::too_long(src.len()) => Unpacked {
-                number: 42,
-                count: LEFT_SIZE,
-                cut: LEFT_FLAG,
-                warnings: Warnings::default(),
-            },
-            0 if needed > room => Unpacked {
-                number: 40,
-                count: LEFT_SIZE,
-                cut: LEFT_FLAG,
-                warnings,
-            },
-            number => Unpacked {
-                number,
-                count: needed,
-                cut: self.oracle_ints.cut.into(),
-                warnings,
-            },
+        let room = room(needed, spare);
+        let number = match said.number() {
+            0 if needed > room => 40,
+            number => number,
         };
+        let (count, cut) = match number {
+            0 => (needed, self.oracle_ints.cut.into()),
+            _ => (LEFT_SIZE, LEFT_FLAG),
+        };
+        let unpacked = Unpacked {
+            number,
+            count,
+            cut,
+            warnings,
+        };
+        (unpacked, room)
+    }
 
+    fn compare_unpack(&mut self, src: &[u8], spare: isize) -> Compared {
+        let (oracle, room) = self.expected_unpack(src, spare);
         let lent = self.src.lend_filled(src);
         let mut port = Unpacked {
             number: 0,

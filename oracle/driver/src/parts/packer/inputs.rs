@@ -1,5 +1,7 @@
 //! Ints, bytes and lengths around each boundary of packed integers.
 
+use super::oracle::packed;
+use crate::core::padding;
 use crate::core::random::Random;
 
 /// The marked cases of docs/FORMAT.md.
@@ -18,8 +20,19 @@ pub const MARKED: [(i32, &[u8]); 8] = [
 pub const FAR: [usize; 4] = [1 << 32, isize::MAX as usize, usize::MAX - 4, usize::MAX];
 
 /// Bytes that reach each branch of reading: zero, sign, extend, digits at both
-/// ends, padding bits.
-pub const TELLING: [u8; 8] = [0x00, 0x01, 0x40, 0x7f, 0x80, 0x8f, 0x90, 0xff];
+/// ends, the last fifth byte without a padding bit and the first with one.
+pub const TELLING: [u8; 9] = [0x00, 0x01, 0x0f, 0x10, 0x40, 0x7f, 0x80, 0x90, 0xff];
+
+/// Ints of five bytes: an overlong 0, a positive and a negative one with all
+/// digits of the fifth byte, and padded ones.
+pub const FIVE_BYTES: [[u8; 5]; 6] = [
+    [0x80, 0x80, 0x80, 0x80, 0x00],
+    [0x80, 0x80, 0x80, 0x80, 0x0f],
+    [0xff, 0xff, 0xff, 0xff, 0x0f],
+    [0x80, 0x80, 0x80, 0x80, 0x10],
+    [0xff, 0xff, 0xff, 0xff, 0x1f],
+    [0xff, 0xff, 0xff, 0xff, 0xff],
+];
 
 /// Ints of each length and sign, for lists.
 pub const LIST_INTS: [i32; 13] = [
@@ -92,8 +105,78 @@ pub fn boundary_ints() -> Vec<i32> {
     ints
 }
 
-/// Random bytes in which long, overlong and padded ints are frequent.
+/// The packed ints of a list, with an int of five bytes in the place of one of
+/// them or behind the last.
+pub fn with_five_bytes(list: &[i32]) -> Vec<Vec<u8>> {
+    let mut all = vec![];
+    for at in 0..=list.len() {
+        let rest = packed(list.get(at + 1..).unwrap_or(&[]));
+        for int in FIVE_BYTES {
+            all.push([&packed(&list[..at])[..], &int, &rest].concat());
+        }
+    }
+    all
+}
+
+/// The same with two such ints.
+pub fn with_twice_five_bytes(list: &[i32]) -> Vec<Vec<u8>> {
+    let mut all = vec![];
+    for at in 0..list.len() {
+        for int in FIVE_BYTES {
+            let front = [&packed(&list[..at])[..], &int].concat();
+            for rest in with_five_bytes(&list[at + 1..]) {
+                all.push([&front[..], &rest].concat());
+            }
+        }
+    }
+    all
+}
+
+/// Packed ints, some of them overlong, and at times a padded one among them or
+/// behind them.
+pub fn loose(ints: &[i32], random: &mut Random) -> Vec<u8> {
+    let padded = random.chance(1, 3).then(|| random.below(ints.len() + 1));
+    let mut bytes = vec![];
+    for (i, int) in ints.iter().chain([&0]).enumerate() {
+        let mut int = packed(&[*int]);
+        if padded == Some(i) {
+            lengthen(&mut int, 5);
+            int[4] |= 0x10 << random.below(4);
+        } else if i == ints.len() {
+            break;
+        } else if random.chance(1, 3) {
+            let len = random.between(int.len(), 5);
+            lengthen(&mut int, len);
+        }
+        bytes.extend(int);
+    }
+    bytes
+}
+
+/// Lengthens a packed int to `len` bytes, unless it has as many.
+fn lengthen(int: &mut Vec<u8>, len: usize) {
+    let last = int.len() - 1;
+    if last + 1 < len {
+        int[last] |= 0x80;
+        int.resize(len - 1, 0x80);
+        int.push(0);
+    }
+}
+
+/// Random bytes in which long, overlong and padded ints are frequent. In half of
+/// them no int is padded, so that all of them are read.
 pub fn bytes(len: usize, random: &mut Random) -> Vec<u8> {
+    let mut bytes = any_bytes(len, random);
+    let end = match random.below(4) {
+        0 => 0,
+        1 => random.below(len + 1),
+        _ => len,
+    };
+    padding::clear(&mut bytes[..end]);
+    bytes
+}
+
+fn any_bytes(len: usize, random: &mut Random) -> Vec<u8> {
     match random.below(6) {
         0 => (0..len).map(|_| random.byte()).collect(),
         1 => (0..len).map(|_| random.byte() | 0x80).collect(),
@@ -109,7 +192,7 @@ pub fn bytes(len: usize, random: &mut Random) -> Vec<u8> {
         // Packed ints of all sizes.
         4 => {
             let list: Vec<i32> = (0..len).map(|_| random.int()).collect();
-            let mut bytes = super::oracle::packed(&list);
+            let mut bytes = packed(&list);
             bytes.truncate(len);
             bytes
         }

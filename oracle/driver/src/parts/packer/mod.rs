@@ -17,9 +17,15 @@ use crate::core::report::Run;
 use calls::Calls;
 use cefdugar::table;
 
+pub use inputs::loose;
 pub use inputs::numbered;
+pub use inputs::with_five_bytes;
+pub use inputs::with_twice_five_bytes;
+pub use inputs::FIVE_BYTES;
 pub use inputs::MARKED;
+pub use oracle::ints_of;
 pub use oracle::packed;
+pub use oracle::refused_as_padded;
 
 pub fn part() -> Part {
     Part {
@@ -40,6 +46,7 @@ fn compare(run: &mut Run) -> Result {
     let mut calls = Calls::new();
     short_strings(run, &mut calls)?;
     telling_strings(run, &mut calls)?;
+    fifth_bytes(run, &mut calls)?;
     ints(run, &mut calls)?;
     lists(run, &mut calls)?;
     long_lists(run)?;
@@ -61,10 +68,10 @@ fn read_everywhere(run: &mut Run, calls: &mut Calls, src: &[u8]) -> Result {
     readers::bytes(run, src)
 }
 
-/// Unpacks `src` into an area of exactly enough room, one less, one more and
-/// none.
+/// Unpacks `src` into an area of exactly enough room, one less, one more, none,
+/// and at least an int for each byte.
 fn unpack_all_rooms(run: &mut Run, calls: &mut Calls, src: &[u8]) -> Result {
-    for spare in [0, -1, 1, isize::MIN] {
+    for spare in [0, -1, 1, isize::MIN, src.len() as isize] {
         calls.unpack(run, src, spare)?;
     }
     Ok(())
@@ -108,7 +115,30 @@ fn telling_strings(run: &mut Run, calls: &mut Calls) -> Result {
             calls.read(run, &src, 0)?;
             readers::bytes(run, &src)?;
             calls.unpack(run, &src, 1)?;
+            calls.unpack(run, &src, len as isize)?;
         }
+    }
+    Ok(())
+}
+
+/// Every fifth byte, after four of several sorts; alone, and with ints before and
+/// after it. Lists with ints of five bytes in every two places.
+fn fifth_bytes(run: &mut Run, calls: &mut Calls) -> Result {
+    let fronts: [&[u8]; 3] = [&[], &[0x80, 0x00], &[0x05, 0xc0, 0x80, 0x00]];
+    let ends: [&[u8]; 3] = [&[], &[0x07], &[0x80, 0x00, 0x80]];
+    for number in 0..2usize.pow(4) {
+        let four = inputs::numbered(number, 4, &[0x80, 0xff]);
+        for fifth in 0..=255 {
+            for (front, end) in fronts.iter().flat_map(|a| ends.map(|b| (a, b))) {
+                let src = [front, &four[..], &[fifth], end].concat();
+                read_everywhere(run, calls, &src)?;
+                unpack_all_rooms(run, calls, &src)?;
+            }
+        }
+    }
+    for src in inputs::with_twice_five_bytes(&[0, -65, 8_192, 1]) {
+        read_everywhere(run, calls, &src)?;
+        unpack_all_rooms(run, calls, &src)?;
     }
     Ok(())
 }

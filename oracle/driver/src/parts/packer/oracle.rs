@@ -1,9 +1,11 @@
 //! The Rust's answers on packed integers, or those of docs/FORMAT.md if the Rust
-//! has no such call: a place outside the bytes, ints that do not fit, and more
-//! entries than a call reads.
+//! has no such call or another rule: a place outside the bytes, ints that do not
+//! fit, more entries than a call reads, and padding bits that are set.
 
 use crate::core::oracle::Number;
 use crate::core::oracle::Tally;
+use crate::core::padding::is_padded;
+use crate::core::padding::padded_at;
 use crate::core::told::told;
 use crate::core::told::Told;
 use cefdugar::table;
@@ -27,6 +29,9 @@ pub fn read_int(src: &[u8], at: usize) -> (Told<(i32, usize)>, Warnings) {
     let Some(rest) = src.get(at..) else {
         return (Told::Refused(1), tally.0);
     };
+    if is_padded(rest) {
+        return (Told::Refused(52), tally.0);
+    }
     let said = told(|| {
         let mut unpacker = Unpacker::new(rest);
         match unpacker.read_int(&mut tally) {
@@ -57,14 +62,20 @@ pub fn refused_as_too_long(len: usize, at: usize) -> Stood {
     }
 }
 
-/// The next int of a reader whose bytes begin at place `from`.
+/// The next int of a reader whose bytes begin at place `from`. One that is
+/// padded moves the reader to the end, as an int that is cut does.
 pub fn unpacker_read_int(from: usize, unpacker: &mut Unpacker) -> Stood {
     let mut tally = Tally::default();
-    let said = told(|| {
-        unpacker
-            .read_int(&mut tally)
-            .map_err(|error| error.number())
-    });
+    let said = if is_padded(unpacker.as_slice()) {
+        assert!(unpacker.read_rest().is_ok());
+        Told::Refused(52)
+    } else {
+        told(|| {
+            unpacker
+                .read_int(&mut tally)
+                .map_err(|error| error.number())
+        })
+    };
     Stood {
         said,
         standing: Standing {
@@ -116,7 +127,7 @@ pub struct Unpacked {
     pub cut: bool,
 }
 
-/// Reads all ints of `src` into `unpacked`.
+/// Reads all ints of `src`, of which none is padded, into `unpacked`.
 pub fn unpack(src: &[u8], unpacked: &mut Unpacked) -> (Told<()>, Warnings) {
     let mut tally = Tally::default();
     unpacked.ints.clear();
@@ -135,6 +146,34 @@ pub fn unpack(src: &[u8], unpacked: &mut Unpacked) -> (Told<()>, Warnings) {
         Ok(())
     });
     (said, tally.0)
+}
+
+/// The ints of some bytes, of which none is padded.
+pub fn ints_of(src: &[u8]) -> Vec<i32> {
+    let mut unpacked = Unpacked::default();
+    let (said, _) = unpack(src, &mut unpacked);
+    assert!(said == Told::Value(()));
+    unpacked.ints
+}
+
+/// The answer for any bytes. A padded int refuses them; `unpacked` then has the
+/// ints before it.
+pub fn unpack_any(src: &[u8], unpacked: &mut Unpacked) -> (Told<()>, Warnings) {
+    let padded = padded_at(src);
+    let (said, warnings) = unpack(&src[..padded.unwrap_or(src.len())], unpacked);
+    match said {
+        Told::Value(()) if too_long(src.len()) => (Told::Refused(42), Warnings::default()),
+        Told::Value(()) if padded.is_some() => (Told::Refused(52), warnings),
+        said => (said, warnings),
+    }
+}
+
+/// What refuses a table of these bytes before its header is looked at: a padded
+/// int, with the Rust's warnings about those before it.
+pub fn refused_as_padded<T>(src: &[u8]) -> Option<(Told<T>, Warnings)> {
+    let (said, warnings) = unpack(&src[..padded_at(src)?], &mut Unpacked::default());
+    assert!(said == Told::Value(()));
+    Some((Told::Refused(52), warnings))
 }
 
 /// The bytes of `list`, one int after the other.

@@ -1,10 +1,10 @@
 //! Recorded answers on packed integers.
 //!
-//!     r AT HEX        VALUE NEXT OVERLONG PADDING, or refused 1
-//!     b AT HEX        by a reader: VALUE AT LEFT EMPTY OVERLONG PADDING, or refused 1 AT LEFT EMPTY
+//!     r AT HEX        VALUE NEXT OVERLONG, or refused NUMBER
+//!     b AT HEX        by a reader: VALUE AT LEFT EMPTY OVERLONG, or refused NUMBER AT LEFT EMPTY
 //!     i AT INT..      the same by a reader over ints
 //!     w ROOM AT INT   NEXT HEX, or refused 40 HEX (an area of ROOM bytes aa)
-//!     u ROOM HEX      COUNT CUT OVERLONG PADDING INT.., or refused 40 OVERLONG PADDING
+//!     u ROOM HEX      COUNT CUT OVERLONG INT.., or refused NUMBER OVERLONG
 
 use super::inputs;
 use super::oracle;
@@ -24,16 +24,14 @@ const MOST_ROOM: usize = 16;
 /// A place far outside, of ten digits.
 const FAR: usize = u32::MAX as usize;
 
-fn counts(warnings: &Warnings) -> String {
-    let overlong = warnings.0[Warnings::OVERLONG_INT_ENCODING];
-    let padding = warnings.0[Warnings::NON_ZERO_INT_PADDING];
-    format!("{overlong} {padding}")
+fn overlong(warnings: &Warnings) -> usize {
+    warnings.0[Warnings::OVERLONG_INT_ENCODING]
 }
 
 fn read(record: &mut Record, src: &[u8], at: usize) {
     let (said, warnings) = oracle::read_int(src, at);
     let answer = match said {
-        Told::Value((value, next)) => format!("{value} {next} {}", counts(&warnings)),
+        Told::Value((value, next)) => format!("{value} {next} {}", overlong(&warnings)),
         Told::Refused(number) => format!("refused {number}"),
         Told::Panicked => unreachable!("the Rust reads without a panic"),
     };
@@ -48,7 +46,7 @@ fn standing(stood: &Stood) -> String {
     let left = stood.standing.left;
     let empty = u32::from(stood.standing.empty);
     match stood.said {
-        Told::Value(value) => format!("{value} {at} {left} {empty} {}", counts(&stood.warnings)),
+        Told::Value(value) => format!("{value} {at} {left} {empty} {}", overlong(&stood.warnings)),
         Told::Refused(number) => format!("refused {number} {at} {left} {empty}"),
         Told::Panicked => unreachable!("the Rust reads without a panic"),
     }
@@ -79,16 +77,19 @@ fn write(record: &mut Record, room: usize, at: usize, int: i32) {
 fn unpack(record: &mut Record, src: &[u8], spare: isize) {
     assert!(src.len() <= MOST_BYTES);
     let mut unpacked = oracle::Unpacked::default();
-    let (said, warnings) = oracle::unpack(src, &mut unpacked);
-    assert!(said == Told::Value(()));
+    let (said, warnings) = oracle::unpack_any(src, &mut unpacked);
     let needed = unpacked.ints.len();
     let room = (needed as isize + spare).clamp(0, MOST_INTS as isize) as usize;
-    let answer = if needed > room {
-        format!("refused 40 {}", counts(&warnings))
-    } else {
-        let cut = u32::from(unpacked.cut);
-        let ints: String = unpacked.ints.iter().map(|int| format!(" {int}")).collect();
-        format!("{needed} {cut} {}{ints}", counts(&warnings))
+    let overlong = overlong(&warnings);
+    let answer = match said {
+        Told::Value(()) if needed > room => format!("refused 40 {overlong}"),
+        Told::Value(()) => {
+            let cut = u32::from(unpacked.cut);
+            let ints: String = unpacked.ints.iter().map(|int| format!(" {int}")).collect();
+            format!("{needed} {cut} {overlong}{ints}")
+        }
+        Told::Refused(number) => format!("refused {number} {overlong}"),
+        Told::Panicked => unreachable!("the Rust reads without a panic"),
     };
     record.case(&format!("u {room} {}", hex(src)), &answer);
 }
@@ -106,7 +107,10 @@ fn marked(record: &mut Record) {
         write(record, bytes.len(), 0, int);
     }
     read(record, &[0x80, 0x00], 0);
-    read(record, &[0x80, 0x80, 0x80, 0x80, 0x10], 0);
+    for int in inputs::FIVE_BYTES {
+        read(record, &int, 0);
+        unpack(record, &int, 0);
+    }
     let list = inputs::MARKED.map(|(int, _)| int);
     unpack(record, &oracle::packed(&list), 0);
     read_ints(record, &list);
@@ -162,8 +166,15 @@ fn boundaries(record: &mut Record) {
     // As many ints as a replay takes, and rooms close to it.
     for spare in [-64, -1, 0] {
         unpack(record, &[0x40; 64], spare);
-        unpack(record, &[0xff; 64], spare);
-        unpack(record, &[0x80; 64], spare);
+        unpack(record, &[0xff, 0xff, 0xff, 0xff, 0x0f].repeat(12), spare);
+        unpack(record, &[0x80, 0x80, 0x80, 0x80, 0x00].repeat(12), spare);
+    }
+    // A padded int first, last and between, with room for none, for those before
+    // it, and for all.
+    for src in inputs::with_five_bytes(&[-65, 3]) {
+        for spare in [-64, 0, 64] {
+            unpack(record, &src, spare);
+        }
     }
     unpack(record, &[], 0);
     unpack(record, &[], 3);

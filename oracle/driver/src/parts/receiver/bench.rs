@@ -2,7 +2,7 @@
 //!
 //! The plain rows compare the port's safe calls with the Rust as its users call
 //! it. `each call`: the Rust behind the same C boundary as the port, with the
-//! same outputs filled: kind, numbers, length and the 13 counts. `copies alone`:
+//! same outputs filled: kind, numbers, length and the 12 counts. `copies alone`:
 //! instead of the port only the copies that docs/FORMAT.md requires, each part into
 //! the first part area and the whole into the second.
 

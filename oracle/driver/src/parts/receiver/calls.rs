@@ -110,7 +110,7 @@ impl Both {
         let too_long =
             matches!(call, Call::Snap(_, data) | Call::Single(_, data) if data.len() > 900);
         let mut outputs = LEFT;
-        let mut warnings = Warnings([LEFT_SIZE; 13]);
+        let mut warnings = Warnings([LEFT_SIZE; cefdugar::WARNINGS]);
         let number = port_call(
             &mut self.port,
             call,
@@ -148,7 +148,7 @@ impl Both {
     pub fn refused(receiver: Receiver, call: &Call, lengths: [usize; 2], number: u32) -> Compared {
         let (mut parts, mut joined) = (Area::new(), Area::new());
         let (mut now, mut outputs) = (receiver, LEFT);
-        let mut warnings = Warnings([LEFT_SIZE; 13]);
+        let mut warnings = Warnings([LEFT_SIZE; cefdugar::WARNINGS]);
         let said = port_call(
             &mut now,
             call,

@@ -10,8 +10,11 @@ mod questions;
 mod record;
 
 use super::deltas;
+use super::packer::loose;
 use super::packer::numbered;
 use super::packer::packed;
+use super::packer::with_five_bytes;
+use super::packer::with_twice_five_bytes;
 use super::tables;
 use super::tables::oracle::Item;
 use super::tables::sorted;
@@ -55,6 +58,7 @@ fn compare(run: &mut Run) -> Result {
     filed_under_zero(run, &mut calls)?;
     few_deltas(run, &mut calls)?;
     few_types(run, &mut calls)?;
+    five_bytes(run, &mut calls)?;
     few_builds(run, &mut calls)?;
     lengths(run, &mut calls)?;
     limits::applied(run, &mut calls)?;
@@ -171,6 +175,28 @@ fn few_types(run: &mut Run, calls: &mut Calls) -> Result {
     Ok(())
 }
 
+/// Tables with ints of five bytes in every two places, also behind the table:
+/// with sound types, with a kind that is too long, and with one that is missing.
+fn five_bytes(run: &mut Run, calls: &mut Calls) -> Result {
+    let tables: [&[Item]; 4] = [
+        &[],
+        &[
+            (key(0, 0x4000), KINDS[1].to_vec()),
+            (key(0x4000, 7), vec![5]),
+        ],
+        &[(key(0, 7), vec![1, 2, 3, 5, 9])],
+        &[(key(0x8000, 0), vec![])],
+    ];
+    for items in tables {
+        let ints = tables::inputs::listed(items);
+        let once = with_five_bytes(&ints);
+        for src in once.iter().chain(&with_twice_five_bytes(&ints)) {
+            calls.read(run, src, SCRATCH)?;
+        }
+    }
+    Ok(())
+}
+
 /// Adds items one by one in areas with as much room as the whole takes, less
 /// and more.
 fn builds(run: &mut Run, calls: &mut Calls, adds: &[(TypeId, u16, Vec<i32>)]) -> Result {
@@ -234,6 +260,7 @@ fn lengths(run: &mut Run, calls: &mut Calls) -> Result {
         calls.read_ints(run, &vec![0; len], SCRATCH - 1)?;
         for scratch in [len, len - 1] {
             calls.read(run, &vec![0; len], scratch)?;
+            calls.read(run, &vec![0xff; len], scratch)?;
         }
     }
     Ok(())
@@ -269,6 +296,7 @@ fn random_tables(run: &mut Run, calls: &mut Calls, random: &mut Random) -> Resul
         deltas::inputs::shuffle(&mut items, random);
         let mut ints = tables::inputs::listed(&items);
         calls.read_ints(run, &ints, SCRATCH)?;
+        calls.read(run, &loose(&ints, random), SCRATCH)?;
         damage(&mut ints, random);
         calls.read_ints(run, &ints, SCRATCH)?;
         calls.read(run, &packed(&ints), SCRATCH)?;

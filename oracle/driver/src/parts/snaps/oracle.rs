@@ -1,7 +1,7 @@
 //! The Rust's answers on types, builders and applied deltas, or those of
-//! docs/FORMAT.md if the Rust has no such call: a table is a builder's if the
-//! Rust's builder builds it, and the number of a kind is the id of the item of
-//! type 0 that names it.
+//! docs/FORMAT.md if the Rust has no such call or another rule: a table is a
+//! builder's if the Rust's builder builds it, the number of a kind is the id of
+//! the item of type 0 that names it, and a padded int refuses a packed table.
 
 use crate::core::counted::Counted;
 use crate::core::oracle::Number;
@@ -9,6 +9,7 @@ use crate::core::oracle::Tally;
 use crate::core::told::told;
 use crate::core::told::Told;
 use crate::parts::deltas;
+use crate::parts::packer::refused_as_padded;
 use crate::parts::tables;
 use crate::parts::tables::oracle::parts;
 use cefdugar::snap::TypeId;
@@ -63,6 +64,9 @@ pub fn read(src: &[u8], scratch: usize) -> Made {
     }
     if src.len() > table::INPUT {
         return refused(42);
+    }
+    if let Some(refused) = refused_as_padded(src) {
+        return refused;
     }
     made(|tally| {
         let mut snap = Snap::empty();

@@ -1,6 +1,6 @@
 //! Recorded answers on types, builders and applied deltas. An area of
 //! ROOM entries is lent. TYPE is six ints: whether the type is a kind, its
-//! number, and the four ints of the kind. COUNTS are the five warning counts
+//! number, and the four ints of the kind. COUNTS are the four warning counts
 //! that these calls can give, in their order.
 //!
 //!     r ROOM LEN INT.. INT..     COUNT COUNTS INT.., or refused NUMBER COUNTS
@@ -32,6 +32,7 @@ use crate::core::record::Record;
 use crate::core::text::hex;
 use crate::core::told::Told;
 use crate::parts::packer::packed;
+use crate::parts::packer::with_five_bytes;
 use crate::parts::tables;
 use crate::parts::tables::oracle::Item;
 use cefdugar::snap::uuid_to_ints;
@@ -57,7 +58,6 @@ fn type_text(type_id: TypeId) -> String {
 fn was_made((said, warnings): &Made, spare: isize) -> (usize, String) {
     let counts: String = [
         Warnings::OVERLONG_INT_ENCODING,
-        Warnings::NON_ZERO_INT_PADDING,
         Warnings::UNKNOWN_DELETE,
         Warnings::EXCESS_SNAP_DATA,
         Warnings::EXCESS_UUID_ITEM_DATA,
@@ -283,6 +283,13 @@ fn types(record: &mut Record) {
     asked(record, &[0, 1]);
     read_ints(record, &[0, 0, 5], 0);
     read(record, &[0x80, 0x00, 0x00, 0x80], 0);
+    // Ints of five bytes, overlong and padded, in each place and behind the table.
+    let long = area(&[(key(0, 7), vec![1, 2, 3, 5, 9])]);
+    for ints in [&[0, 0][..], &long] {
+        for src in with_five_bytes(ints) {
+            read(record, &src, 0);
+        }
+    }
     finish(record, &[0]);
 }
 

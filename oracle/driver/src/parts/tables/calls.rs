@@ -85,7 +85,8 @@ impl Calls {
         )
     }
 
-    /// Reads bytes with a scratch of `scratch` entries.
+    /// Reads bytes with a scratch of `scratch` entries, into as much room as the
+    /// table needs, or 8 ints if it is refused, and `spare` more.
     pub fn read(
         &mut self,
         run: &mut Run,
@@ -180,7 +181,10 @@ impl Calls {
     fn compare_read(&mut self, src: &[u8], spare: isize, scratch: usize) -> Compared {
         let (said, warnings) = oracle::read(src, scratch);
         let written = written(&said);
-        let room = room(written.len(), spare);
+        let room = match said {
+            Told::Value(_) => room(written.len(), spare),
+            _ => room(8, spare),
+        };
         let mut port = Counted::LEFT;
         let mut port_warnings = LEFT_WARNINGS;
         self.scratch.clear();

@@ -6,8 +6,11 @@ pub mod inputs;
 pub mod oracle;
 mod record;
 
+use super::packer::loose;
 use super::packer::numbered;
 use super::packer::packed;
+use super::packer::with_five_bytes;
+use super::packer::with_twice_five_bytes;
 use super::Part;
 use super::Rounds;
 use crate::core::damage::damage;
@@ -42,6 +45,7 @@ fn compare(run: &mut Run) -> Result {
     short_lists(run, &mut calls)?;
     few_items(run, &mut calls)?;
     short_strings(run, &mut calls)?;
+    five_bytes(run, &mut calls)?;
     limits(run, &mut calls)?;
     lengths(run, &mut calls)?;
     for round in 0..run.rounds {
@@ -138,6 +142,46 @@ fn short_strings(run: &mut Run, calls: &mut Calls) -> Result {
     Ok(())
 }
 
+/// All strings of up to five ints over a small alphabet with an overlong int and
+/// a padded one, six in a full run; whole tables with ints of five bytes in every
+/// two places, also behind the table.
+fn five_bytes(run: &mut Run, calls: &mut Calls) -> Result {
+    const TELLING: [&[u8]; 7] = [
+        &[0x00],
+        &[0x01],
+        &[0x04],
+        &[0x08],
+        &[0x40],
+        &[0x80, 0x80, 0x80, 0x80, 0x00],
+        &[0x80, 0x80, 0x80, 0x80, 0x10],
+    ];
+    let most = match run.length {
+        Length::Quick => 5,
+        Length::Full => 6,
+    };
+    for len in 0..=most {
+        for number in 0..TELLING.len().pow(len) {
+            let src = numbered(number, len, &TELLING).concat();
+            calls.read(run, &src, 0, table::SCRATCH)?;
+        }
+    }
+    let tables: [&[Item]; 3] = [
+        &[],
+        &[(65_538, vec![7])],
+        &[(-1, vec![]), (3, vec![40, -1])],
+    ];
+    for items in tables {
+        let ints = inputs::listed(items);
+        let once = with_five_bytes(&ints);
+        for src in once.iter().chain(&with_twice_five_bytes(&ints)) {
+            for spare in [0, isize::MIN] {
+                calls.read(run, src, spare, table::SCRATCH)?;
+            }
+        }
+    }
+    Ok(())
+}
+
 /// Tables with about the most items and the most ints.
 fn limits(run: &mut Run, calls: &mut Calls) -> Result {
     let mut tables = vec![];
@@ -226,6 +270,9 @@ fn lengths(run: &mut Run, calls: &mut Calls) -> Result {
             src[1] = header[1] as u8;
             for scratch in [len, len - 1, len + 1] {
                 calls.read(run, &src, 0, scratch)?;
+                src[len - 5..].copy_from_slice(&[0x80, 0x80, 0x80, 0x80, 0x10]);
+                calls.read(run, &src, 0, scratch)?;
+                src[len - 5..].fill(0);
             }
         }
     }
@@ -268,7 +315,8 @@ fn random_tables(run: &mut Run, calls: &mut Calls, random: &mut Random) -> Resul
         }
         everything(run, calls, &ints)?;
 
-        let mut src = packed(&inputs::listed(&items));
+        let mut src = loose(&inputs::listed(&items), random);
+        calls.read(run, &src, 0, scratch(&src))?;
         for _ in 0..random.between(1, 3) {
             damage(&mut src, random);
         }

@@ -1,11 +1,12 @@
 //! The Rust's answers on tables, or those of docs/FORMAT.md if the Rust has no
-//! such call: an area in form is one that the Rust reads and would write
-//! unchanged.
+//! such call or another rule: an area in form is one that the Rust reads and
+//! would write unchanged, and a padded int refuses a packed table.
 
 use crate::core::oracle::Number;
 use crate::core::oracle::Tally;
 use crate::core::told::told;
 use crate::core::told::Told;
+use crate::parts::packer::refused_as_padded;
 use cefdugar::table;
 use cefdugar::Warnings;
 use libtw2_buffer::CapacityError;
@@ -43,6 +44,9 @@ pub fn read(src: &[u8], scratch: usize) -> (Told<RawSnap>, Warnings) {
     }
     if src.len() > table::INPUT {
         return (Told::Refused(42), tally.0);
+    }
+    if let Some(refused) = refused_as_padded(src) {
+        return refused;
     }
     let said = told(|| {
         let mut snap = RawSnap::empty();

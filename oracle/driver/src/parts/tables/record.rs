@@ -1,8 +1,8 @@
 //! Recorded answers on tables. An area of ROOM ints holds 77 everywhere.
 //!
 //!     i ROOM INT..             COUNT EXCESS INT.., or refused NUMBER EXCESS
-//!     b ROOM HEX               COUNT OVERLONG PADDING EXCESS INT.., or
-//!                              refused NUMBER OVERLONG PADDING EXCESS
+//!     b ROOM HEX               COUNT OVERLONG EXCESS INT.., or
+//!                              refused NUMBER OVERLONG EXCESS
 //!     w INT..                  LEN HEX, or refused 47 (an area, packed)
 //!     q INT..                  ITEMS SUM KEY.., or refused 47 (an area, walked)
 //!     l TYPE ID INT..          item INT.., none, or refused 47 (an area)
@@ -20,6 +20,7 @@ use crate::core::record::Record;
 use crate::core::text::hex;
 use crate::core::told::Told;
 use crate::parts::packer::packed;
+use crate::parts::packer::with_five_bytes;
 use cefdugar::table;
 use cefdugar::Warnings;
 use libtw2_snapshot::snap::RawSnap;
@@ -34,9 +35,8 @@ fn ints(list: &[i32]) -> String {
 
 fn counts(warnings: &Warnings) -> String {
     let overlong = warnings.0[Warnings::OVERLONG_INT_ENCODING];
-    let padding = warnings.0[Warnings::NON_ZERO_INT_PADDING];
     let excess = warnings.0[Warnings::EXCESS_SNAP_DATA];
-    format!("{overlong} {padding} {excess}")
+    format!("{overlong} {excess}")
 }
 
 /// The room, and the result of reading into it.
@@ -171,14 +171,16 @@ fn refusals(record: &mut Record) {
     read_ints(record, &more, 0);
     area(record, &more, &[3, -1, 5]);
     read(record, &packed(&more), 0);
-    for rest in [
-        &[0x80][..],
-        &[0x00, 0x80],
-        &[0x80, 0x00],
-        &[0x80, 0x80, 0x80, 0x80, 0x10],
-    ] {
+    for rest in [&[0x80][..], &[0x00, 0x80], &[0x80, 0x00]] {
         let mut src = packed(&whole);
         src.extend(rest);
+        read(record, &src, 0);
+    }
+    // Ints of five bytes, overlong and padded, in each place and behind the table.
+    for src in with_five_bytes(&whole) {
+        read(record, &src, 0);
+    }
+    for src in with_five_bytes(&[0, 0]) {
         read(record, &src, 0);
     }
     // Keys that come twice, and keys out of order.

@@ -1,0 +1,88 @@
+-- `packer::may_have_padding` meets its contract. The loop's invariant: unless some were found, there are none at the places passed. Assumes nothing.
+use Prim.Native.Nat.{_-_}
+use native.Mathlib.Omega.{arith}
+use Rattle.packer.proofs.Pretest.{Passed, pass, all-passed}
+use borrow.Author.Needs.{needs}
+use Rattle.packer.proofs.may_have_padding.Statement.{statement}
+use Rattle.packer.proofs.may_have_padding.Tie as tie
+
+abbrev Inv-loop : tie.InvT-loop
+Inv-loop src places found₀ p₀ found p = Passed src p found
+
+abbrev μ-loop : tie.MeasureT-loop
+μ-loop src places found₀ p₀ found p = places - p
+
+places-of-five-requires : tie.Need-places-of-five-requires Inv-loop μ-loop
+places-of-five-requires c κs = search needs
+
+loop-holds : tie.Need-loop-holds Inv-loop μ-loop
+loop-holds c = λ e p h here. let z : ⊥ = omega arith in absurd z
+
+shared-slice-read-is-padded : tie.Need-shared-slice-read-is-padded Inv-loop μ-loop
+shared-slice-read-is-padded c = omega (arith, c .before .loop-test .taken, c .before .before .before .places-of-five .ensures)
+
+add-is-padded : tie.Need-add-is-padded Inv-loop μ-loop
+add-is-padded c = omega (arith, c .before .loop-test .taken, c .before .before .before .places-of-five .ensures)
+
+shared-slice-read-is-padded-2 : tie.Need-shared-slice-read-is-padded-2 Inv-loop μ-loop
+shared-slice-read-is-padded-2 c = omega (arith, c .before .before .loop-test .taken, c .before .before .before .before .places-of-five .ensures)
+
+add-is-padded-2 : tie.Need-add-is-padded-2 Inv-loop μ-loop
+add-is-padded-2 c = omega (arith, c .before .before .loop-test .taken, c .before .before .before .before .places-of-five .ensures)
+
+shared-slice-read-is-padded-3 : tie.Need-shared-slice-read-is-padded-3 Inv-loop μ-loop
+shared-slice-read-is-padded-3 c = omega (arith, c .before .before .before .loop-test .taken, c .before .before .before .before .before .places-of-five .ensures)
+
+add-is-padded-3 : tie.Need-add-is-padded-3 Inv-loop μ-loop
+add-is-padded-3 c = omega (arith, c .before .before .before .loop-test .taken, c .before .before .before .before .before .places-of-five .ensures)
+
+shared-slice-read-is-padded-4 : tie.Need-shared-slice-read-is-padded-4 Inv-loop μ-loop
+shared-slice-read-is-padded-4 c = omega (arith, c .before .before .before .before .loop-test .taken, c .before .before .before .before .before .before .places-of-five .ensures)
+
+add-is-padded-4 : tie.Need-add-is-padded-4 Inv-loop μ-loop
+add-is-padded-4 c = omega (arith, c .before .before .before .before .loop-test .taken, c .before .before .before .before .before .before .places-of-five .ensures)
+
+shared-slice-read-is-padded-5 : tie.Need-shared-slice-read-is-padded-5 Inv-loop μ-loop
+shared-slice-read-is-padded-5 c = omega (arith, c .before .before .before .before .before .loop-test .taken, c .before .before .before .before .before .before .before .places-of-five .ensures)
+
+is-padded-requires : tie.Need-is-padded-requires Inv-loop μ-loop
+is-padded-requires c κs = search needs
+
+add-p : tie.Need-add-p Inv-loop μ-loop
+add-p c = omega (arith, c .before .before .before .before .before .before .loop-test .taken, c .before .before .before .before .before .before .before .before .places-of-five .ensures)
+
+loop-less : tie.Need-loop-less Inv-loop μ-loop
+loop-less c = omega (arith, c .before .before .before .before .before .before .loop-test .taken, c .before .before .before .before .before .before .before .before .places-of-five .ensures)
+
+loop-again : tie.Need-loop-again Inv-loop μ-loop
+loop-again c =
+    let l = c .before .before .before .before .before .before .before .loop in
+    rw (c .is-padded .ensures) (pass (c .before .before .before .before .before .before .before .before .before .before .args .src .now) (l .p) (l .found) (l .inv))
+
+returns : tie.Need-returns Inv-loop μ-loop
+returns c =
+    let l = c .before .loop in
+    all-passed (c .before .before .before .before .args .src .now) (l .found) (l .p) (c .before .before .places-of-five .result) (l .inv) (c .loop-test .left) (omega (arith, c .before .before .places-of-five .ensures))
+
+pub may-have-padding-spec : {M : Type 1} → statement M
+may-have-padding-spec =
+    tie.close
+    (tie.spec
+    Inv-loop
+    μ-loop
+    places-of-five-requires
+    loop-holds
+    shared-slice-read-is-padded
+    add-is-padded
+    shared-slice-read-is-padded-2
+    add-is-padded-2
+    shared-slice-read-is-padded-3
+    add-is-padded-3
+    shared-slice-read-is-padded-4
+    add-is-padded-4
+    shared-slice-read-is-padded-5
+    is-padded-requires
+    add-p
+    loop-less
+    loop-again
+    returns)
