@@ -23,7 +23,9 @@ module _ (src : List ℕ) where
 
   padded-five : (p : ℕ) → PaddedHere src p → five p ≡ true
   padded-five p h =
-      rw (le-leb 128 (getD src p 0) (h .first), le-leb 128 (getD src (p + 1) 0) (h .second), le-leb 128 (getD src (p + 2) 0) (h .third), le-leb 128 (getD src (p + 3) 0) (h .fourth), le-leb 16 (getD src (p + 4) 0) (h .fifth))
+      let at : ℕ → ℕ = λ i. getD src (p + i) 0 in
+      rw (le-leb 128 (getD src p 0) (h .first), le-leb 128 (at 1) (h .second), le-leb 128 (at 2) (h .third))
+      (rw (le-leb 128 (at 3) (h .fourth), le-leb 16 (at 4) (h .fifth)))
 
   none-in : (a b : Bool) → (a || b) ≡ false → (a ≡ false) × (b ≡ false)
   none-in true b e = absurd (true≢false e)

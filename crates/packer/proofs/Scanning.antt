@@ -76,7 +76,9 @@ abbrev ending : Totals → Bool → Bool → Totals
 ending t c p = record { count = t .count; cut = c; padded = p; overlong = t .overlong }
 
 module _ {src : List ℕ} {before out : List ℤ} {at : ℕ} {t : Totals} where
-  pub turn : {x : ℤ} {next : ℕ} (overlong : Bool) → Scanning src before out at t → Found src at x next (warned overlong) → Scanning src before (layAt (t .count) (x ∷ []) out) next (counting t (cond overlong 1 0))
+  pub turn :
+      {x : ℤ} {next : ℕ} (overlong : Bool) → Scanning src before out at t → Found src at x next (warned overlong) →
+      Scanning src before (layAt (t .count) (x ∷ []) out) next (counting t (cond overlong 1 0))
   turn {x} {next} overlong s f =
       let rest = stream (drop next src) in
       let now = packed (t .overlong) in
@@ -126,7 +128,9 @@ module _ {src : List ℕ} {before out : List ℤ} {at : ℕ} {t : Totals} where
       }
 
   -- nothing more comes
-  last : {u : Stream} → Scanning src before out at t → stream (drop at src) ≡ u → ints u ≡ [] → warnings u ≡ none → Scanned (stream src) before (ending t (isCut u) (isPadded u)) out
+  last :
+      {u : Stream} → Scanning src before out at t → stream (drop at src) ≡ u → ints u ≡ [] → warnings u ≡ none →
+      Scanned (stream src) before (ending t (isCut u) (isPadded u)) out
   last {u} s e i w =
       let c : t .count + length (ints u) ≡ length (ints (stream src)) = rw e at (s .counted) in
       let l : layAt (t .count) (ints u) out ≡ lay (ints (stream src)) before = rw e at (s .laid) in

@@ -31,8 +31,9 @@ returns : tie.Need-returns
 returns c =
     let a = c .before .before .before .before .before .before .before .before .args in
     let s = c .before .before .scan-all in
-    all-unpacked (a .src .now) (a .out .now) (s .result) _ (c .all-unpacked .ensures)
-    (c .before .before .before .before .before .may-have-padding .ensures (not-true (c .before .before .before .before .before .may-have-padding .result) (c .before .before .before .before .if2 .taken))) (omega (arith, few-ints (a .src .now))) (s .ensures)
+    let test = c .before .before .before .before .before .may-have-padding in
+    let none = test .ensures (not-true (test .result) (c .before .before .before .before .if2 .taken)) in
+    all-unpacked (a .src .now) (a .out .now) (s .result) _ (c .all-unpacked .ensures) none (omega (arith, few-ints (a .src .now))) (s .ensures)
 
 slice-relend-prefix-scan : tie.Need-slice-relend-prefix-scan
 slice-relend-prefix-scan c = search needs

@@ -130,7 +130,8 @@ returns-4 c =
     let a = c .before .before .before .before .before .before .before .before .before .args in
     let src = a .src .now in
     let pre = c .before .before .before .before .before .before .before .before .before .pre in
-    from-fourth src (a .start) (a .first) (a .sign) (pre .0) (c .before .before .before .before .before .before .if1 .left) (c .before .before .before .before .if2 .left) (c .before .before .if3 .left)
+    from-fourth src (a .start) (a .first) (a .sign) (pre .0)
+    (c .before .before .before .before .before .before .if1 .left) (c .before .before .before .before .if2 .left) (c .before .before .if3 .left)
     ∙ more-last src (a .start + 1 + 1 + 1) (four src (a .start) (a .first)) (a .sign) (omega arith) last (omega arith) (inr refl)
     ∙ sym (ap intRead (c .last-byte4 .ensures))
 

@@ -69,17 +69,19 @@ same-length c = c .before .before .before .before .before .loop .inv .same
 returns : tie.Need-returns Inv-loop μ-loop
 returns c =
     let l = c .before .before .before .before .before .loop in
+    let src = c .before .before .before .before .before .before .before .before .args .src .now in
     let e = c .before .enum-told .given in
     let n = number (e .0 .0) in
     let refused = c .before .before .before .read-int .ensures ∙ ap intRead (e .1) in
-    rw (c .stopped .ensures, e .1)
-    (at-refusal n (l .inv) (ended (c .before .before .before .before .before .before .before .before .args .src .now) (l .at) n none (c .before .before .before .before .loop-test .taken) refused))
+    rw (c .stopped .ensures, e .1) (at-refusal n (l .inv) (ended src (l .at) n none (c .before .before .before .before .loop-test .taken) refused))
 
 put-requires : tie.Need-put-requires Inv-loop μ-loop
 put-requires c κs = search needs
 
 add-t : tie.Need-add-t Inv-loop μ-loop
-add-t c = omega (arith, c .before .before .before .before .before .before .before .before .before .loop .inv .few, c .before .before .before .before .before .before .before .before .loop-test .taken)
+add-t c =
+    let b = c .before .before .before .before .before .before .before .before in
+    omega (arith, b .before .loop .inv .few, b .loop-test .taken)
 
 one-if-requires : tie.Need-one-if-requires Inv-loop μ-loop
 one-if-requires c κs = search needs
@@ -87,7 +89,9 @@ one-if-requires c κs = search needs
 add-t-2 : tie.Need-add-t-2 Inv-loop μ-loop
 add-t-2 c =
     let o : c .before .one-if .result ≤ 1 = rw (c .before .one-if .ensures) (at-most-one (overlong (c .before .before .before .before .before .before .before))) in
-    omega (arith, c .before .before .before .before .before .before .before .before .before .before .before .loop .inv .few-overlong, c .before .before .before .before .before .before .before .before .before .before .before .loop .inv .few, c .before .before .before .before .before .before .before .before .before .before .loop-test .taken)
+    let b = c .before .before .before .before .before .before .before .before .before .before in
+    let i = b .before .loop .inv in
+    omega (arith, i .few-overlong, i .few, b .loop-test .taken)
 
 loop-less : tie.Need-loop-less Inv-loop μ-loop
 loop-less c = let g = got (c .before .before .before .before .before .before .before) in omega (arith, g .on, g .inside)
