@@ -20,21 +20,21 @@ use format::Error;
 use table::checked::{data_at, has_key, key_at, nat_at, next_place};
 
 // The refusal, or how many items and ints the result has.
-#[derive(Drop)]
+#[derive(Clone, Copy)]
 pub enum Judged {
     Fine { items: usize, ints: usize },
     Refused(Error),
 }
 
 // How many items, and how many ints their keys and data take.
-#[derive(Drop)]
+#[derive(Clone, Copy)]
 pub struct Sizes {
     pub items: usize,
     pub ints: usize,
 }
 
 // The result of judging a delta: its judgement, and whether the base lacks a deleted key.
-#[derive(Drop)]
+#[derive(Clone, Copy)]
 pub struct Judgement {
     pub judged: Judged,
     pub unknown_delete: bool,

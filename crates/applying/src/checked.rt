@@ -27,14 +27,14 @@ use format::{Error, Stored};
 use table::checked::{data_at, key_at, put, walk_start};
 
 // The result of applying: the answer, and whether the base lacks a deleted key.
-#[derive(Drop)]
+#[derive(Clone, Copy)]
 pub struct Applied {
     pub answer: Stored,
     pub unknown_delete: bool,
 }
 
 // The state of a merge: next item of the base, place of the next update, updates left, hint among the deleted keys, items written, place of the next item.
-#[derive(Drop)]
+#[derive(Clone, Copy)]
 pub struct Merge {
     pub item: usize,
     pub update: usize,
@@ -45,7 +45,7 @@ pub struct Merge {
 }
 
 // The next step of a merge.
-#[derive(Drop)]
+#[derive(Clone, Copy)]
 pub enum Next {
     Item,
     Both,
@@ -53,7 +53,7 @@ pub enum Next {
 }
 
 // A place among the updates, and how many are left from there.
-#[derive(Drop)]
+#[derive(Clone, Copy)]
 pub struct Low {
     pub update: usize,
     pub left: usize,

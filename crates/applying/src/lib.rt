@@ -1,2 +1,4 @@
 // Applying a delta to its base.
+#![tactic(auto)]
+
 pub mod checked;

@@ -1,2 +1,4 @@
 // How an outcome looks from C.
+#![tactic(auto)]
+
 pub mod checked;

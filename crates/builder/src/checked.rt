@@ -37,7 +37,7 @@ pub fn count_kinds(area: &[i32], n: usize) -> usize
 }
 
 // A builder's table: its items, the ints that it takes, and its kinds.
-#[derive(Drop)]
+#[derive(Clone, Copy)]
 pub enum Building {
     Table {
         items: usize,

@@ -32,7 +32,7 @@ pub fn refused(error: Error, overlong: usize, odd: bool) -> Reading
 }
 
 // What is before the updates: the header's numbers, whether its padding is not 0, where the keys and the updates begin, and the packer's warnings.
-#[derive(Drop)]
+#[derive(Clone, Copy)]
 pub struct Front {
     pub deleted: usize,
     pub updated: usize,

@@ -1,4 +1,6 @@
 // Cutting the bytes of a delta into messages.
+#![tactic(auto)]
+
 ghost use Rattle.std.specs.Prelude.{◌≡◌, ◌<◌, ℤ};
 ghost use Rattle.definitions.specs.Messages.{num_chunks_call, chunk_call};
 ghost use Rattle.delta_chunks.specs.Answers.{chunk_count, chunk_of, bytes_of};
@@ -8,14 +10,14 @@ use gamenet_snap::{MAX_SNAPSHOT_PACKSIZE, SnapMsg};
 use ticks::Tick;
 
 // How many messages some bytes make, or the refusal.
-#[derive(Drop)]
+#[derive(Clone, Copy)]
 pub enum NumChunks {
     Messages(usize),
     Refused(Error),
 }
 
 // The numbers of a message, or that there is none with that index, or the refusal.
-#[derive(Drop)]
+#[derive(Clone, Copy)]
 pub enum Chunk {
     Message(SnapMsg),
     End,

@@ -12,7 +12,7 @@ ghost use Rattle.delta_form.specs.Held.{size_from, form_of, end_of, updates_form
 use table::checked::{bits_at, count_at, nat_at, put};
 
 // Whether some ints begin with a delta under known sizes; if so, its numbers of deleted keys, of updates and of ints.
-#[derive(Drop)]
+#[derive(Clone, Copy)]
 pub enum DeltaForm {
     Delta {
         deleted: usize,
@@ -23,7 +23,7 @@ pub enum DeltaForm {
 }
 
 // Whether some updates follow one another; if so, the place after the last.
-#[derive(Drop)]
+#[derive(Clone, Copy)]
 pub enum UpdatesForm {
     End(usize),
     Bad,

@@ -10,7 +10,7 @@ use ints::{from_bits, one_if};
 use sorting::checked::{key_at, place_at};
 
 // The numbers of different deleted keys, different keys of updates, and updates of deleted keys.
-#[derive(Drop)]
+#[derive(Clone, Copy)]
 pub struct Tally {
     pub deleted: usize,
     pub updated: usize,

@@ -1,18 +1,12 @@
 -- A place that advances with rising keys. Assumes nothing.
 use Prim.Native.Nat.{ℕ, ◌+◌, ◌<◌, ◌≤◌}
-use mathlib.Core.Path.{◌≡◌, refl}
-use mathlib.Core.Logic.{◌⊎◌, inl, inr}
-use mathlib.Core.Bool.{Bool, true, false, false≢true}
+use mathlib.Core.Path.{◌≡◌}
 use mathlib.Core.List.{List}
-use mathlib.Core.Option.{some, none}
 use native.Mathlib.Omega.{arith}
 use lib.IntN.{ℤ}
-use lib.Dec.{eqb}
-use borrow.Author.Tests.{eqb-true, eqb-false}
-use Rattle.definitions.specs.Tables.{items, key_at, values_at, count, find, is_some}
-use Rattle.laws.specs.Tests.{below}
-use Rattle.laws.specs.TableShape.{keys-le, keys-rise}
-use Rattle.laws.specs.TableFind.{Place, absent, present}
+use Rattle.definitions.specs.Tables.{key_at, count}
+use Rattle.laws.specs.TableShape.{keys-rise}
+use Rattle.laws.specs.TableFind.{Place}
 use Rattle.table.specs.Held.{Held}
 
 -- the first c of n keys of a are less than those of b from the i-th on

@@ -22,7 +22,7 @@ use format::{Error, Stored};
 use table::checked::nat_at;
 
 // The result of reading ints that rise already: the answer, and how many updates are of deleted keys; or that they are not such ints.
-#[derive(Drop)]
+#[derive(Clone, Copy)]
 pub enum Ordered {
     Read {
         answer: Stored,

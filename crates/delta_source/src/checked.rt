@@ -40,7 +40,7 @@ pub fn at_end(bytes: &[u8], ints: &[i32], packed: bool, at: usize) -> bool
 }
 
 // The result of skipping integers: the place after them, or why they are not all there; with the packer's warnings counted.
-#[derive(Drop)]
+#[derive(Clone, Copy)]
 pub enum Skip {
     Past { next: usize, overlong: usize },
     Refused { error: Error, overlong: usize },
@@ -139,7 +139,7 @@ pub fn copy_ints(
 }
 
 // An update's key, how many differences it has, and where they begin; or why there is none.
-#[derive(Drop)]
+#[derive(Clone, Copy)]
 pub enum Head {
     Update {
         key: i32,
@@ -258,7 +258,7 @@ pub fn read_head(bytes: &[u8], ints: &[i32], packed: bool, sizes: &[i32], at: us
 }
 
 // The same with the place after the update.
-#[derive(Drop)]
+#[derive(Clone, Copy)]
 pub enum Update {
     Update {
         key: i32,
@@ -306,7 +306,7 @@ pub fn read_update(bytes: &[u8], ints: &[i32], packed: bool, sizes: &[i32], at: 
 }
 
 // A delta's header: its two numbers, whether its padding is not 0, and where the deleted keys begin; or why there is none.
-#[derive(Drop)]
+#[derive(Clone, Copy)]
 pub enum Header {
     Delta {
         deleted: usize,
@@ -329,7 +329,7 @@ pub fn header_refused(error: Error, overlong: usize) -> Header
 }
 
 // A number of the header, and the place of the next one; or why there is none.
-#[derive(Drop)]
+#[derive(Clone, Copy)]
 pub enum Number {
     Number {
         value: usize,
@@ -427,14 +427,14 @@ pub fn read_header(bytes: &[u8], ints: &[i32], packed: bool) -> Header
 }
 
 // How a run of updates ends: at the end of the source, or in a refusal.
-#[derive(Drop)]
+#[derive(Clone, Copy)]
 pub enum Ended {
     Whole,
     Refused(Error),
 }
 
 // How many updates there are, how many ints they take in an area, and how they end.
-#[derive(Drop)]
+#[derive(Clone, Copy)]
 pub struct Judged {
     pub updates: usize,
     pub room: usize,

@@ -12,7 +12,7 @@ use storage::{Added, Storage};
 use ticks::{OptionTick, Tick};
 
 // The types of items: a number, a kind that the builder numbers, and one with the number 8000 hex.
-#[derive(Drop)]
+#[derive(Clone, Copy)]
 enum Sort {
     Number,
     Kind,
@@ -20,21 +20,21 @@ enum Sort {
 }
 
 // The controller's store, and the current seed.
-#[derive(Drop)]
+#[derive(Clone, Copy)]
 pub struct Controller {
     pub storage: Storage,
     pub seed: u64,
 }
 
 // How a table was made: the seed afterwards, and whether it repeats the base's table.
-#[derive(Drop)]
+#[derive(Clone, Copy)]
 struct Prepared {
     seed: u64,
     repeated: bool,
 }
 
 // What is sent for a table, its bytes and how many there are, and the controller afterwards.
-#[derive(Drop)]
+#[derive(Clone, Copy)]
 pub struct Told {
     pub controller: Controller,
     pub sent: Sent,

@@ -1,7 +1,7 @@
 // The lines of the session's text.
 use format::Error;
 use gamenet_snap::SnapMsg;
-use logbook::Answer;
+use printer_logbook::Answer;
 use manager::Handled;
 use replay_text::line::Line;
 use ticks::{Distance, Tick};

@@ -7,14 +7,14 @@ use gamenet_snap::SnapMsg;
 use ticks::Tick;
 
 // The radio and the printer.
-#[derive(Drop)]
+#[derive(Clone, Copy)]
 pub struct Link {
     pub radio: Radio,
     pub printer: Printer,
 }
 
 // The tick of a delta, the tick of its base, and its table's sum.
-#[derive(Drop)]
+#[derive(Clone, Copy)]
 pub struct Sent {
     pub tick: Tick,
     pub base: Tick,

@@ -19,7 +19,7 @@ use ticks::{OptionTick, Tick};
 const LAST: u32 = 39;
 
 // The controller, the radio and the printer, and an acknowledgement that is held back.
-#[derive(Drop)]
+#[derive(Clone, Copy)]
 struct Session {
     controller: Controller,
     link: Link,

@@ -2,13 +2,13 @@
 use crate::lines::print_delivered;
 use format::{Error, Warnings};
 use gamenet_snap::SnapMsg;
-use logbook::{Answer, Logbook, Note};
+use printer_logbook::{Answer, Logbook, Note};
 use manager::{Handled, Handling, Manager};
 use replay_text::areas::{int_area, part_area, scratch};
 
 // The manager with its part area; the logbook with its two lists; how many messages came, how many of them were acknowledged, and how often the
 // two answers differed.
-#[derive(Drop)]
+#[derive(Clone, Copy)]
 pub struct Printer {
     pub manager: Manager,
     parts: [u8; 28800],
@@ -154,7 +154,7 @@ fn hand(manager: Manager, m: SnapMsg, data: &[u8], parts: &mut [u8], area: &mut 
 fn note(g: Logbook, m: SnapMsg, came: &mut [usize; 33], held: &mut [i32; 101]) -> Note {
     if g.parts < 33 {
         if g.ticks < 101 {
-            return logbook::checked::note_message(g, m, came, held);
+            return printer_logbook::checked::note_message(g, m, came, held);
         }
     }
     Note {

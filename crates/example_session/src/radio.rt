@@ -7,7 +7,7 @@ use ticks::{Distance, Tick};
 const PART: usize = 900;
 
 // What happens to a message.
-#[derive(Drop)]
+#[derive(Clone, Copy)]
 pub enum Fate {
     Lost,
     Late,
@@ -16,7 +16,7 @@ pub enum Fate {
 }
 
 // A message that is held back, if there is one, and how many bytes it has.
-#[derive(Drop)]
+#[derive(Clone, Copy)]
 pub struct Letter {
     pub full: bool,
     pub message: SnapMsg,
@@ -24,7 +24,7 @@ pub struct Letter {
 }
 
 // The current seed, and eight places for messages that are held back. The bytes of the k-th begin at 900 k.
-#[derive(Drop)]
+#[derive(Clone, Copy)]
 pub struct Radio {
     pub seed: u64,
     letters: [Letter; 8],

@@ -1,4 +1,6 @@
 // What all calls share: keys, refusals, and the warnings counted by kind.
+#![tactic(auto)]
+
 ghost use Rattle.std.specs.Prelude.{◌≡◌, cond, ◌/◌, ◌%◌};
 ghost use Rattle.std.proofs.Math.Option as Option;
 ghost use Rattle.definitions.specs.Ints.{bits};
@@ -15,7 +17,7 @@ ghost use Rattle.laws.specs.WarningKinds.{merge};
 ghost use Rattle.format.specs.Answers.{stored_ints};
 
 // Why a call is refused, in the order of the table of refusals in docs/FORMAT.md.
-#[derive(Drop)]
+#[derive(Clone, Copy)]
 pub enum Error {
     // Reading and making tables and deltas: snap::Error in the Rust.
     UnexpectedEnd,
@@ -104,7 +106,7 @@ pub fn error_number(e: Error) -> u32
 pub const WARNING_KINDS: usize = 12;
 
 // How many warnings of each kind were counted.
-#[derive(Drop)]
+#[derive(Clone, Copy)]
 pub struct Warnings {
     // From the packer.
     pub overlong_int_encoding: usize,
@@ -257,14 +259,14 @@ pub fn warned_row(overlong: bool) -> [usize; WARNING_KINDS]
 }
 
 // How many ints were stored at the front of an area, or why none were.
-#[derive(Drop)]
+#[derive(Clone, Copy)]
 pub enum Stored {
     Ints(usize),
     Refused(Error),
 }
 
 // The answer of a call that reads, with the warnings it counted.
-#[derive(Drop)]
+#[derive(Clone, Copy)]
 pub struct Reading {
     pub answer: Stored,
     pub warnings: Warnings,

@@ -1,5 +1,5 @@
 -- An int as a count: what the code's tests and casts need. Assumes nothing.
-use Rattle.std.proofs.Common.{◌≡◌, ℕ, ◌^◌, ◌<◌, Bool, true, false, T, ℤ, pos, negsuc, nat_abs, sym, refl, ap, ◌∙◌, true≢false, arith, to_z-of_z, w32, w64, Fits, SFits, to_z, of_z, le-ltb}
+use Rattle.std.proofs.Common.{◌≡◌, ◌^◌, ◌<◌, true, false, T, ℤ, pos, negsuc, nat_abs, sym, refl, ◌∙◌, true≢false, arith, to_z-of_z, w32, w64, Fits, SFits, to_z, of_z, le-ltb}
 use mathlib.Core.Bool.{false≢true}
 use lib.Signed.{mag, lt_z, non_neg}
 use Rattle.definitions.specs.Tables.{num}

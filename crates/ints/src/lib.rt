@@ -1,4 +1,6 @@
 // Signed 32-bit integers: their bits, wrapping sums, both orders, and slices of them.
+#![tactic(auto)]
+
 ghost use Rattle.std.specs.Prelude.{◌≡◌, ◌^◌, ◌≤◌, if◌then◌else◌};
 ghost use Rattle.definitions.specs.Ints.{bits, from_bits, wrapping_add, wrapping_sub, signed_less, unsigned_less};
 ghost use Rattle.definitions.specs.Ints as Ints;

@@ -1,11 +1,11 @@
 -- A delta in form applied to a sound base makes a sound table. Assumes nothing.
 use Rattle.std.specs.Prelude.{◌≡◌, refl, Bool, true, false, cond, List, [], ◌∷◌, ℕ, ◌+◌, ◌≤◌, leb, ltb, length}
-use Rattle.std.proofs.Common.{sym, ◌∙◌, arith, le-leb, leb-true, ltb-true}
+use Rattle.std.proofs.Common.{suc, sym, ◌∙◌, arith, le-leb, leb-true, ltb-true}
 use Rattle.definitions.specs.Refusals.{too_long_snap, too_many_items}
 use Rattle.definitions.specs.Warnings.{Counts}
 use Rattle.definitions.specs.Outcome.{ok, after}
 use Rattle.definitions.specs.Tables.{Item, Table, written, rising, sound, find, is_some}
-use Rattle.definitions.specs.Deltas.{Delta, keys, signed_rising}
+use Rattle.definitions.specs.Deltas.{Delta, rank, keys, signed_rising}
 use Rattle.definitions.specs.DeltaMaking.{agree}
 use Rattle.definitions.specs.Applying.{kept, apply_delta}
 use Rattle.laws.specs.TableForm.{length-written}
@@ -63,7 +63,7 @@ unfolding Judging.updated_table
 rising-updates low b [] t e r = r
 rising-updates low b (u ∷ us) t e r =
     let s = Judging.signed-rises low u.key (keys us) e in
-    rising-updates _ b us _ s.rest (rising-with_item 0 (Judging.made_item b u) t r (omega arith) s.whole)
+    rising-updates (suc (rank u.key)) b us _ s.rest (rising-with_item 0 (Judging.made_item b u) t r (omega arith) s.whole)
 
 -- a table of which this is known is sound
 is-sound : (t : Table) → Sound t → sound t ≡ true

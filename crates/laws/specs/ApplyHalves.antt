@@ -77,7 +77,8 @@ end-next sizes a p (suc m) = let e : suc m + 1 ≡ suc (m + 1) = omega arith in 
 pub updates-front : {sizes a : List ℤ} {p n : ℕ} (m : ℕ) → Updates sizes a p n → m ≤ n → Updates sizes a p m
 updates-front zero h l = last
 updates-front (suc m) last l = absurd (omega arith)
-updates-front (suc m) (more u us) l = more u (updates-front m us (omega arith))
+updates-front {sizes = sizes} {a = a} {p = p} (suc m) (more {n = n} u us) l =
+    more u (updates-front {p = update_end sizes a p} m us (omega arith))
 
 -- ---- updates in two halves
 

@@ -15,7 +15,7 @@ use Rattle.laws.specs.ListLaws.{Among, here, there}
 use Rattle.laws.specs.IntLaws.{same_bits}
 use Rattle.laws.specs.TickLaws.{both_ways, not-below-itself, not-below-back, below-before}
 use Rattle.laws.specs.PackLaws.{Whole, cons}
-use Rattle.laws.specs.TableEach.{one, WholeTable}
+use Rattle.laws.specs.TableEach.{no_more, one, WholeTable}
 use Rattle.laws.specs.TableWalk.{rises}
 
 -- ---- the customer's words
@@ -163,6 +163,7 @@ rules-are types (x ∷ t) = go (elem (type_of x) types) refl (one-rule x.key x.v
 -- a table whose rules are listed has no short item of a named type
 pub ruled-long : {types : List ℕ} {t : Table} {l : List Rule} → Ruled types t l → (x : Item) → Among x t → Among (type_of x) types → length x.values < 3
     → ⊥
+ruled-long no-rule x m n h = elim m [ ]
 ruled-long (rule m r) x here n h = let e = ap length m.values-are in omega arith
 ruled-long (rule m r) x (there k) n h = ruled-long r x k n h
 ruled-long (other f r) x here n h = f n
@@ -199,6 +200,7 @@ others-win false r o e = e
 -- where there is no winner, no item is a rule for the ingredient
 pub none-matches : {types : List ℕ} {t : Table} {l : List Rule} (i : ℤ) → Ruled types t l → winner_of i l ≡ none → NoMatch types i t
 unfolding winner_of
+none-matches i no-rule e y p a m k = elim m [ ]
 none-matches i (rule {l = l} {i = j} m r) e y p a here k =
     let h : same j i ≡ true = eq-eqb (bits j) (bits i) (ap bits (same-reading m k).0) in
     first_some _ (winner_of i l) (rw h at e)
@@ -208,6 +210,7 @@ none-matches i (other f r) e y p a (there h) k = none-matches i r e y p a h k
 
 -- the ints of an item fit 32 bits
 pub whole-among : {t : Table} {x : Item} → WholeTable t → Among x t → Whole x.values
+whole-among no_more m = elim m [ ]
 whole-among (one w ws) here = w
 whole-among (one w ws) (there m) = whole-among ws m
 
@@ -301,15 +304,15 @@ behind-both {p = p} {q = q} (equal h l) (lower f) = both_ways (sym f ∙ subst (
 behind-both (equal h l) (equal g n) = omega arith
 
 -- the keys of a table are at least the lowest
-among-above : {low : ℕ} {t : Table} {x : Item} → rising low t ≡ true → Among x t → low ≤ x.key
-among-above {low} {x = x} e (here {l = t}) = (rises low x t e).from
-among-above {low} e (there {b = y} {l = t} m) = let r = rises low y t e in omega (arith, r.from, among-above r.rest m)
+among-above : {x : Item} {low : ℕ} {t : Table} → rising low t ≡ true → Among x t → low ≤ x.key
+among-above {x = x} {low = low} e (here {l = t}) = (rises low x t e).from
+among-above {low = low} e (there {b = y} {l = t} m) = let r = rises low y t e in omega (arith, r.from, among-above r.rest m)
 
 -- a key stands once
-among-once : (low : ℕ) {t : Table} {x y : Item} → rising low t ≡ true → Among x t → Among y t → x.key ≡ y.key → x ≡ y
+among-once : {x y : Item} (low : ℕ) {t : Table} → rising low t ≡ true → Among x t → Among y t → x.key ≡ y.key → x ≡ y
 among-once low e here here k = refl
-among-once low {x = x} e (here {l = t}) (there m) k = absurd (omega (arith, among-above (rises low x t e).rest m))
-among-once low {y = y} e (there m) (here {l = t}) k = absurd (omega (arith, among-above (rises low y t e).rest m))
+among-once {x = x} low e (here {l = t}) (there m) k = absurd (omega (arith, among-above (rises low x t e).rest m))
+among-once {y = y} low e (there m) (here {l = t}) k = absurd (omega (arith, among-above (rises low y t e).rest m))
 among-once low e (there {b = z} {l = t} m) (there n) k = among-once (suc z.key) (rises low z t e).rest m n k
 
 -- so one item wins

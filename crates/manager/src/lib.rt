@@ -21,14 +21,14 @@ use ticks::{Distance, OptionTick, Tick};
 pub mod checked;
 
 // A receiver and a store.
-#[derive(Drop)]
+#[derive(Clone, Copy)]
 pub struct Manager {
     pub receiver: DeltaReceiver,
     pub storage: Storage,
 }
 
 // The answer for a message: the tick of the table that it made, which is acknowledged; that parts are missing; or why it is refused.
-#[derive(Drop)]
+#[derive(Clone, Copy)]
 pub enum Handled {
     Tick(Tick),
     NotYet,
@@ -36,7 +36,7 @@ pub enum Handled {
 }
 
 // The result of a call, with the warnings counted and the manager afterwards.
-#[derive(Drop)]
+#[derive(Clone, Copy)]
 pub struct Handling {
     pub answer: Handled,
     pub warnings: Warnings,

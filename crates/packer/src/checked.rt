@@ -152,7 +152,7 @@ pub fn read_plain_int(src: &[i32], at: usize) -> IntRead
 
 // What one pass over packed integers tells: how many there are up to one that is cut or has padding bits set, and which of the two
 // ends them, if one does.
-#[derive(Drop)]
+#[derive(Clone, Copy)]
 pub struct Totals {
     pub count: usize,
     pub cut: bool,

@@ -1,6 +1,8 @@
 // Packed integers.
 // Format: ESDD_DDDD EDDD_DDDD EDDD_DDDD EDDD_DDDD PPPP_DDDD
 // E: another byte follows; S: sign; D: digits, the lowest first; P: padding, written as 0 and refused if it is not.
+#![tactic(auto)]
+
 ghost use Rattle.std.specs.Prelude.{◌≡◌, false, [], ◌∷◌, ◌+◌, ◌≤◌, ◌<◌, ◌^◌, leb, length};
 ghost use Rattle.std.specs.Int.Signed.{mag};
 ghost use Rattle.definitions.specs.Areas.{lay_at};
@@ -29,7 +31,7 @@ pub use readers::{IntUnpacker, ReaderAnswer, Unpacker, read_bytes, read_ints};
 pub const MAX_INPUT: usize = 1048576;
 
 // The int at a place, with the place after it and whether a shorter form exists, or why none is read.
-#[derive(Drop)]
+#[derive(Clone, Copy)]
 pub enum IntRead {
     Int {
         value: i32,
@@ -40,20 +42,20 @@ pub enum IntRead {
 }
 
 // The place after what was written, or why nothing was written.
-#[derive(Drop)]
+#[derive(Clone, Copy)]
 pub enum IntWrite {
     Next(usize),
     Refused(Error),
 }
 
 // How many ints were unpacked and whether the last one of the bytes was cut, or why nothing was.
-#[derive(Drop)]
+#[derive(Clone, Copy)]
 pub enum IntsRead {
     Ints { count: usize, cut: bool },
     Refused(Error),
 }
 
-#[derive(Drop)]
+#[derive(Clone, Copy)]
 pub struct Unpacked {
     pub answer: IntsRead,
     pub warnings: Warnings,

@@ -9,21 +9,21 @@ ghost use Rattle.packer.specs.ReaderAnswers.{moved, ints_moved, Answered};
 use super::{IntRead, places};
 
 // A reader over packed bytes.
-#[derive(Drop)]
+#[derive(Clone, Copy)]
 pub struct Unpacker<'a> {
     pub src: &'a [u8],
     pub at: usize,
 }
 
 // A reader over ints.
-#[derive(Drop)]
+#[derive(Clone, Copy)]
 pub struct IntUnpacker<'a> {
     pub src: &'a [i32],
     pub at: usize,
 }
 
 // The answer of a reader: the integer, the place after reading, how many entries are left, and whether none are.
-#[derive(Drop)]
+#[derive(Clone, Copy)]
 pub struct ReaderAnswer {
     pub read: IntRead,
     pub at: usize,

@@ -33,7 +33,7 @@ pub fn refused(error: Error) -> Reading
 }
 
 // A packed table's ints at the front of an area, and what the packer counted; or the answer to a call that can't read them.
-#[derive(Drop)]
+#[derive(Clone, Copy)]
 pub enum Unpacked {
     Ints(Totals),
     Refused(Reading),
@@ -90,7 +90,7 @@ pub fn read_packed(src: &[u8], out: &mut [i32], scratch: &mut [i32]) -> Reading
 }
 
 // What a base and a delta hold: so many items, deleted keys and updates; or why they are refused.
-#[derive(Drop)]
+#[derive(Clone, Copy)]
 pub enum Areas {
     Held {
         items: usize,

@@ -17,7 +17,7 @@ pub mod checked;
 pub mod raw_builder;
 
 // Whether a table has an item.
-#[derive(Drop)]
+#[derive(Clone, Copy)]
 pub enum Has {
     Yes,
     No,
@@ -25,21 +25,21 @@ pub enum Has {
 }
 
 // How many items a table has.
-#[derive(Drop)]
+#[derive(Clone, Copy)]
 pub enum Count {
     Items(usize),
     Refused(Error),
 }
 
 // The sum of a table's data.
-#[derive(Drop)]
+#[derive(Clone, Copy)]
 pub enum Checksum {
     Sum(i32),
     Refused(Error),
 }
 
 // The key of an item of a walk, or the end of the walk.
-#[derive(Drop)]
+#[derive(Clone, Copy)]
 pub enum Walked {
     Key(i32),
     End,

@@ -1,5 +1,5 @@
 -- What the answers of `receiver` mean: the refusal's number or the value of each case. Assumes nothing.
-use Rattle.std.specs.Prelude.{Bool, false, cond, List, ℕ, ◌*◌, ◌<◌, ◌≤◌, length}
+use Rattle.std.specs.Prelude.{false, cond, List, ℕ, ◌*◌, ◌<◌, ◌≤◌, length}
 use Rattle.std.proofs.Math.Option.{Option, some, none}
 use Rattle.definitions.specs.Areas.{lay_at}
 use Rattle.definitions.specs.Refusals.{duplicate_part}

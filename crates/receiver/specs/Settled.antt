@@ -1,7 +1,6 @@
 -- What a receiver holds determines every field of it. Assumes nothing.
 use Rattle.std.specs.Prelude.{◌≡◌, refl, ℕ}
 use Rattle.std.proofs.Common.{ap, arith}
-use Rattle.std.proofs.Math.Option.{some, none}
 use Rattle.definitions.specs.Receiver as Receiver
 use Rattle.ticks.specs.Ticks.{tick-settled}
 use Rattle.receiver.specs.States.{current_in, current_of, receiver_of}

@@ -16,14 +16,14 @@ use format::{Error, Warnings};
 use ticks::{Distance, OptionTick, Tick};
 
 // The ticks of a receiver, without the lengths of its parts.
-#[derive(Drop)]
+#[derive(Clone, Copy)]
 pub struct Ticks {
     pub previous_tick: OptionTick,
     pub current: Current,
 }
 
 // The result of a message whose lengths are changed in place.
-#[derive(Drop)]
+#[derive(Clone, Copy)]
 pub struct Taking {
     pub answer: Received,
     pub warnings: Warnings,
@@ -31,14 +31,14 @@ pub struct Taking {
 }
 
 // The number of a part that can be taken, or why it is refused.
-#[derive(Drop)]
+#[derive(Clone, Copy)]
 pub enum Judged {
     Part(usize),
     Refused(Error),
 }
 
 // The numbers of a part.
-#[derive(Drop)]
+#[derive(Clone, Copy)]
 pub struct Part {
     pub tick: Tick,
     pub delta_tick: Distance,

@@ -1,4 +1,6 @@
 // The receiver of a delta's parts.
+#![tactic(auto)]
+
 ghost use Rattle.std.specs.Prelude.{◌≡◌, List, ℕ};
 ghost use Rattle.definitions.specs.Receiver.{fresh_receiver, snap_call, snap_single_call, snap_empty_call};
 ghost use Rattle.format.specs.Totals.{counts};
@@ -14,7 +16,7 @@ pub mod checked;
 pub mod whole;
 
 // What the first part of an unfinished tick fixed.
-#[derive(Drop)]
+#[derive(Clone, Copy)]
 pub struct CurrentDelta {
     pub tick: Tick,
     pub delta_tick: Tick,
@@ -23,14 +25,14 @@ pub struct CurrentDelta {
 }
 
 // An unfinished tick, if there is one.
-#[derive(Drop)]
+#[derive(Clone, Copy)]
 pub enum Current {
     Some(CurrentDelta),
     None,
 }
 
 // The last finished tick and the unfinished one, if any, and the length of each part, above 900 if it is not in.
-#[derive(Drop)]
+#[derive(Clone, Copy)]
 pub struct DeltaReceiver {
     pub previous_tick: OptionTick,
     pub current: Current,
@@ -38,7 +40,7 @@ pub struct DeltaReceiver {
 }
 
 // The answer to a message: no delta yet; a delta's tick and base, with its joined bytes' count and its sum; an empty delta; or why it is refused.
-#[derive(Drop)]
+#[derive(Clone, Copy)]
 pub enum Received {
     NotYet,
     Delta {
@@ -55,7 +57,7 @@ pub enum Received {
 }
 
 // The answer of a call on a receiver, with the warnings counted and the receiver afterwards.
-#[derive(Drop)]
+#[derive(Clone, Copy)]
 pub struct Receiving {
     pub answer: Received,
     pub warnings: Warnings,

@@ -21,7 +21,7 @@ use replay_text::words::word;
 use state::{Answered, State};
 
 // What a case is about.
-#[derive(Drop)]
+#[derive(Clone, Copy)]
 enum Subject {
     Packer,
     Tables,

@@ -7,7 +7,7 @@ use replay_text::words::number;
 use storage::Storage;
 
 // A manager, and how many ints its store's area and the delta area have.
-#[derive(Drop)]
+#[derive(Clone, Copy)]
 pub struct State {
     pub manager: Manager,
     pub room: usize,
@@ -15,7 +15,7 @@ pub struct State {
 }
 
 // The state after a case, and the answer.
-#[derive(Drop)]
+#[derive(Clone, Copy)]
 pub struct Answered {
     pub state: State,
     pub line: Line,

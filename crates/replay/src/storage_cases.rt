@@ -20,7 +20,7 @@ use storage::{Added, HeldTick, Set, Storage, Taken};
 use ticks::Tick;
 
 // A store after a call, and the answer.
-#[derive(Drop)]
+#[derive(Clone, Copy)]
 struct Called {
     storage: Storage,
     line: Line,

@@ -6,10 +6,10 @@ ghost use Rattle.replay_text.specs.Numbers as Numbers;
 ghost use Rattle.replay_text.specs.Answers as Answers;
 ghost use Rattle.replay_text.specs.Lines.{line_of, no_text, adds, gapped};
 
-use libc::STDOUT_FILENO;
+use std::io::Result;
 
 // The bytes of a line, and how many there are.
-#[derive(Drop)]
+#[derive(Clone, Copy)]
 pub struct Line {
     text: [u8; 2048],
     len: usize,
@@ -112,9 +112,9 @@ impl Line {
     }
 
     // Ends the line and writes it to standard output.
-    pub fn print(self) {
+    pub fn print(self, rt: &impl Print) -> Result<()> {
         let mut text = self.text;
         let end = crate::put_byte(&mut text, self.len, b'\n');
-        io::write_all(STDOUT_FILENO, &text[..end]);
+        rt.write_all(&text[..end])
     }
 }

@@ -3,14 +3,14 @@ ghost use Rattle.std.specs.Prelude.{◌≡◌};
 ghost use Rattle.rule_text.specs.Arguments.{are_digits, up_to, is_int, type_in, int_in, typed, inted};
 
 // A type, or that the word is none.
-#[derive(Drop)]
+#[derive(Clone, Copy)]
 pub enum TypeWord {
     Type(u16),
     Odd,
 }
 
 // An int, or that the word is none.
-#[derive(Drop)]
+#[derive(Clone, Copy)]
 pub enum IntWord {
     Int(i32),
     Odd,

@@ -11,7 +11,7 @@ use super::Won;
 use format::Error;
 
 // The rule that goes before all others found so far, or that none was found.
-#[derive(Drop)]
+#[derive(Clone, Copy)]
 pub enum Best {
     Rule {
         key: i32,

@@ -1,4 +1,6 @@
 // Which rule of a table prints: the label product, above the tables.
+#![tactic(auto)]
+
 ghost use Rattle.std.specs.Prelude.{◌≡◌};
 ghost use Rattle.definitions.specs.Rules.{winner_call};
 ghost use Rattle.rules.specs.Answers.{won};
@@ -9,7 +11,7 @@ use table::checked::TableForm;
 pub mod checked;
 
 // The key and the action of the rule that wins, or that none matches, or why the table is refused.
-#[derive(Drop)]
+#[derive(Clone, Copy)]
 pub enum Won {
     Rule { key: i32, action: i32 },
     Nothing,

@@ -8,7 +8,7 @@ use Rattle.definitions.specs.Logbook.{has_tick}
 use Rattle.laws.specs.ListLaws.{among_first, among-nothing}
 use Rattle.session.specs.Statement.{Among, here, there, HeldAt}
 use Rattle.session.specs.Lists.{contra, either}
-use Rattle.session.specs.HeldTicks.{Falls, next, same-pos, ticks-drop, falls-drop, dropped-at_least, oldest-among, Found, found, missing, find-base, has_tick-not_below, held-has_tick}
+use Rattle.session.specs.HeldTicks.{Falls, next, same-pos, ticks-drop, falls-drop, dropped-at_least, oldest-among, Found, found, missing, find-base, has_tick-not_below, held-has_tick, end}
 
 -- a table of a newer tick before those that fall
 pub falls-next : {k : ℕ} (n : ℕ) (x : StoredSnap) (l : List StoredSnap) → x.tick ≡ pos n → n < k → Falls n l → Falls k (x ∷ l)
@@ -16,6 +16,7 @@ falls-next {k} n x l e h f = subst (λ (z : ℤ). Falls k (record { tick = z; sn
 
 -- the tick of one held
 pub falls-tick : {k : ℕ} {x : StoredSnap} {l : List StoredSnap} → Falls k l → Among x l → (n : ℕ) × (x.tick ≡ pos n) × (n < k)
+falls-tick (end {k = k}) x7 = elim x7 [ ]
 falls-tick (next {n = n} h f) here = (n, refl, h)
 falls-tick (next {n = n} h f) (there m) = let (j, q, i) = falls-tick f m in (j, q, omega arith)
 

@@ -109,7 +109,9 @@ oldest-is b (next {n = n} p (next {n = j} q f)) (more a (more c d)) =
 oldest-below : {k : ℕ} {x : StoredSnap} {l : List StoredSnap} → Falls k (x ∷ l) → (j : ℕ) × ((oldest_or x l).tick ≡ pos j) × (j < k)
 unfolding oldest_or
 oldest-below (next {n = n} p end) = (n, refl, p)
-oldest-below (next {n = n} p (next q f)) = let (j, e, h) = oldest-below (next q f) in (j, e, omega arith)
+oldest-below (next {n = n} p (next {n = j} {t = t} {l = l} q f)) =
+    let r = oldest-below {k = n} {x = snap_at j t} {l = l} (next q f) in
+    (r.0, r.1, omega (arith, r.2))
 
 -- the lowest tick is that of the oldest
 lowest-oldest : {k n : ℕ} {t : Table} {l : List StoredSnap} → Falls k (snap_at n t ∷ l) → lowest (pos n) (ticks l) ≡ (oldest_or (snap_at n t) l).tick
@@ -205,5 +207,6 @@ has_tick-held b (next {n = n} {t = t} p f) e =
 -- a tick that is held is among those of the tables
 pub held-has_tick : (b : ℤ) (l : List StoredSnap) (x : StoredSnap) → Among x l → x.tick ≡ b → has_tick b (ticks l) ≡ true
 unfolding has_tick
+held-has_tick b [] x x4 e = elim x4 [ ]
 held-has_tick b (y ∷ l) x here e = rw (e, same_self b) refl
 held-has_tick b (y ∷ l) x (there m) e = rw (held-has_tick b l x m e) (or-true (same y.tick b))

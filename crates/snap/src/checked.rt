@@ -29,7 +29,7 @@ use typed_applying::checked::{Table, Typed, apply_typed};
 use types::checked::{Types, judge};
 
 // The result of placing the items of a table, and how many kinds have more than four ints.
-#[derive(Drop)]
+#[derive(Clone, Copy)]
 pub struct Placing {
     pub answer: Stored,
     pub kinds: usize,
@@ -72,7 +72,7 @@ pub fn place_typed(src: &[i32], n: usize, len: usize, out: &mut [i32]) -> Placin
 }
 
 // The result of reading a table with types, whether ints were left over, and how many kinds have more than four ints.
-#[derive(Drop)]
+#[derive(Clone, Copy)]
 pub struct Found {
     pub answer: Stored,
     pub excess: bool,

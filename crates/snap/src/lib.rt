@@ -14,14 +14,14 @@ use table::checked::{TableForm, data_at, find, form};
 pub mod checked;
 
 // A type: a number, or a kind, whose 16 bytes are four big-endian ints.
-#[derive(Drop)]
+#[derive(Clone, Copy)]
 pub enum TypeId {
     Ordinal(u16),
     Uuid(i32, i32, i32, i32),
 }
 
 // The raw type of a type, if the table has one.
-#[derive(Drop)]
+#[derive(Clone, Copy)]
 pub enum RawTypeId {
     Raw(u16),
     Unknown,
@@ -29,7 +29,7 @@ pub enum RawTypeId {
 }
 
 // The type of a raw type, if the table has one.
-#[derive(Drop)]
+#[derive(Clone, Copy)]
 pub enum TypeFound {
     Ordinal(u16),
     Uuid(i32, i32, i32, i32),

@@ -41,7 +41,7 @@ use ticks::{OptionTick, Tick};
 use typed_applying::checked::{Table, Typed, apply_typed};
 
 // The numbers of a delta: its sum, if one was sent, the tick of its base, and its own tick.
-#[derive(Drop)]
+#[derive(Clone, Copy)]
 pub struct Sent {
     pub has_crc: bool,
     pub crc: i32,

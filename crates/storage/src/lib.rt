@@ -19,7 +19,7 @@ use ticks::{OptionTick, Tick};
 pub mod checked;
 
 // How many tables are in a store's area, the tick acknowledged last, if any, and the base tick that is set, if any.
-#[derive(Drop)]
+#[derive(Clone, Copy)]
 pub struct Storage {
     pub count: usize,
     pub ack_tick: OptionTick,
@@ -27,7 +27,7 @@ pub struct Storage {
 }
 
 // The tick of a held table, or that there are fewer tables.
-#[derive(Drop)]
+#[derive(Clone, Copy)]
 pub enum HeldTick {
     At(Tick),
     End,
@@ -35,14 +35,14 @@ pub enum HeldTick {
 }
 
 // Whether a base tick was set.
-#[derive(Drop)]
+#[derive(Clone, Copy)]
 pub enum Set {
     Done,
     Refused(Error),
 }
 
 // The result of setting a base tick, with the warnings counted and the store afterwards.
-#[derive(Drop)]
+#[derive(Clone, Copy)]
 pub struct Setting {
     pub answer: Set,
     pub warnings: Warnings,
@@ -51,7 +51,7 @@ pub struct Setting {
 
 // The base of an added table and how many ints its delta takes; or the least key, read as unsigned, whose two items differ in length; or why it is
 // refused.
-#[derive(Drop)]
+#[derive(Clone, Copy)]
 pub enum Added {
     Delta { base: Tick, ints: usize },
     DifferingSizes(i32),
@@ -59,21 +59,21 @@ pub enum Added {
 }
 
 // The result of adding a table, and the store afterwards.
-#[derive(Drop)]
+#[derive(Clone, Copy)]
 pub struct Adding {
     pub answer: Added,
     pub storage: Storage,
 }
 
 // The tick of the table that a delta made, or why the delta is refused.
-#[derive(Drop)]
+#[derive(Clone, Copy)]
 pub enum Taken {
     Tick(Tick),
     Refused(Error),
 }
 
 // The result of taking a delta, with the warnings counted and the store afterwards.
-#[derive(Drop)]
+#[derive(Clone, Copy)]
 pub struct Taking {
     pub answer: Taken,
     pub warnings: Warnings,

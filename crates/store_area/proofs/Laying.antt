@@ -10,7 +10,7 @@ use lib.Seq.{take_at, drop_at, drop-drop, length-take-le}
 use borrow.Rule.Slice.PartMut.{put_mid}
 use Rattle.definitions.specs.Areas.{lay_at, cleared}
 use Rattle.definitions.specs.Tables.{Table, written}
-use Rattle.definitions.specs.Storage.{StoredSnap, store_ints, store_area}
+use Rattle.definitions.specs.Storage.{StoredSnap, store_ints}
 use Rattle.laws.specs.AreaLaws.{lay-append, lay_at-between}
 use Rattle.ints.specs.Copies.{copy_at, copied, shifted}
 use Rattle.laws.specs.StoreForm.{store_room, room_cons, LaidIn}

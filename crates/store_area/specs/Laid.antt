@@ -4,7 +4,7 @@ use Rattle.std.proofs.Common.{sym, ap, ap₂, ◌∙◌, subst, arith}
 use Rattle.std.proofs.Math.Option.{some}
 use Rattle.definitions.specs.Tables.{sound}
 use Rattle.definitions.specs.Storage.{StoredSnap, store_area, snaps_of}
-use Rattle.laws.specs.StoreForm.{Sounds, nothing, more, area-found, store_room, LaidIn, length-area}
+use Rattle.laws.specs.StoreForm.{Sounds, more, area-found, store_room, LaidIn, length-area}
 use Rattle.store_area.specs.Held.{snaps_in, snap_at, Stands, HeldStore, Leaves}
 
 -- each of sound tables is sound

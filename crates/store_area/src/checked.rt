@@ -9,14 +9,14 @@ use table::checked::TableForm;
 use ticks::Tick;
 
 // Whether an area holds tables and then zeros, and how many ints the tables take.
-#[derive(Drop)]
+#[derive(Clone, Copy)]
 pub enum StoreForm {
     Tables(usize),
     Bad,
 }
 
 // The tables that are left: how many, and how many ints they take.
-#[derive(Drop)]
+#[derive(Clone, Copy)]
 pub struct Left {
     pub count: usize,
     pub ints: usize,

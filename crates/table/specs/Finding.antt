@@ -3,7 +3,7 @@ use Rattle.std.specs.Prelude.{ℕ, ◌+◌, ◌<◌, ◌≤◌, ◌≡◌, refl,
 use Rattle.std.proofs.Common.{inl, inr, arith, eqb-true}
 use Rattle.std.proofs.lemmas.Bool.{false≢true, eqb-false}
 use Rattle.std.proofs.Math.Option.{some, none}
-use Rattle.definitions.specs.Tables.{items, key_at, values_at, count, find, is_some}
+use Rattle.definitions.specs.Tables.{items, key_at, values_at, find, is_some}
 use Rattle.laws.specs.Tests.{below}
 use Rattle.laws.specs.TableShape.{keys-le}
 use Rattle.laws.specs.TableFind.{Place, absent, present}

@@ -1,9 +1,9 @@
 -- What the answer of the form test means. Assumes nothing.
-use Rattle.std.specs.Prelude.{ℕ, ◌+◌, ◌/◌, ◌<◌, refl, Bool, true, false, List, ℤ, length}
-use Rattle.std.proofs.Common.{arith, sym, ap, ap₂, ◌∙◌}
+use Rattle.std.specs.Prelude.{ℕ, ◌+◌, ◌/◌, refl, Bool, true, false, List, ℤ, length}
+use Rattle.std.proofs.Common.{arith, sym, ap₂, ◌∙◌}
 use Rattle.std.proofs.Math.Path.{◌≡◌}
-use Rattle.std.proofs.Math.Option.{Option, some, none}
-use Rattle.definitions.specs.Tables.{Table, written, table_of, items, in_form, count, size}
+use Rattle.std.proofs.Math.Option.{some, none}
+use Rattle.definitions.specs.Tables.{written, table_of, items, in_form, count, size}
 use Rattle.laws.specs.TableShape.{Shape, shape, some_is, none_is}
 use Rattle.laws.specs.TableForm.{length-items, length-form}
 use Rattle.table.specs.Held.{form_of, Held}

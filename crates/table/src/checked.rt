@@ -12,14 +12,14 @@ ghost use Rattle.table.specs.Offsets.{behind_at, joined, tally};
 ghost use Rattle.table.specs.Keys.{Rising, last_key};
 
 // Whether an area begins with a written table; if so, its number of items and of ints.
-#[derive(Drop)]
+#[derive(Clone, Copy)]
 pub enum TableForm {
     Table { items: usize, ints: usize },
     Bad,
 }
 
 // A summary of some items' offsets: how many are above the one before, and the bitwise or of all of them.
-#[derive(Drop)]
+#[derive(Clone, Copy)]
 pub struct Offsets {
     pub behind: u32,
     pub bits: u32,

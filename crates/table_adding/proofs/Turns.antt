@@ -1,16 +1,13 @@
 -- A turn of each loop that moves or raises the ints of an area, as an equation of lists. Assumes nothing.
-use Prim.Native.Nat.{ℕ, zero, suc, ◌+◌, ◌-◌, ◌<◌, ◌≤◌}
+use Prim.Native.Nat.{ℕ, zero, suc, ◌+◌, ◌<◌, ◌≤◌}
 use mathlib.Core.Path.{◌≡◌, refl, sym, ap, ap₂, ◌∙◌}
 use mathlib.Core.List.{List, [], ◌∷◌, ◌++◌, map, append-nil}
-use native.Mathlib.Nat.{zero-add}
 use native.Mathlib.Numerals.{add-one}
 use native.Mathlib.Omega.{arith}
 use lib.IntN.{ℤ, pos}
 use lib.ListN.{length, get_or, take, drop, set, drop_of_length-le, length-map}
 use lib.Seq.{take_all, drop-cons, set_at, get_or_at, length-take-le, append_snoc}
-use Rattle.definitions.specs.Areas.{lay_at}
 use Rattle.definitions.specs.Tables.{num, nat}
-use Rattle.laws.specs.AreaLaws.{lay-append, lay_at-nothing}
 use Rattle.table_adding.specs.Adding.{raised}
 
 -- ---- raised counts

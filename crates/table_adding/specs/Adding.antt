@@ -1,6 +1,5 @@
 -- What the steps of adding an item require and do to an area. Assumes nothing.
-use Rattle.std.specs.Prelude.{◌≡◌, List, ℕ, ◌+◌, ◌-◌, ◌/◌, ◌<◌, ◌≤◌, ℤ, pos, length, take, drop}
-use Rattle.definitions.specs.Areas.{lay_at}
+use Rattle.std.specs.Prelude.{◌≡◌, List, ℕ, ◌+◌, ◌/◌, ◌<◌, ◌≤◌, ℤ, pos, length}
 use Rattle.definitions.specs.Tables.{num, count, size, key_at}
 use Rattle.laws.specs.TableFind.{Place}
 use Rattle.table.specs.Held.{Held}

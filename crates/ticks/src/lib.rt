@@ -1,4 +1,6 @@
 // Ticks and the distances between them: two sorts of count. Only the wrapping subtraction relates them.
+#![tactic(auto)]
+
 ghost use Rattle.std.specs.Prelude.{◌≡◌, pos};
 ghost use Rattle.definitions.specs.Ints.{signed_less};
 ghost use Rattle.definitions.specs.Messages.{base_tick, distance};
@@ -6,15 +8,15 @@ ghost use Rattle.definitions.specs.Receiver.{same};
 ghost use Rattle.ticks.specs.Ticks.{distance_of};
 
 // The tick of a table.
-#[derive(Drop)]
+#[derive(Clone, Copy)]
 pub struct Tick(pub i32);
 
 // How far a table's tick is past its base's tick.
-#[derive(Drop)]
+#[derive(Clone, Copy)]
 pub struct Distance(pub i32);
 
 // A tick, if there is one.
-#[derive(Drop)]
+#[derive(Clone, Copy)]
 pub enum OptionTick {
     Some(Tick),
     None,

@@ -15,14 +15,14 @@ use format::{Error, Stored};
 use types::checked::{Types, judge_form};
 
 // How many items and ints the table has, or why there is none.
-#[derive(Drop)]
+#[derive(Clone, Copy)]
 pub enum Table {
     Made { items: usize, ints: usize },
     Refused(Error),
 }
 
 // The table, whether the base lacks a deleted key, and how many kinds have more than four ints.
-#[derive(Drop)]
+#[derive(Clone, Copy)]
 pub struct Typed {
     pub table: Table,
     pub unknown_delete: bool,

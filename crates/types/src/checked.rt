@@ -16,14 +16,14 @@ use table::checked::{bits_at, edge, key_at};
 use table_reading::checked::{Placed, place_items};
 
 // Whether types are sound, or why they are refused.
-#[derive(Drop)]
+#[derive(Clone, Copy)]
 pub enum Types {
     Sound,
     Refused(Error),
 }
 
 // Whether types are sound, and how many items of type 0 had more than four ints, up to the refusal.
-#[derive(Drop)]
+#[derive(Clone, Copy)]
 pub struct Judged {
     pub types: Types,
     pub excess: usize,

@@ -1,0 +1,68 @@
+use Prim.Native.Nat.{◌+◌, ◌<◌, ◌≤◌}
+use mathlib.Core.Path.{◌≡◌, sym, ◌∙◌}
+use native.Mathlib.Omega.{arith}
+use borrow.Author.Tests.{not-true, not-false}
+use mir.Facts.{to_z-of_z}
+use lib.IntN.{pos}
+use lib.ListN.{get_or}
+use Rattle.definitions.specs.Ints.{bits, signed_less}
+use Rattle.definitions.specs.Deltas.{rank, deleted_at}
+use Rattle.laws.specs.IntLaws.{less-ranks, not-less-ranks}
+use Rattle.delta_form.proofs.Ranks.{under_more}
+use borrow.Author.Rules.{rules}
+use Rattle.std.proofs.Common.{w32}
+use Rattle.delta_form.proofs.checked.deleted_from.Goals as goal
+use Rattle.delta_form.proofs.checked.deleted_from.Lts as lts
+use Rattle.delta_form.proofs.checked.deleted_from.Tie as tie
+use Rattle.delta_form.proofs.checked.deleted_from.Reads as reads
+
+abbrev After-signed_less : Type 0
+After-signed_less = lts.After-signed_less tie.the-claims reads.Pre reads.Post goal.the-invariant-loop-i goal.the-decreases-loop-i
+
+abbrev Else-not-signed_less : Type 0
+Else-not-signed_less = lts.Else1 tie.the-claims reads.Pre reads.Post goal.the-invariant-loop-i goal.the-decreases-loop-i
+
+abbrev Then-not-signed_less : Type 0
+Then-not-signed_less = lts.Then1 tie.the-claims reads.Pre reads.Post goal.the-invariant-loop-i goal.the-decreases-loop-i
+
+-- the deleted key at hand is compared in signed order
+compared : (c : After-signed_less) → let l = c.before.before.before in c.signed_less.result ≡ signed_less (get_or l.args.src.now (3 + l.loop-i.i) (pos 0)) l.args.key
+compared c =
+    let l = c in
+    c.signed_less.ensures ∙ rw (to_z-of_z {w = w32} (record { sfits = c.signed_less-arg-1.given }), to_z-of_z {w = w32} l.ranges.key)
+
+below : (c : Else-not-signed_less) → let l = c.before.before.before.before in rank (deleted_at l.args.src.now l.loop-i.i) < rank (bits l.args.key)
+unfolding deleted_at
+below c =
+    let l = c in
+    less-ranks _ l.args.key (record { sfits = c.signed_less-arg-1.given }) l.ranges.key (sym (compared c.before) ∙ not-false _ c.if-not-signed_less.false-raw)
+
+not-below : (c : Then-not-signed_less) → let l = c.before.before.before.before in rank (bits l.args.key) ≤ rank (deleted_at l.args.src.now l.loop-i.i)
+unfolding deleted_at
+not-below c =
+    let l = c in
+    not-less-ranks _ l.args.key (record { sfits = c.signed_less-arg-1.given }) l.ranges.key (sym (compared c.before) ∙ not-true _ c.if-not-signed_less.true-raw)
+
+pub loop-i-init : goal.loop-i-init
+unfolding bits
+loop-i-init c =
+    rw (to_z-of_z {w = w32} c.ranges.key)
+    ((c.requires.1, c.requires.2))
+
+pub returns-then-not-signed_less : goal.returns-then-not-signed_less
+unfolding bits
+returns-then-not-signed_less c =
+    let l = c.loop-i in
+    record { few = (rw (to_z-of_z {w = w32} c.ranges.key) at l.invariant).0; under = (rw (to_z-of_z {w = w32} c.ranges.key) at l.invariant).1; here = λ m. not-below c }
+
+pub loop-i-preserved : goal.loop-i-preserved
+unfolding bits
+loop-i-preserved c =
+    rw (to_z-of_z {w = w32} c.ranges.key)
+    ((search rules, under_more _ _ _ (rw (to_z-of_z {w = w32} c.ranges.key) at c.loop-i.invariant).1 (below c)))
+
+pub returns : goal.returns
+unfolding bits
+returns c =
+    let l = c.loop-i in
+    record { few = (rw (to_z-of_z {w = w32} c.ranges.key) at l.invariant).0; under = (rw (to_z-of_z {w = w32} c.ranges.key) at l.invariant).1; here = λ m. absurd (omega arith) }
