@@ -7,4 +7,3 @@ pub mod Scanning
 pub mod Pretest
 pub mod Packing
 pub mod PlaceLaws
-pub mod Lending

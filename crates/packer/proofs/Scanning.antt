@@ -16,7 +16,7 @@ use Rattle.definitions.specs.Refusals.{capacity_error, non_zero_int_padding}
 use Rattle.definitions.specs.Outcome.{Outcome, ok, err}
 use Rattle.definitions.specs.Packed.{warned}
 use Rattle.definitions.specs.Packer.{Unpacked, unpack_stream}
-use Rattle.definitions.specs.Stream.{Stream, int, end, cut, padded, stopped, stream, ints, warnings, is_cut, is_padded}
+use Rattle.definitions.specs.Stream.{Stream, cut, padded, stopped, stream, ints, warnings, is_cut, is_padded}
 use Rattle.laws.specs.Tests.{at_most_one}
 use Rattle.laws.specs.AreaLaws.{lay-nowhere, lay_at-set, lay_at-split, lay_at-nothing, length-lay_at}
 use Rattle.laws.specs.WarningLaws.{none-plus, plus_none, plus_assoc, packed, warned-packed}

@@ -6,7 +6,6 @@ use Rattle.definitions.specs.Outcome.{Outcome, ok, err, return, refuse}
 use Rattle.definitions.specs.Packed.{warned}
 use Rattle.definitions.specs.Packer.{IntAt, Unpacked}
 use Rattle.format.specs.Numbers.{number}
-use Rattle.format.specs.Totals.{counts}
 use Rattle.packer.specs.declared.IntRead.{IntRead}
 use Rattle.packer.specs.declared.IntRead.TheVariants.{Int, Refused}
 use Rattle.packer.specs.declared.IntWrite.{IntWrite}

@@ -5,31 +5,10 @@ use mathlib.Core.Option.{Option, some, none}
 use Prim.Native.Nat.{◌<◌}
 use native.Mathlib.Omega.{arith}
 use borrow.Author.Tests.{le-ltb}
-use lib.IntN.{ℤ}
 use Rattle.definitions.specs.Ints.{from_bits, signed_less}
 use Rattle.definitions.specs.Receiver.{same}
 use Rattle.definitions.specs.Rules.{Rule, goes_before, first_of}
 use Rattle.rules.specs.Searching.{best_in, first_best}
-use Rattle.rules.specs.declared.checked.Best.{Best}
-use Rattle.rules.specs.declared.checked.Best.TheVariants as best
-
--- ---- what the steps answer
-
--- the best rule stays
-pub stays : (b : Best) {k p a : ℤ} (key priority action : ℤ) → b ≡ best.Rule k p a → signed_less p priority ≡ false
-    → best.Rule k p a ≡ first_best key priority action b
-stays b key priority action e f = rw (e, f)
-
--- a rule of higher priority goes before it
-pub goes_first : (b : Best) {k p a : ℤ} (key priority action : ℤ) → b ≡ best.Rule k p a → signed_less p priority ≡ true
-    → best.Rule key priority action ≡ first_best key priority action b
-goes_first b key priority action e f = rw (e, f)
-
--- the first rule found
-pub first_found : (b : Best) (key priority action : ℤ) → b ≡ best.Nothing → best.Rule key priority action ≡ first_best key priority action b
-first_found b key priority action e = rw e
-
--- ---- by the definition
 
 -- of two rules the one with the lesser key goes first only if its priority is higher
 lower-first : (r s : Rule) → r.key < s.key → goes_before r s ≡ signed_less s.priority r.priority

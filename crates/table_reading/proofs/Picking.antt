@@ -1,13 +1,13 @@
 -- The items at the places of some pairs: finding a key, adding one, and the ints that they take. Assumes nothing.
-use mathlib.Core.Path.{◌≡◌, refl, sym, ap, ◌∙◌}
+use mathlib.Core.Path.{◌≡◌, refl, sym, ap}
 use mathlib.Core.Bool.{Bool, true, false, cond, ◌||◌, true≢false}
-use mathlib.Core.List.{List, [], ◌∷◌, ◌++◌, map}
+use mathlib.Core.List.{List, [], ◌∷◌, map}
 use mathlib.Core.Logic.{⊎_elim}
-use mathlib.Core.Option.{Option, some, none}
-use Prim.Native.Nat.{ℕ, zero, suc, ◌+◌, ◌*◌, ◌/◌, ◌%◌, ◌^◌, ◌≤◌, ◌<◌}
+use mathlib.Core.Option.{some}
+use Prim.Native.Nat.{ℕ, suc, ◌+◌, ◌<◌}
 use native.Mathlib.Omega.{arith}
-use borrow.Author.Tests.{lt-ltb, le-ltb, lt-leb, le-leb, eqb-true, eqb-false, eq-eqb, ne_eqb}
-use lib.Dec.{eqb, leb, ltb}
+use borrow.Author.Tests.{lt-ltb, le-ltb, eqb-true, eqb-false, eq-eqb, ne_eqb}
+use lib.Dec.{eqb, leb}
 use lib.IntN.{ℤ}
 use lib.ListN.{length, length-append}
 use Rattle.definitions.specs.Tables.{Item, Table, body, key_at, values_at, item_at, find, is_some}
@@ -15,7 +15,7 @@ use Rattle.definitions.specs.Tables as Tables
 use Rattle.laws.specs.TableFind.{order}
 use Rattle.sorting.specs.Sort.{insert}
 use Rattle.sorting.specs.Pairs.{key, place, has_key}
-use Rattle.sorting.specs.SortLaws.{le-or-gt, insert-le, insert-gt}
+use Rattle.sorting.specs.SortLaws.{insert-le, insert-gt}
 use Rattle.table_reading.specs.Reading.{picked}
 
 pub length-picked : (a : List ℤ) (l : List ℕ) → length (picked a l) ≡ length l

@@ -1,17 +1,16 @@
 -- Items in any order, by their sorted keys: the result of reading them one by one. Assumes nothing.
 use mathlib.Core.Path.{◌≡◌, refl, sym, ap, subst, ◌∙◌}
 use mathlib.Core.Bool.{Bool, true, false, cond, not, ◌&&◌}
-use mathlib.Core.List.{List, [], ◌∷◌, ◌++◌, map}
-use Prim.Native.Nat.{ℕ, zero, suc, ◌+◌, ◌-◌, ◌*◌, ◌/◌, ◌%◌, ◌^◌, ◌≤◌, ◌<◌}
+use mathlib.Core.List.{List, [], ◌∷◌, map}
+use Prim.Native.Nat.{ℕ, zero, suc, ◌+◌, ◌-◌, ◌/◌, ◌%◌, ◌^◌, ◌≤◌, ◌<◌}
 use native.Mathlib.Nat.{add-suc, add-zero}
 use native.Mathlib.Numerals.{add-one}
 use native.Mathlib.Omega.{arith}
-use borrow.Author.Tests.{lt-ltb, le-ltb, le-leb, lt-leb, eq-eqb, ne_eqb}
-use lib.Dec.{ltb, leb}
-use lib.IntN.{ℤ, pos}
-use lib.ListN.{length, get_or, length-take, length-drop}
-use Rattle.definitions.specs.Refusals.{invalid_offset, duplicate_key, too_many_items, too_long_snap}
-use Rattle.definitions.specs.Outcome.{Outcome, return, refuse, after, require, ◌>>=◌, ◌>>◌}
+use borrow.Author.Tests.{lt-ltb, le-ltb, le-leb, lt-leb, eq-eqb}
+use lib.IntN.{ℤ}
+use lib.ListN.{length, length-take, length-drop}
+use Rattle.definitions.specs.Refusals.{duplicate_key, too_many_items, too_long_snap}
+use Rattle.definitions.specs.Outcome.{Outcome, return, refuse, after}
 use Rattle.definitions.specs.Warnings.{none}
 use Rattle.definitions.specs.Tables.{Item, Table, body, written, count, size, edge, start, ends, key_at, values_at, item_at, find, is_some}
 use Rattle.definitions.specs.Tables as Tables
@@ -23,7 +22,7 @@ use Rattle.sorting.specs.Sort.{insert, sort}
 use Rattle.sorting.specs.Pairs.{pair, key, place, has_key, keys_rise}
 use Rattle.sorting.specs.SortLaws.{rises-sort, sort-snoc, length-insert}
 use Rattle.sorting.specs.PairLaws.{keys_rise-insert, key-pair, place-pair}
-use Rattle.table_reading.specs.Reading.{Ints, Fine, numbered, picked}
+use Rattle.table_reading.specs.Reading.{Fine, numbered}
 use Rattle.table_reading.proofs.Picking.{at_places, Keyed, keyed-more, keyed-insert, find-has, insert-new, length-insert-body, length-picked}
 
 -- a refusal stays

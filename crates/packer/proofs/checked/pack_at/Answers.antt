@@ -1,4 +1,3 @@
-use Prim.Native.Nat.{◌-◌}
 use mir.Facts.{to_z-of_z}
 use Rattle.packer.proofs.Packing.{begin, room, turn, done}
 use Rattle.std.proofs.Common.{w32}

@@ -108,7 +108,7 @@ loop-i-preserved-then-values-ingredient c =
       omega arith,
       d.names_next-named.ensures,
       for-another _ _ s.args.area.now s.args.n s.requires (l.loop-i.i - 1) l.loop-i.i (omega arith) (omega arith) l.loop-i.best
-          (rw (to_z-of_z {w = w32} c.ranges.ingredient) at l.loop-i.invariant).2 (named-it c.before.before.before.before) _ d.data_at-values.ensures (omega arith) (λ e. c.if-values-ingredient.true (e ∙ ap bits (from_bits-bits s.ranges.ingredient))),
+          (rw (to_z-of_z {w = w32} c.ranges.ingredient) at l.loop-i.invariant).2 (named-it c.before.before.before.before) _ d.data_at-values.ensures (omega arith) c.if-values-ingredient.true,
     ))
 
 pub loop-i-smaller : goal.loop-i-smaller
@@ -137,7 +137,7 @@ loop-i-preserved c =
       d.names_next-named.ensures,
       for-it _ _ s.args.area.now s.args.n s.requires (l.loop-i.i - 1) l.loop-i.i (omega arith) (omega arith) l.loop-i.best
           (rw (to_z-of_z {w = w32} c.ranges.ingredient) at l.loop-i.invariant).2 (named-it c.before.before.before.before.before.before.before) _ d.data_at-values.ensures (omega arith) _ c.first_of-best.result (keyed c.before.before.before.before.before.before.before.before.before.before.before)
-          (c.if-values-ingredient.false ∙ sym (ap bits (from_bits-bits s.ranges.ingredient))) (taken_is c.before),
+          c.if-values-ingredient.false (taken_is c.before),
     ))
 
 -- no item is left

@@ -1,7 +1,7 @@
 -- `checked::search` meets its contract. The loop's invariant: the items from i on were looked at, and it is known whether the last type is named.
 -- Assumes nothing.
 use mathlib.Core.Path.{◌≡◌}
-use Prim.Native.Nat.{◌-◌, ◌≤◌}
+use Prim.Native.Nat.{◌≤◌}
 use Rattle.definitions.specs.DeltaReading.{elem}
 use Rattle.rules.proofs.Turns.{Searched}
 use Rattle.rules.proofs.checked.search.Given as goal
