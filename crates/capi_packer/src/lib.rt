@@ -1,4 +1,6 @@
 // The calls on packed integers as C sees them. include/cefdugar.h documents them for C callers.
+#![tactic(auto)]
+
 ghost use Rattle.std.specs.Prelude.{◌≡◌};
 ghost use Rattle.definitions.specs.Packer.{read_int_call, write_int_at, unpack_call};
 ghost use Rattle.format.specs.Totals as Totals;

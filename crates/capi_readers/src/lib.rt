@@ -1,4 +1,6 @@
 // The readers' calls as C sees them. include/cefdugar.h documents them for C callers.
+#![tactic(auto)]
+
 ghost use Rattle.std.specs.Prelude.{◌≡◌};
 ghost use Rattle.definitions.specs.Packer.{read_int_call};
 ghost use Rattle.definitions.specs.Readers.{plain_int_call};

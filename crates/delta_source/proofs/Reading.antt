@@ -10,7 +10,7 @@ use lib.IntN.{ℤ, pos, negsuc}
 use lib.ListN.{length}
 use lib.Signed.{mag}
 use Rattle.definitions.specs.Ints.{bits}
-use Rattle.definitions.specs.Refusals.{item_diffs_unpacking, type_id_range, id-range, negative_size}
+use Rattle.definitions.specs.Refusals.{item_diffs_unpacking, type_id_range, id_range, negative_size}
 use Rattle.definitions.specs.Warnings.{Counts, plus}
 use Rattle.definitions.specs.Outcome.{Outcome, ok, err, return, after, ◌>>=◌}
 use Rattle.definitions.specs.Packed.{warned}
@@ -109,7 +109,7 @@ module _ (s : Source) (sizes : List ℤ) (at : ℕ) (t i : ℤ) (o : ℕ) where
 
   pub id-range : num t < 65536 → 65536 ≤ num i → HeadOf s sizes at (after (packed o) (head_of sizes t i (from s at))) (head.Refused error.IdRange o)
   unfolding head_of
-  id-range h k = Steps.refused {e = error.IdRange} {over = o} (rw (lt-ltb (num t) 65536 h, le-ltb (num i) 65536 k) (ap (err id-range) (plus_none (packed o))))
+  id-range h k = Steps.refused {e = error.IdRange} {over = o} (rw (lt-ltb (num t) 65536 h, le-ltb (num i) 65536 k) (ap (err id_range) (plus_none (packed o))))
 
   module _ (h : num t < 65536) (k : num i < 65536) where
     in-range : head_of sizes t i (from s at) ≡ size_of (known_size sizes (num t)) (key_of (num t) (num i)) (from s at)

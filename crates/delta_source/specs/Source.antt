@@ -1,7 +1,6 @@
 -- Reading by place from packed bytes or from ints. Assumes nothing.
 use Rattle.std.specs.Prelude.{◌≡◌, Bool, true, false, cond, List, [], ◌∷◌, ℕ, zero, suc, ◌+◌, ◌/◌, ◌<◌, ◌≤◌, ℤ, length, drop}
 use Rattle.std.proofs.Math.Option.{Option, some}
-use Rattle.std.proofs.Math.Option as Option
 use Rattle.definitions.specs.Ints.{bits}
 use Rattle.definitions.specs.Areas.{lay_at}
 use Rattle.definitions.specs.Warnings.{Counts, NonZeroPadding, one, plus}

@@ -2,7 +2,7 @@
 use Rattle.std.specs.Prelude.{◌≡◌, Bool, not, List, ℕ, ◌/◌, ◌≤◌, ltb, eqb, ℤ}
 use Rattle.std.proofs.Math.Option.{Option, some, none}
 use Rattle.definitions.specs.Ints.{bits}
-use Rattle.definitions.specs.Refusals.{unexpected_end, type_id_range, id-range}
+use Rattle.definitions.specs.Refusals.{unexpected_end, type_id_range, id_range}
 use Rattle.definitions.specs.Warnings.{NonZeroPadding, plus}
 use Rattle.definitions.specs.Outcome.{Outcome, ok, err, return, require, warn_if, ◌>>=◌, ◌>>◌}
 use Rattle.definitions.specs.Stream.{Stream}
@@ -38,7 +38,7 @@ size_of o key s = do
 unfoldable pub head_of : List ℤ → ℤ → ℤ → Stream → Outcome (Got Reading.Head)
 head_of sizes type id s = do
   require (ltb (num type) 65536) type_id_range
-  require (ltb (num id) 65536) id-range
+  require (ltb (num id) 65536) id_range
   size_of (known_size sizes (num type)) (key_of (num type) (num id)) s
 
 -- a head that was read from the place of its size on, or why there is none

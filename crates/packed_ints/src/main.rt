@@ -1,4 +1,6 @@
 // Examples of packed integers, one on each line: ints as written, bytes as read, and bytes unpacked.
+#![tactic(auto)]
+
 ghost use Rattle.std.specs.Prelude.{◌<◌};
 
 use packer::{IntRead, IntWrite, IntsRead};

@@ -1,12 +1,12 @@
 -- Tables whose types are all numbers have sound types. Assumes nothing.
-use Prim.Native.Nat.{ℕ, zero, suc, ◌+◌, ◌-◌, ◌/◌, ◌<◌, ◌≤◌, ◌^◌}
+use Prim.Native.Nat.{ℕ, zero, suc, ◌-◌, ◌/◌, ◌<◌, ◌≤◌, ◌^◌}
 use mathlib.Core.Path.{◌≡◌, refl, ap, ap₂, ◌∙◌}
 use mathlib.Core.List.{List, [], ◌∷◌, ◌++◌}
 use native.Mathlib.Omega.{arith}
 use lib.IntN.{ℤ}
 use borrow.Author.Tests.{lt-ltb, lt-leb, ne_eqb}
 use Rattle.definitions.specs.Outcome.{Outcome, return, ◌>>◌}
-use Rattle.definitions.specs.Tables.{Item, Table, list, key_at, item_at, items, count, negatives, positives, walk}
+use Rattle.definitions.specs.Tables.{Item, Table, list, key_at, item_at, items, negatives, positives}
 use Rattle.definitions.specs.Types.{judge_types, typed}
 use Rattle.laws.specs.TableShape.{keys-le}
 use Rattle.table.specs.Held.{Held}

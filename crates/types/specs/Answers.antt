@@ -1,5 +1,4 @@
 -- What the answers of `types` mean. Assumes nothing.
-use Rattle.std.specs.Prelude.{ℕ}
 use Rattle.definitions.specs.Warnings.{Counts}
 use Rattle.definitions.specs.Outcome.{Outcome, ok, err}
 use Rattle.definitions.specs.Tables.{Table}

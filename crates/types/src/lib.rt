@@ -1,2 +1,4 @@
 // Whether the types of a table are sound.
+#![tactic(auto)]
+
 pub mod checked;

@@ -2,7 +2,6 @@ use mathlib.Core.Path.{◌≡◌, sym, ap, ◌∙◌}
 use mathlib.Core.Bool.{true}
 use Prim.Native.Nat.{◌-◌, ◌/◌}
 use native.Mathlib.Omega.{arith}
-use borrow.Author.Tests.{not-true, not-false}
 use lib.IntN.{pos}
 use lib.ListN.{length, get_or}
 use mir.Facts.{to_z-of_z}
@@ -74,7 +73,7 @@ loop-i-preserved-then-not-named c =
       omega arith,
       c.names_next-named.ensures,
       skipped _ _ s.args.area.now s.args.n s.requires (l.loop-i.i - 1) l.loop-i.i (omega arith) (omega arith) l.loop-i.best
-          (sym (asked c.before.before) ∙ not-true _ c.if-not-named.true-raw) (rw (to_z-of_z {w = w32} c.ranges.ingredient) at l.loop-i.invariant).2,
+          (sym (asked c.before.before) ∙ c.if-not-named.true) (rw (to_z-of_z {w = w32} c.ranges.ingredient) at l.loop-i.invariant).2,
     ))
 
 pub data_at-values-requires : goal.data_at-values-requires
@@ -86,14 +85,14 @@ returns-then-values-lt3 c =
     let l = c in
     let s = c in
     refused _ s.args.ingredient s.args.area.now s.args.n s.requires (l.loop-i.i - 1) l.loop-i.i (omega arith) (omega arith)
-    (sym (asked c.before.before.before.before) ∙ not-false _ c.if-not-named.false-raw) (omega (arith, ap length c.data_at-values.ensures))
+    (sym (asked c.before.before.before.before) ∙ c.if-not-named.false) (omega (arith, ap length c.data_at-values.ensures))
 
 -- its type is named
 named-it : (c : After-data_at-values)
     → let l = c in
     let a = l.args in
     elem (key_at a.area.now (l.loop-i.i - 1) / 65536) a.types.now ≡ true
-named-it c = sym (asked c.before.before) ∙ not-false _ c.if-not-named.false-raw
+named-it c = sym (asked c.before.before) ∙ c.if-not-named.false
 
 pub loop-i-smaller-then-values-ingredient : goal.loop-i-smaller-then-values-ingredient
 loop-i-smaller-then-values-ingredient c = omega arith
@@ -122,9 +121,7 @@ taken_is : (c : After-first_of-best)
     c.first_of-best.result ≡ first_best d.key_at-key.result (get_or v 1 (pos 0)) (get_or v 2 (pos 0)) l.loop-i.best
 taken_is c =
     let k = c.key_at-key in
-    let p = c.first_of-arg-1.given in
-    let a = c.first_of-arg-in-loop-i-1.given in
-    rw (to_z-of_z {w = w32} (record { sfits = k.type_inv }), to_z-of_z {w = w32} (record { sfits = p }), to_z-of_z {w = w32} (record { sfits = a })) at c.first_of-best.ensures
+    rw (to_z-of_z {w = w32} (record { sfits = k.type_inv }), to_z-of_z {w = w32} {z = get_or c.data_at-values.result.now 1 (pos 0)} (record { sfits = omega arith }), to_z-of_z {w = w32} {z = get_or c.data_at-values.result.now 2 (pos 0)} (record { sfits = omega arith })) at c.first_of-best.ensures
 
 pub loop-i-preserved : goal.loop-i-preserved
 unfolding bits

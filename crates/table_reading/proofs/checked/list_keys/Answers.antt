@@ -65,7 +65,7 @@ returns-in-Refused c =
     let ok = good-end a l.i _ c.item_end-next.ensures c.if-next-eq0.false in
     record {
       few = omega (arith, l.invariant.0.few);
-      keys-are = listed a _ _ l.i l.here l.keys c.put_pair.new.a l.invariant.0 c.loop-i-test.true ok.0 l.invariant.1 l.invariant.3 c.key-1.given c.put_pair.ensures;
+      keys-are = listed a _ _ l.i l.here l.keys c.put_pair.new.a l.invariant.0 c.loop-i-test.true ok.0 l.invariant.1 l.invariant.3 (omega arith) c.put_pair.ensures;
       ending = oversized a _ _ _ l.invariant.0 c.loop-i-test.true ok.0 _ _ ok.1 (sym c.judge_size-judged.ensures ∙ c.in-Refused.is);
     }
 
@@ -74,10 +74,10 @@ loop-i-preserved c =
     let a = c.args.src.now in
     let l = c.loop-i in
     let ok = good-end a l.i _ c.item_end-next.ensures c.if-next-eq0.false in (
-      fine_more a _ _ _ l.invariant.0 c.loop-i-test.true ok.0 l.here _ l.invariant.1 ok.1 c.key-1.given (sym c.judge_size-judged.ensures ∙ c.in_default.is),
+      fine_more a _ _ _ l.invariant.0 c.loop-i-test.true ok.0 l.here _ l.invariant.1 ok.1 (omega arith) (sym c.judge_size-judged.ensures ∙ c.in_default.is),
       ok.1,
       c.put_pair.auto.a ∙ l.invariant.2,
-      listed a _ _ l.i l.here l.keys c.put_pair.new.a l.invariant.0 c.loop-i-test.true ok.0 l.invariant.1 l.invariant.3 c.key-1.given c.put_pair.ensures,
+      listed a _ _ l.i l.here l.keys c.put_pair.new.a l.invariant.0 c.loop-i-test.true ok.0 l.invariant.1 l.invariant.3 (omega arith) c.put_pair.ensures,
     )
 
 pub returns : goal.returns

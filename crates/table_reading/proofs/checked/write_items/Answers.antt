@@ -24,9 +24,6 @@ offset_bounds-index-j c = omega (arith, c.requires.indexed.few)
 pub bounds-index-j : goal.bounds-index-j
 bounds-index-j c = let x = c.requires.indexed in omega (arith, x.few, x.long)
 
-pub overflow_cast-item : goal.overflow_cast-item
-overflow_cast-item c = omega (arith, c.shared_slice_known-in-loop-j-1.given c.loop-j.j)
-
 pub overflow_add-from : goal.overflow_add-from
 overflow_add-from c = omega (arith, c.requires.indexed.few)
 
