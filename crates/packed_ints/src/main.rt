@@ -5,6 +5,8 @@ ghost use Rattle.std.specs.Prelude.{◌<◌};
 
 use packer::{IntRead, IntWrite, IntsRead};
 use replay_text::line::Line;
+use std::io::Result;
+use std::rt::HostRuntime;
 
 // The character of a hexadecimal digit, in upper case.
 fn glyph(d: u8) -> u8
@@ -62,23 +64,24 @@ fn read_back(bytes: &[u8]) -> Line {
 }
 
 // Shows how an int is written.
-fn show_int(int: i32) {
+fn show_int(rt: &impl Print, int: i32) -> Result<()> {
     let mut area = [0u8; 5];
     let answer = packer::write_int(&mut area, 0, int);
     let line = match answer {
         IntWrite::Next(next) => read_back(first(&area, next)),
         IntWrite::Refused(_) => Line::new().text(b"refused"),
     };
-    line.print();
+    line.print(rt)
 }
 
 // Shows how ints are written.
-fn show_ints(ints: &[i32]) {
+fn show_ints(rt: &impl Print, ints: &[i32]) -> Result<()> {
     let mut i: usize = 0;
     while i < ints.len() {
-        show_int(ints[i]);
+        show_int(rt, ints[i])?;
         i += 1;
     }
+    Ok(())
 }
 
 // Adds what is read at the front of some bytes, or the refusal.
@@ -97,8 +100,8 @@ fn read(line: Line, bytes: &[u8]) -> Line {
 }
 
 // Shows what is read at the front of some bytes.
-fn show_read(bytes: &[u8]) {
-    read(all_hex(Line::new(), bytes), bytes).print();
+fn show_read(rt: &impl Print, bytes: &[u8]) -> Result<()> {
+    read(all_hex(Line::new(), bytes), bytes).print(rt)
 }
 
 // Adds what was unpacked.
@@ -113,35 +116,41 @@ fn unpacked(line: Line, answer: IntsRead, area: &[i32]) -> Line {
 }
 
 // Shows what is unpacked from some bytes.
-fn show_unpacked(bytes: &[u8]) {
+fn show_unpacked(rt: &impl Print, bytes: &[u8]) -> Result<()> {
     let mut area = [0i32; 5];
     let done = packer::unpack(bytes, &mut area);
     let answer = done.answer;
-    unpacked(all_hex(Line::new(), bytes), answer, &area).print();
+    unpacked(all_hex(Line::new(), bytes), answer, &area).print(rt)
 }
 
 // Shows the worked examples of docs/FORMAT.md.
-fn show_marked() {
-    show_ints(&[0, -1, 63, 64, -64, -65, 2147483647, -2147483648]);
-    show_read(b"\x80\x00");
-    show_read(b"\x80\x80\x80\x80\x10");
+fn show_marked(rt: &impl Print) -> Result<()> {
+    show_ints(rt, &[0, -1, 63, 64, -64, -65, 2147483647, -2147483648])?;
+    show_read(rt, b"\x80\x00")?;
+    show_read(rt, b"\x80\x80\x80\x80\x10")?;
+    Ok(())
 }
 
 // Shows the limits of each length, overlong ints, padding bits, and bytes that end inside an int.
-fn show_others() {
-    show_ints(&[8191, 8192, -8193, 1048575, 1048576, 134217727, 134217728]);
-    show_read(b"\xc0\x00");
-    show_read(b"\x80\x80\x80\x80\x00");
-    show_read(b"\x80\x80\x80\x80\x0f");
-    show_read(b"\x80\x80\x80\x80\x80");
-    show_read(b"\xff\xff\xff\xff\xff");
-    show_read(b"\x80\x80");
+fn show_others(rt: &impl Print) -> Result<()> {
+    show_ints(
+        rt,
+        &[8191, 8192, -8193, 1048575, 1048576, 134217727, 134217728],
+    )?;
+    show_read(rt, b"\xc0\x00")?;
+    show_read(rt, b"\x80\x80\x80\x80\x00")?;
+    show_read(rt, b"\x80\x80\x80\x80\x0f")?;
+    show_read(rt, b"\x80\x80\x80\x80\x80")?;
+    show_read(rt, b"\xff\xff\xff\xff\xff")?;
+    show_read(rt, b"\x80\x80")?;
+    Ok(())
 }
 
 // Shows the cases, and bytes with several ints of which the last is cut off or has a padding bit set.
-fn main() {
-    show_marked();
-    show_others();
-    show_unpacked(b"\x00\x40\x80\x01\x80");
-    show_unpacked(b"\x00\x40\x80\x80\x80\x80\x10");
+fn main(rt: HostRuntime) -> Result<()> {
+    show_marked(&rt)?;
+    show_others(&rt)?;
+    show_unpacked(&rt, b"\x00\x40\x80\x01\x80")?;
+    show_unpacked(&rt, b"\x00\x40\x80\x80\x80\x80\x10")?;
+    Ok(())
 }
