@@ -1,4 +1,6 @@
 // The calls on rules as C sees them.
+#![tactic(auto)]
+
 ghost use Rattle.std.specs.Prelude.{◌≡◌};
 ghost use Rattle.definitions.specs.Rules.{winner_call};
 ghost use Rattle.boundary.specs.Boundary.{status};

@@ -1,13 +1,9 @@
 -- The result of each call on types, by what was found in the area. Assumes nothing.
 use mathlib.Core.Path.{◌≡◌, refl, sym, ap, ◌∙◌}
 use mathlib.Core.Bool.{false}
-use mathlib.Core.List.{List, [], ◌∷◌}
-use mathlib.Core.Logic.{⊎_elim}
+use mathlib.Core.List.{List, []}
 use mathlib.Core.Option.{Option, none}
 use Prim.Native.Nat.{ℕ}
-use native.Mathlib.Omega.{arith}
-use types.Run.{OneOf}
-use denote.Enum.Declared.{tag_of}
 use lib.IntN.{ℤ}
 use Rattle.definitions.specs.Refusals.{not_in_form}
 use Rattle.definitions.specs.Warnings.{plus}
@@ -24,7 +20,6 @@ use Rattle.format.specs.declared.Error.{Error}
 use Rattle.table.specs.Held.{Held, form_of}
 use Rattle.table.specs.declared.checked.TableForm.TheVariants as form
 use Rattle.table.specs.Writing.{not-held}
-use Rattle.snap.specs.contracts.RawTypeId.{the_type}
 use Rattle.snap.specs.declared.RawTypeId.{RawTypeId}
 use Rattle.snap.specs.declared.RawTypeId.TheVariants as raw
 use Rattle.snap.specs.Answers.{raw_type, raw_type_in}
@@ -99,7 +94,7 @@ module _ (a : List ℤ) (n : ℕ) (h : Held a n) where
       item-known = rw known
 
 -- no raw type, or a refusal: no item
-pub item-other : (a : List ℤ) (n : ℕ) (h : Held a n) (y : TypeId) (id : ℕ) (r : RawTypeId) → raw_type_in (items a) y ≡ raw_type r → OneOf (1 ∷ 2 ∷ []) (tag_of the_type r) → [] ≡ typed_item_call a y id
-item-other a n h y id (raw.Raw m) e d = absurd (⊎_elim (λ (q : 0 ≡ 1). omega arith) (λ (q : 0 ≡ 2). omega arith) d)
+pub item-other : (a : List ℤ) (n : ℕ) (h : Held a n) (y : TypeId) (id : ℕ) (r : RawTypeId) → raw_type_in (items a) y ≡ raw_type r → ((m : ℕ) → r ≡ raw.Raw m → ⊥) → [] ≡ typed_item_call a y id
+item-other a n h y id (raw.Raw m) e d = absurd (d m refl)
 item-other a n h y id raw.Unknown e d = rw (unknown a n h y id raw.Unknown e refl)
 item-other a n h y id (raw.Refused x) e d = rw (refused a n h y id (raw.Refused x) e x refl)

@@ -1,4 +1,6 @@
 // Tables whose items have numbers or kinds of 16 bytes as types, in lent areas of ints.
+#![tactic(auto)]
+
 ghost use Rattle.std.specs.Prelude.{◌≡◌, length};
 ghost use Rattle.definitions.specs.Areas.{cleared};
 ghost use Rattle.definitions.specs.Types.{typed_read_call, typed_read_from_ints_call, typed_read_with_delta_call, typed_item_call, typed_has_item_call, raw_type_id_call, type_id_call};
