@@ -1,13 +1,11 @@
 -- Why an item is refused if an area has no room for it, and what its refusal says. Assumes nothing.
 use mathlib.Core.Path.{◌≡◌, refl, sym, ap, ◌∙◌}
 use mathlib.Core.Bool.{Bool, true, false, not}
-use mathlib.Core.List.{List, [], ◌∷◌}
+use mathlib.Core.List.{List}
 use mathlib.Core.Logic.{⊎_elim}
 use Prim.Native.Nat.{ℕ, ◌+◌, ◌≤◌, ◌<◌}
 use native.Mathlib.Omega.{arith}
 use borrow.Author.Tests.{leb-false, lt-ltb, le-ltb, le-leb, lt-leb, ne_eqb}
-use types.Run.{OneOf, miss}
-use denote.Enum.Declared.{tag_of}
 use lib.Dec.{ltb, leb}
 use lib.IntN.{ℤ}
 use lib.ListN.{length}
@@ -31,7 +29,6 @@ use Rattle.laws.specs.BuilderCalls.{adds-or-not}
 use Rattle.format.specs.Numbers.{number}
 use Rattle.format.specs.declared.Error.{Error}
 use Rattle.format.specs.declared.Error.TheVariants as error
-use Rattle.format.specs.contracts.Error.{the_type}
 use Rattle.builder.specs.Building.{Built-as, NoRoom}
 use Rattle.builder.proofs.Adding.{refused-is, room-is, no-room-is}
 
@@ -73,13 +70,8 @@ never-40 i t n e z = go (not (is_some (find i.key t))) (ltb (length t) 1024) (le
     go true false r d = omega (arith, number_of d)
     go false q r d = omega (arith, number_of d)
 
--- the places of all errors but the one of 40
-abbrev pub others : List ℕ
-others =
-    0 ∷ 1 ∷ 2 ∷ 3 ∷ 4 ∷ 5 ∷ 6 ∷ 7 ∷ 8 ∷ 9 ∷ 10 ∷ 11 ∷ 12 ∷ 13 ∷ 14 ∷ 15 ∷ 16 ∷ 17 ∷ 18 ∷ 19 ∷ 20 ∷ 21 ∷ 22 ∷ 23 ∷ 25 ∷ 26 ∷ 27 ∷ 28 ∷ 29 ∷ 30 ∷ 31 ∷ 32 ∷ 33 ∷ []
-
--- they have other numbers
-pub not-40 : (e : Error) → OneOf others (tag_of the_type e) → number e ≡ capacity_error → ⊥
+-- the other errors have other numbers
+pub not-40 : (e : Error) → (e ≡ error.CapacityError → ⊥) → number e ≡ capacity_error → ⊥
 not-40 error.UnexpectedEnd o q = omega arith
 not-40 error.IntOutOfRange o q = omega arith
 not-40 error.DeletedItemsUnpacking o q = omega arith
@@ -104,7 +96,7 @@ not-40 error.DuplicatePart o q = omega arith
 not-40 error.StoreOldDelta o q = omega arith
 not-40 error.UnknownSnap o q = omega arith
 not-40 error.InvalidCrc o q = omega arith
-not-40 error.CapacityError o q = miss others 24 tt o
+not-40 error.CapacityError o q = o refl
 not-40 error.ScratchTooShort o q = omega arith
 not-40 error.InputTooLong o q = omega arith
 not-40 error.PartTooLong o q = omega arith

@@ -1,4 +1,6 @@
 // Tables with types, made item by item: kinds of 16 bytes get numbers from 4000 hex on.
+#![tactic(auto)]
+
 ghost use Rattle.std.specs.Prelude.{◌≡◌};
 ghost use Rattle.definitions.specs.Builder.{new_call, builder_add_item_call, finish_call};
 ghost use Rattle.format.specs.Answers.{stored_ints};

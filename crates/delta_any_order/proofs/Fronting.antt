@@ -9,7 +9,7 @@ use lib.ListN.{length}
 use Rattle.definitions.specs.Refusals.{deleted_items_unpacking}
 use Rattle.definitions.specs.Warnings.{Counts}
 use Rattle.definitions.specs.Outcome.{Outcome, ok}
-use Rattle.definitions.specs.Stream.{Stream, ints}
+use Rattle.definitions.specs.Stream.{Stream}
 use Rattle.definitions.specs.Tables.{Item}
 use Rattle.definitions.specs.DeltaReading.{Got, read_update}
 use Rattle.laws.specs.WarningLaws.{packed}

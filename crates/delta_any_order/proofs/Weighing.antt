@@ -28,7 +28,7 @@ module _ {s : Source} {sizes : List ℤ} {f : Front} {n room : ℕ} {t : Tally} 
   -- the counts are ints
   pub few-counts : size s ≤ 1048576 → (t.deleted < 2 ^ 31) × (t.updated < 2 ^ 31)
   few-counts h =
-      (omega (arith, W.tallied.deleted-is, few-deleted W.values, W.key-count, W.few-keys), omega (arith, W.few-updates, W.more_Room, W.few-room))
+      (omega (arith, W.tallied.deleted-is, few-deleted W.values, W.key-count, W.few-keys), omega (arith, W.few-updates, W.more_room, W.few-room))
 
   -- what holds of the keys and the updates that were weighed holds of all such keys and updates
   settled : (P : List ℤ → List Item → Type 0) → P W.values W.items → (values : List ℤ) (items : List Item) → Told s sizes f.keys f.deleted f.first n values items → P values items

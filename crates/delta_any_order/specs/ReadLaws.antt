@@ -59,8 +59,8 @@ module _ {s : Source} {sizes : List ℤ} (deleted : List ℕ) where
   walk-reads zero before k h = absurd (omega arith)
   walk-reads (suc n) before (whole f) h = rw (f, append-nil before)
   walk-reads (suc n) before (broken {n = m} {w = w} f r) h = rw (f, r) (ap (err m) (sym (plus_none w)))
-  walk-reads {at} {e = e} (suc n) before (more {next = next} {u = u} {us = us} {v = v} {w = w} f r q a b k) h =
-      rw (f, r, walk-reads n (before ++ u ∷ []) k (one_less n (rw r at (update-reads sizes (from s at))) h), append_assoc before (u ∷ []) us)
+  walk-reads {at = at} {e = e} (suc n) before (more {next = next} {u = u} {us = us} {v = v} {w = w} f r q a b k) h =
+      rw (f, r, walk-reads {at = next} n (before ++ u ∷ []) k (one_less n (rw r at (update-reads sizes (from s at))) h), append_assoc before (u ∷ []) us)
       (turn (is_some (find u.key before)) (elem u.key deleted) e (before ++ u ∷ us) v w (repeated (before ++ u ∷ []) us) (count_items deleted us))
 
 -- ---- a delta

@@ -1,2 +1,4 @@
 // Deltas whose keys come in any order, read from packed bytes or from ints.
+#![tactic(auto)]
+
 pub mod checked;

@@ -1,4 +1,6 @@
 // The rule that prints, as a line of text: the winner's key and action, that there is none, or why the table is refused.
+#![tactic(auto)]
+
 ghost use Rattle.std.specs.Prelude.{◌≡◌};
 ghost use Rattle.io.specs.Counts.{IsPrefixLen};
 ghost use Rattle.replay_text.specs.Buffer.{puts};

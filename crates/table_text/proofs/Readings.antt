@@ -10,7 +10,7 @@ use lib.ListN.{length}
 use Rattle.definitions.specs.Areas.{lay}
 use Rattle.definitions.specs.Refusals.{input_too_long}
 use Rattle.definitions.specs.Warnings.{Counts, none, plus}
-use Rattle.definitions.specs.Outcome.{Outcome, ok, err, return, refuse, after, Wrote}
+use Rattle.definitions.specs.Outcome.{Outcome, ok, err, return, refuse, Wrote}
 use Rattle.definitions.specs.Stored.{stored}
 use Rattle.definitions.specs.Tables.{Table, written, sound}
 use Rattle.definitions.specs.TableReading.{read_packed}

@@ -1,4 +1,6 @@
 // A packed table as text: its item count and sum, then a line for each item; or why it is refused.
+#![tactic(auto)]
+
 ghost use Rattle.std.specs.Prelude.{◌≡◌, ◌/◌, ◌%◌};
 ghost use Rattle.definitions.specs.Ints.{bits};
 ghost use Rattle.definitions.specs.Tables.{items};
