@@ -1,5 +1,5 @@
 -- A delta applied to its base. Assumes nothing.
-use Rattle.std.specs.Prelude.{Bool, cond, not, List, [], ◌∷◌, ℕ, ◌+◌, ltb, leb, eqb, ℤ, length}
+use Rattle.std.specs.Prelude.{cond, not, List, [], ◌∷◌, ℕ, ◌+◌, ltb, leb, eqb, ℤ, length}
 use Rattle.definitions.specs.Refusals.{too_long_snap, too_many_items, scratch_too_short}
 use Rattle.definitions.specs.Warnings.{UnknownDelete}
 use Rattle.definitions.specs.Outcome.{Outcome, return, require, warn_if, ◌>>=◌, ◌>>◌, Wrote}

@@ -1,9 +1,9 @@
 -- The builder of tables with kinds. Assumes nothing.
-use Rattle.std.specs.Prelude.{Bool, true, false, cond, ◌&&◌, List, [], ◌∷◌, ℕ, suc, ◌+◌, ltb, eqb, ℤ, length}
+use Rattle.std.specs.Prelude.{Bool, true, false, cond, ◌&&◌, List, [], ◌∷◌, ℕ, suc, ◌+◌, eqb, ℤ, length}
 use Rattle.std.proofs.Math.Option.{Option, some, none}
 use Rattle.definitions.specs.Refusals.{not_in_form}
-use Rattle.definitions.specs.Outcome.{Outcome, ok, err, return, refuse, require, ◌>>=◌, ◌>>◌, Wrote}
-use Rattle.definitions.specs.Tables.{Item, Table, key_of, written, insert}
+use Rattle.definitions.specs.Outcome.{Outcome, ok, err, return, require, ◌>>=◌, ◌>>◌, Wrote}
+use Rattle.definitions.specs.Tables.{Table, key_of, written, insert}
 use Rattle.definitions.specs.TableReading.{add_item}
 use Rattle.definitions.specs.TableCalls.{held, stored_table, empty_call}
 use Rattle.definitions.specs.Types.{TypeId, Ordinal, Uuid, type_of, typed, kind_number, judge_type_id}

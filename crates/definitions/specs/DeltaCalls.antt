@@ -6,7 +6,7 @@ use Rattle.definitions.specs.Refusals.{delta_differing_sizes, capacity_error, sc
 use Rattle.definitions.specs.Outcome.{Outcome, ok, err, return, require, ◌>>=◌, ◌>>◌, Wrote}
 use Rattle.definitions.specs.Packed.{pack_ints}
 use Rattle.definitions.specs.Stored.{stored}
-use Rattle.definitions.specs.Stream.{Stream, stream}
+use Rattle.definitions.specs.Stream.{stream}
 use Rattle.definitions.specs.Tables.{Item, Table, items}
 use Rattle.definitions.specs.TableCalls.{or_not_in_form, held}
 use Rattle.definitions.specs.Deltas.{Delta, known_size, delta_ints, written_delta, delta_of}

@@ -1,5 +1,5 @@
 -- The differences between items, and the delta between two tables. Assumes nothing.
-use Rattle.std.specs.Prelude.{Bool, true, false, cond, not, ◌&&◌, List, [], ◌∷◌, ℕ, eqb, ℤ, length}
+use Rattle.std.specs.Prelude.{Bool, true, cond, ◌&&◌, List, [], ◌∷◌, ℕ, eqb, ℤ, length}
 use Rattle.std.proofs.Math.Option.{Option, some, none}
 use Rattle.definitions.specs.Ints.{wrapping_add, wrapping_sub}
 use Rattle.definitions.specs.Refusals.{delta_differing_sizes}

@@ -5,11 +5,11 @@ use Rattle.definitions.specs.Ints.{bits}
 use Rattle.definitions.specs.Refusals.{unexpected_end, deleted_items_unpacking, item_diffs_unpacking, type_id_range, id_range, negative_size, non_zero_int_padding}
 use Rattle.definitions.specs.Warnings.{NonZeroPadding, DuplicateDelete, DuplicateUpdate, DeleteUpdate, NumUpdatedItems}
 use Rattle.definitions.specs.Warnings as Warnings
-use Rattle.definitions.specs.Outcome.{Outcome, ok, err, return, refuse, require, warn_if, ◌>>=◌, ◌>>◌}
+use Rattle.definitions.specs.Outcome.{Outcome, ok, return, refuse, require, warn_if, ◌>>=◌, ◌>>◌}
 use Rattle.definitions.specs.Stream.{Stream, int, end, cut, padded, ints}
 use Rattle.definitions.specs.Tables.{Item, key_of, num, find, is_some}
 use Rattle.definitions.specs.TableReading.{non_negative}
-use Rattle.definitions.specs.Deltas.{Delta, rank, known_size, updates_ints, written_delta}
+use Rattle.definitions.specs.Deltas.{Delta, rank, known_size, updates_ints}
 
 -- what was read from the front of a stream, and the rest
 pub record Got (A : Type 0) : Type 0 where

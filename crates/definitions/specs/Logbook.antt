@@ -1,5 +1,5 @@
 -- The logbook: what follows from a printer's messages alone, without their bytes. Assumes nothing.
-use Rattle.std.specs.Prelude.{Bool, true, false, cond, ◌&&◌, ◌||◌, List, [], ◌∷◌, ℕ, zero, suc, eqb, ltb, ℤ, pos, length}
+use Rattle.std.specs.Prelude.{Bool, true, false, cond, ◌&&◌, ◌||◌, List, [], ◌∷◌, ℕ, zero, suc, ltb, ℤ, pos, length}
 use Rattle.std.proofs.Math.Option.{Option, some, none}
 use Rattle.definitions.specs.Ints.{signed_less}
 use Rattle.definitions.specs.Refusals.{old_delta, duplicate_part, unknown_snap}

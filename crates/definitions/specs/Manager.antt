@@ -1,10 +1,10 @@
 -- The manager of a printer: a receiver and a store. Assumes nothing.
-use Rattle.std.specs.Prelude.{Bool, ◌&&◌, List, [], ℕ, leb, ℤ, length, take}
+use Rattle.std.specs.Prelude.{◌&&◌, List, [], ℕ, leb, ℤ, length, take}
 use Rattle.std.proofs.Math.Option.{Option, some, none}
 use Rattle.definitions.specs.Areas.{lay}
 use Rattle.definitions.specs.Refusals.{capacity_error, scratch_too_short, not_in_form}
 use Rattle.definitions.specs.Warnings.{Counts, plus}
-use Rattle.definitions.specs.Outcome.{Outcome, ok, err, return, refuse, require, after, ◌>>=◌, ◌>>◌}
+use Rattle.definitions.specs.Outcome.{Outcome, ok, err, return, require, after, ◌>>=◌, ◌>>◌}
 use Rattle.definitions.specs.Stream.{stream}
 use Rattle.definitions.specs.Deltas.{Delta, written_delta}
 use Rattle.definitions.specs.DeltaReading.{DeltaRead, read_delta}

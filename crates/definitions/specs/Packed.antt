@@ -6,7 +6,7 @@ use Rattle.std.specs.Int.Signed.{mag}
 use Rattle.definitions.specs.Ints.{from_bits}
 use Rattle.definitions.specs.Refusals.{unexpected_end, non_zero_int_padding}
 use Rattle.definitions.specs.Warnings.{Counts, OverlongIntEncoding, none, one}
-use Rattle.definitions.specs.Outcome.{Outcome, ok, err, return, refuse}
+use Rattle.definitions.specs.Outcome.{Outcome, ok, return, refuse}
 
 -- an integer at the front of some bytes, and the bytes after it
 pub record Read : Type 0 where

@@ -1,11 +1,11 @@
 -- The receiver of a delta's parts: its state, and what each message does to it. Assumes nothing.
-use Rattle.std.specs.Prelude.{Bool, true, false, cond, not, ◌&&◌, ◌||◌, List, [], ◌∷◌, ◌++◌, ℕ, zero, suc, ◌+◌, ◌*◌, eqb, ltb, leb, ℤ, pos, length, get_or, take, drop, set, replicate}
+use Rattle.std.specs.Prelude.{Bool, true, false, cond, not, ◌&&◌, ◌||◌, List, [], ◌++◌, ℕ, zero, suc, ◌+◌, ◌*◌, eqb, ltb, leb, ℤ, length, get_or, take, drop, set, replicate}
 use Rattle.std.proofs.Math.Option.{Option, some, none}
 use Rattle.definitions.specs.Ints.{bits, signed_less}
 use Rattle.definitions.specs.Areas.{lay, lay_at}
 use Rattle.definitions.specs.Refusals.{old_delta, invalid_num_parts, invalid_part, duplicate_part, scratch_too_short, part_too_long, not_in_form}
 use Rattle.definitions.specs.Warnings.{DuplicateSnap, DifferingAttributes}
-use Rattle.definitions.specs.Outcome.{Outcome, ok, err, return, require, warn_if, ◌>>=◌, ◌>>◌}
+use Rattle.definitions.specs.Outcome.{Outcome, ok, err, return, require, warn_if, ◌>>◌}
 use Rattle.definitions.specs.Tables.{num}
 use Rattle.definitions.specs.Messages.{Distance, base_tick}
 

@@ -2,15 +2,12 @@
 use Rattle.std.specs.Prelude.{Bool, true, false, cond, not, ◌&&◌, List, [], ◌∷◌, ◌++◌, ℕ, zero, suc, ◌-◌, eqb, ltb, leb, ℤ, pos, negsuc, length, take, drop, replicate}
 use Rattle.std.proofs.Math.Option.{Option, some, none}
 use Rattle.definitions.specs.Ints.{signed_less}
-use Rattle.definitions.specs.Areas.{lay}
-use Rattle.definitions.specs.Refusals.{store_old_delta, unknown_snap, invalid_crc, capacity_error, scratch_too_short, store_full, not_in_form}
+use Rattle.definitions.specs.Refusals.{store_old_delta, unknown_snap, invalid_crc, capacity_error, store_full}
 use Rattle.definitions.specs.Warnings.{WeirdNegativeDeltaTick}
 use Rattle.definitions.specs.Outcome.{Outcome, ok, err, return, refuse, require, warn_if, ◌>>=◌, ◌>>◌}
 use Rattle.definitions.specs.Tables.{Table, num, written, table_of, crc}
-use Rattle.definitions.specs.TableCalls.{held}
 use Rattle.definitions.specs.Deltas.{Delta, written_delta}
 use Rattle.definitions.specs.DeltaMaking.{create_delta}
-use Rattle.definitions.specs.DeltaCalls.{held_delta}
 use Rattle.definitions.specs.Applying.{apply_delta}
 use Rattle.definitions.specs.Types.{typed}
 use Rattle.definitions.specs.Receiver.{same}

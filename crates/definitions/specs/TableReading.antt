@@ -1,5 +1,5 @@
 -- Reading a table from ints and from packed bytes, and adding an item. Assumes nothing.
-use Rattle.std.specs.Prelude.{Bool, true, false, cond, not, List, [], ℕ, zero, suc, ◌+◌, ◌/◌, ◌%◌, ltb, leb, eqb, ℤ, pos, negsuc, length, get_or}
+use Rattle.std.specs.Prelude.{cond, not, List, [], ℕ, zero, suc, ◌+◌, ◌/◌, ◌%◌, ltb, leb, eqb, ℤ, pos, negsuc, length, get_or}
 use Rattle.definitions.specs.Refusals.{unexpected_end, int_out_of_range, too_long_snap, too_many_items, offsets_unpacking, invalid_offset, items_unpacking, duplicate_key, non_zero_int_padding}
 use Rattle.definitions.specs.Warnings.{ExcessSnapData}
 use Rattle.definitions.specs.Outcome.{Outcome, return, refuse, require, warn, warn_if, ◌>>=◌, ◌>>◌}

@@ -1,1 +1,3 @@
+#![tactic(auto)]
+
 // The definitions are in specs/. This crate has no code.

@@ -1,16 +1,15 @@
 -- Tables by what is found in them: with an item put in, and what is kept. Rising keys and what is found determine a table. Assumes nothing.
 use Rattle.std.specs.Prelude.{ℕ, suc, ◌+◌, ◌<◌, ◌≤◌, ◌^◌, ◌≡◌, Bool, cond, true, false, List, [], ◌∷◌, ◌++◌, ℤ, length, ltb, eqb}
 use Rattle.std.proofs.Math.Path.{refl}
-use Rattle.std.proofs.Common.{sym, ap, ap₂, ◌∙◌, subst, ⊎_elim, true≢false, arith, length-append, eq-eqb, ne_eqb, le-ltb, ltb-true, ltb-false, eqb-true}
+use Rattle.std.proofs.Common.{sym, ap, ◌∙◌, subst, ⊎_elim, true≢false, arith, length-append, ne_eqb, le-ltb, ltb-true, ltb-false, eqb-true}
 use Rattle.std.proofs.lemmas.Bool.{false≢true, eqb-false}
 use Rattle.std.proofs.Math.Option.{Option, some, none}
 use Rattle.definitions.specs.Tables.{Item, Table, body, rising, find, is_some, insert}
 use Rattle.definitions.specs.DeltaReading.{elem}
 use Rattle.definitions.specs.Applying.{kept, replace}
 use Rattle.laws.specs.Tests.{below}
-use Rattle.laws.specs.TableWalk.{Rises, rises, rise, rising-less}
+use Rattle.laws.specs.TableWalk.{Rises, rises, rise}
 use Rattle.laws.specs.TableSettled.{find-nil, find_head, find-tail, find-below}
-use Rattle.laws.specs.TableChanged.{rising-kept}
 
 -- ---- found in a table
 

@@ -1,6 +1,6 @@
 -- Laws of lent areas. Assumes nothing.
 use Rattle.std.specs.Prelude.{◌≡◌, refl, List, [], ◌∷◌, ◌++◌, ℕ, zero, suc, ◌+◌, ◌≤◌, ◌<◌, length, take, drop, get_or, set, ℤ, pos}
-use Rattle.std.proofs.Common.{sym, ap, ◌∙◌, add-one, arith, add_assoc, add-zero, zero-add, drop_of_length-le, drop-cons}
+use Rattle.std.proofs.Common.{ap, add-one, arith, add_assoc, add-zero, zero-add, drop_of_length-le, drop-cons}
 use Rattle.std.proofs.Math.Seq.{take-append_seam}
 use Rattle.definitions.specs.Areas.{lay, lay_at, cleared}
 

@@ -10,7 +10,7 @@ use Rattle.definitions.specs.Areas.{lay}
 use Rattle.definitions.specs.Refusals.{duplicate_key, too_many_items, too_long_snap, capacity_error, invalid_type_id}
 use Rattle.definitions.specs.Warnings.{Counts}
 use Rattle.definitions.specs.Warnings as Warnings
-use Rattle.definitions.specs.Outcome.{Outcome, ok, err, return, refuse, require, after, ◌>>◌, Wrote}
+use Rattle.definitions.specs.Outcome.{Outcome, ok, err, return, refuse, require, ◌>>◌, Wrote}
 use Rattle.definitions.specs.Stored.{stored}
 use Rattle.definitions.specs.Tables.{Item, Table, body, offsets, written, sound, table_of, find, is_some, insert}
 use Rattle.definitions.specs.TableReading.{add_item}

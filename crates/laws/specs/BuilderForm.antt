@@ -15,7 +15,7 @@ use Rattle.laws.specs.PackLaws.{Whole}
 use Rattle.laws.specs.TableReadSound.{no_item, added-sound, empty-sound}
 use Rattle.laws.specs.DeltaMade.{facts}
 use Rattle.laws.specs.TableChanged.{find-insert}
-use Rattle.laws.specs.TableEach.{Each, no_more, one, WholeTable}
+use Rattle.laws.specs.TableEach.{Each, no_more, WholeTable}
 use Rattle.laws.specs.KindLaws.{names_kind, is_plain, is-kind, kinds_in, kinds_in-plain, kinds_run-plain, next-kind, has-number, no_number}
 use Rattle.laws.specs.TypeLaws.{Sane, kind, plain, Distinct, types-judged, each_map, each-insert, still-sane, distinct_more}
 

@@ -1,19 +1,18 @@
 -- A delta whose keys rise is found in its own ints, whatever follows them.
-use Prim.Native.Nat.{ℕ, zero, suc, ◌+◌, ◌-◌, ◌*◌, ◌/◌, ◌%◌, ◌<◌, ◌≤◌, ◌^◌}
-use Rattle.std.specs.Prelude.{◌≡◌, Bool, cond, false, ◌&&◌, ℤ, pos, take, leb, ltb, eqb}
+use Prim.Native.Nat.{ℕ, zero, suc, ◌+◌, ◌-◌, ◌/◌, ◌%◌, ◌<◌, ◌≤◌, ◌^◌}
+use Rattle.std.specs.Prelude.{◌≡◌, Bool, ℤ, pos, take, leb, ltb}
 use Rattle.std.proofs.Math.Path.{refl, sym, ap}
-use Rattle.std.proofs.Common.{ap₂, ◌∙◌, add-one, length-drop, get_or-drop, drop-drop, take_at}
+use Rattle.std.proofs.Common.{ap₂, ◌∙◌, length-drop, get_or-drop, drop-drop, take_at}
 use Rattle.std.proofs.Math.Bool.{true}
 use mathlib.Core.List.{List, [], ◌∷◌, ◌++◌, map, append_assoc}
 use Rattle.std.proofs.Math.Option.{Option, some, none}
 use native.Mathlib.Omega.{arith}
-use Rattle.std.specs.Int.Signed.{mag}
 use Rattle.std.proofs.Math.ListN.{length, get_or, drop, length-append, get_or-append}
 use Rattle.std.proofs.Math.Seq.{drop_at}
-use borrow.Author.Tests.{lt-ltb, le-leb, leb-true, ltb-true, eqb-true, eq-eqb}
+use borrow.Author.Tests.{lt-ltb, le-leb, leb-true, ltb-true, eqb-true}
 use Rattle.definitions.specs.Ints.{bits, from_bits}
-use Rattle.definitions.specs.Tables.{Item, key_of, num, nat, list, all}
-use Rattle.definitions.specs.Deltas.{Delta, rank, keys, signed_rising, is_in_order, known_size, size_ints, update_ints, updates_ints, delta_ints, written_delta, num_deleted, num_updated, deleted_at, update_key, head_length, data_at, size_or, size_at, update_end, update_at, updates, delta_in, lowest_rank, deleted_fits, update_fits, updates_fit, delta_form, delta_of}
+use Rattle.definitions.specs.Tables.{Item, num, nat, list, all}
+use Rattle.definitions.specs.Deltas.{Delta, rank, keys, signed_rising, is_in_order, known_size, update_ints, updates_ints, delta_ints, written_delta, num_deleted, num_updated, deleted_at, update_key, head_length, data_at, size_or, size_at, update_end, update_at, updates, delta_in, lowest_rank, deleted_fits, update_fits, updates_fit, delta_form, delta_of}
 use Rattle.definitions.specs.DeltaCalls.{is_size, sizes_match}
 use Rattle.laws.specs.IntLaws.{bits_back, digits-below}
 use Rattle.laws.specs.ListLaws.{list_ext, list-get_or}

@@ -1,6 +1,6 @@
 -- Deltas packed and read back, and differences added back to their base.
-use Rattle.std.specs.Prelude.{ℕ, suc, ◌+◌, ◌≤◌, ◌<◌, ◌≡◌, refl, true, List, [], ◌∷◌, ◌++◌, ℤ, pos, length}
-use Rattle.std.proofs.Common.{sym, ap, ap₂, ◌∙◌, arith, length-append, eqb-true}
+use Rattle.std.specs.Prelude.{◌≤◌, ◌≡◌, refl, true, List, [], ◌∷◌, ℤ, length}
+use Rattle.std.proofs.Common.{ap₂, arith, length-append, eqb-true}
 use Rattle.std.proofs.Math.Option.{Option, some, none}
 use Rattle.definitions.specs.Ints.{wrapping_add, wrapping_sub}
 use Rattle.definitions.specs.Outcome.{return}
@@ -11,7 +11,7 @@ use Rattle.definitions.specs.DeltaMaking.{zip_with, agree, differences, sums}
 use Rattle.definitions.specs.DeltaCalls.{sizes_match}
 use Rattle.definitions.specs.DeltaReading.{read_delta}
 use Rattle.laws.specs.IntLaws.{wrapping_add-wrapping_sub}
-use Rattle.laws.specs.PackLaws.{Whole, nil, cons}
+use Rattle.laws.specs.PackLaws.{Whole, cons}
 use Rattle.laws.specs.Shortest.{length-write_int}
 use Rattle.laws.specs.DeltaReadBack.{stream-packed, apart, read_back, delta-read, length-delta_ints}
 

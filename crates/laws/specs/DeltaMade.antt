@@ -1,9 +1,9 @@
 -- The delta between two sound tables is short, is in form in an area, and is read back. Assumes nothing.
-use Rattle.std.specs.Prelude.{◌+◌, ◌≤◌, ◌≡◌, Bool, cond, true, false, List, [], ◌∷◌, ◌++◌, ℤ, length, leb}
+use Rattle.std.specs.Prelude.{◌≤◌, ◌≡◌, Bool, cond, true, false, List, [], ◌∷◌, ◌++◌, ℤ, length, leb}
 use Rattle.std.proofs.Math.Option.{some}
 use Rattle.std.proofs.Common.{arith, leb-true}
 use Rattle.definitions.specs.Outcome.{return}
-use Rattle.definitions.specs.Tables.{Item, Table, written, rising, sound, find, is_some}
+use Rattle.definitions.specs.Tables.{Table, written, rising, sound, find, is_some}
 use Rattle.definitions.specs.Deltas.{is_in_order, delta_ints, written_delta, delta_of}
 use Rattle.definitions.specs.DeltaMaking.{lacking, alike, delta_from}
 use Rattle.definitions.specs.DeltaCalls.{sizes_match}

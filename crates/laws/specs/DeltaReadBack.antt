@@ -1,20 +1,20 @@
 -- A delta is read back from what is written under the same known sizes, without a warning.
-use Rattle.std.specs.Prelude.{ℕ, zero, suc, ◌+◌, ◌-◌, ◌*◌, ◌/◌, ◌%◌, ◌<◌, ◌≤◌, ◌^◌, ◌≡◌, Bool, cond, true, false, not, ◌&&◌, ◌||◌, ℤ, pos, length, leb, ltb, eqb}
+use Rattle.std.specs.Prelude.{ℕ, zero, suc, ◌+◌, ◌/◌, ◌<◌, ◌≤◌, ◌^◌, ◌≡◌, Bool, cond, true, false, not, ◌&&◌, ℤ, pos, length, leb, ltb, eqb}
 use Rattle.std.proofs.Math.Path.{refl, ap}
-use Rattle.std.proofs.Common.{sym, ap₂, ◌∙◌, subst, true≢false, arith, length-append}
+use Rattle.std.proofs.Common.{sym, ap₂, ◌∙◌, true≢false, arith, length-append}
 use mathlib.Core.List.{List, [], ◌∷◌, ◌++◌, map, append_assoc, append-nil}
-use Rattle.std.proofs.Math.Option.{Option, some, none}
-use borrow.Author.Tests.{lt-ltb, le-ltb, le-leb, leb-true, ltb-true, eq-eqb, ne_eqb, eqb-true}
+use Rattle.std.proofs.Math.Option.{some, none}
+use borrow.Author.Tests.{lt-ltb, le-ltb, leb-true, ltb-true, eq-eqb, ne_eqb}
 use Rattle.definitions.specs.Ints.{bits, from_bits}
-use Rattle.definitions.specs.Outcome.{Outcome, ok, err, return, refuse, require, after, warn_if, ◌>>=◌, ◌>>◌}
+use Rattle.definitions.specs.Outcome.{ok, return, after, warn_if, ◌>>◌}
 use Rattle.definitions.specs.Warnings.{Counts, DeleteUpdate, one, plus}
 use Rattle.definitions.specs.Warnings as Warnings
 use Rattle.definitions.specs.Packed.{pack_ints, write_int}
-use Rattle.definitions.specs.Stream.{Stream, int, end, cut, padded, stream, ints, warnings, and_then}
-use Rattle.definitions.specs.Tables.{Item, key_of, num, find, is_some}
-use Rattle.definitions.specs.Deltas.{Delta, rank, keys, signed_rising, is_in_order, known, known_size, size_ints, update_ints, updates_ints, delta_ints, written_delta}
+use Rattle.definitions.specs.Stream.{Stream, int, end, cut, padded, stream, ints, warnings}
+use Rattle.definitions.specs.Tables.{Item, num, find}
+use Rattle.definitions.specs.Deltas.{Delta, rank, keys, signed_rising, is_in_order, known_size, size_ints, update_ints, updates_ints, delta_ints, written_delta}
 use Rattle.definitions.specs.DeltaCalls.{is_size, sizes_match}
-use Rattle.definitions.specs.DeltaReading.{Got, int_stream, is_end, next, next_ints, header_number, written_size, update_size, read_head, read_update, elem, read_updates, put, ordered, ordered_keys, ordered_updates, DeltaRead, delta_read, read_delta_header, read_delta}
+use Rattle.definitions.specs.DeltaReading.{int_stream, is_end, next_ints, header_number, elem, read_updates, put, ordered, ordered_keys, ordered_updates, DeltaRead, read_delta_header, read_delta}
 use Rattle.laws.specs.IntLaws.{bits_back}
 use Rattle.laws.specs.WarningLaws.{none-plus, plus_none, plus_assoc, plus_comm}
 use Rattle.laws.specs.DeltaStream.{Took, take-one, take-ints, take-update}

@@ -1,10 +1,10 @@
 -- Reading from a stream whose ints are known, whatever its warnings. Assumes nothing.
-use Rattle.std.specs.Prelude.{ℕ, zero, suc, ◌+◌, ◌/◌, ◌%◌, ◌<◌, ◌≤◌, ◌^◌, ◌≡◌, refl, Bool, cond, true, false, List, [], ◌∷◌, ◌++◌, ℤ, pos, length, ltb}
+use Rattle.std.specs.Prelude.{ℕ, ◌/◌, ◌%◌, ◌<◌, ◌^◌, ◌≡◌, refl, true, List, [], ◌∷◌, ◌++◌, ℤ, pos, length}
 use Rattle.std.proofs.Common.{sym, ap, ap₂, ◌∙◌, append_assoc, arith, lt-ltb, eqb-true}
 use Rattle.std.proofs.Math.Option.{Option, some, none}
 use Rattle.definitions.specs.Warnings.{Counts, plus}
 use Rattle.definitions.specs.Warnings as Warnings
-use Rattle.definitions.specs.Outcome.{Outcome, ok, err, return, refuse, require, after, ◌>>=◌, ◌>>◌}
+use Rattle.definitions.specs.Outcome.{Outcome, ok}
 use Rattle.definitions.specs.Stream.{Stream, int, end, cut, padded, ints, warnings}
 use Rattle.definitions.specs.Tables.{Item, key_of, num}
 use Rattle.definitions.specs.Deltas.{known_size, size_ints, update_ints}

@@ -1,5 +1,5 @@
 -- The ints of the delta between two sound tables of 32-bit ints fit 32 bits, so that it is read back from its packed form. Assumes nothing.
-use Rattle.std.specs.Prelude.{ℕ, suc, ◌+◌, ◌/◌, ◌%◌, ◌<◌, ◌^◌, ◌≡◌, true, List, [], ◌∷◌, ◌++◌, map, ℤ, pos, leb, ltb}
+use Rattle.std.specs.Prelude.{ℕ, suc, ◌/◌, ◌%◌, ◌<◌, ◌^◌, ◌≡◌, true, List, [], ◌∷◌, ◌++◌, map, ℤ, pos, leb, ltb}
 use Rattle.std.proofs.Math.Option.{Option, some, none}
 use Rattle.std.proofs.Common.{arith, length-append, ltb-true, SFits}
 use Rattle.std.proofs.Math.ListN.{length}

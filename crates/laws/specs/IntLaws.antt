@@ -1,10 +1,10 @@
 -- Laws of 32-bit ints: their bits, wrapping sums and differences, both orders. Assumes nothing.
-use Rattle.std.specs.Prelude.{◌≡◌, refl, List, [], ◌∷◌, ◌++◌, Bool, true, false, ℕ, suc, ◌+◌, ◌-◌, ◌%◌, ◌^◌, ◌<◌, ◌≤◌, ltb, ℤ, pos, negsuc}
-use Rattle.std.proofs.Common.{sym, ◌∙◌, add_assoc, Fits, SFits, to_z-of_z}
+use Rattle.std.specs.Prelude.{◌≡◌, refl, List, [], ◌∷◌, ◌++◌, true, false, ℕ, suc, ◌+◌, ◌-◌, ◌%◌, ◌^◌, ◌<◌, ◌≤◌, ltb, ℤ, pos, negsuc}
+use Rattle.std.proofs.Common.{sym, ◌∙◌, add_assoc, SFits, to_z-of_z}
 use Rattle.std.proofs.Math.Path.{ap}
 use native.Mathlib.Omega.{arith}
 use borrow.Author.Tests.{lt-ltb, le-ltb, ltb-true, ltb-false}
-use Rattle.std.specs.Int.Signed.{lt_z, mag}
+use Rattle.std.specs.Int.Signed.{mag}
 use Rattle.std.specs.Int.{w32}
 use Rattle.std.proofs.Math.Facts.{of_z-to_z, Fits-of_z, sfits_to_z, sfits_lit}
 use Rattle.definitions.specs.Ints.{bits, from_bits, wrapping_add, wrapping_sub, signed_less, sum}

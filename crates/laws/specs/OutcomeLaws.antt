@@ -1,6 +1,6 @@
 -- Laws of outcomes. Assumes nothing.
 use Rattle.std.specs.Prelude.{◌≡◌, refl, ℕ}
-use Rattle.std.proofs.Common.{sym, ap, ◌∙◌, arith}
+use Rattle.std.proofs.Common.{sym, ap, arith}
 use Rattle.definitions.specs.Warnings.{Counts, none, plus}
 use Rattle.definitions.specs.Outcome.{Outcome, ok, err, return, after, ◌>>=◌}
 use Rattle.laws.specs.WarningLaws.{none-plus, plus_none, plus_assoc}

@@ -1,13 +1,12 @@
 -- Laws of packed integers: a written int is read back, from one to five bytes. Assumes nothing.
-use Rattle.std.specs.Prelude.{◌≡◌, refl, List, [], ◌∷◌, ◌++◌, Bool, true, false, cond, ℕ, zero, suc, ◌+◌, ◌-◌, ◌*◌, ◌/◌, ◌%◌, ◌^◌, ◌≤◌, ◌<◌, ltb, leb, eqb, ℤ, pos, negsuc, length}
+use Rattle.std.specs.Prelude.{◌≡◌, List, [], ◌∷◌, ◌++◌, Bool, true, false, cond, ℕ, zero, suc, ◌+◌, ◌-◌, ◌*◌, ◌/◌, ◌%◌, ◌^◌, ◌≤◌, ◌<◌, ltb, leb, eqb, ℤ, pos, negsuc}
 use Rattle.std.proofs.Common.{sym, ap, ◌∙◌, ⊎_elim, add-mul, mul_assoc, mul_comm, arith, lt-ltb, le-ltb, le-leb, ne_eqb, eq-eqb, SFits}
 use Rattle.std.proofs.Math.Nat.{pow-succ'}
 use Rattle.std.proofs.lemmas.Bool.{lt-leb}
-use Rattle.std.specs.Int.Signed.{mag}
 use Rattle.std.specs.Int.{w32}
 use Rattle.definitions.specs.Ints.{bits, from_bits}
 use Rattle.definitions.specs.Outcome.{Outcome, return}
-use Rattle.definitions.specs.Packed.{Read, signed, sign, more, read_int, write_more, sign_bit, write_int}
+use Rattle.definitions.specs.Packed.{Read, signed, sign, more, read_int, write_more, write_int}
 use Rattle.laws.specs.Tests.{below}
 use Rattle.laws.specs.IntLaws.{from_bits-bits}
 

@@ -11,7 +11,7 @@ use Rattle.definitions.specs.Refusals.{duplicate_part}
 use Rattle.definitions.specs.Warnings.{none as no-warning}
 use Rattle.definitions.specs.Outcome.{ok, err}
 use Rattle.definitions.specs.Messages.{base_tick, num_parts, part_bytes, part_message, distance}
-use Rattle.definitions.specs.Receiver.{Current, Receiver, Part, Taken, Receives, no_parts, finished_at, is_in, count_in, joined, receiver_form, is_old, is_current, is_tick_of, opened_for, opened, differs, put_part}
+use Rattle.definitions.specs.Receiver.{Current, Receiver, Part, Taken, Receives, no_parts, finished_at, is_in, count_in, receiver_form, is_old, is_current, is_tick_of, opened_for, opened, differs, put_part}
 use Rattle.laws.specs.TickLaws.{not-below-itself}
 use Rattle.laws.specs.CutLaws.{part-short, parts-few}
 use Rattle.laws.specs.ReceiverForm.{snap-form}

@@ -1,6 +1,6 @@
 -- Laws of packed integers: a written int has one to five bytes, and no shorter form is read as the same int. Assumes nothing.
-use Rattle.std.specs.Prelude.{◌≡◌, refl, List, [], ◌∷◌, Bool, true, false, ℕ, zero, suc, ◌+◌, ◌-◌, ◌*◌, ◌/◌, ◌%◌, ◌^◌, ◌≤◌, ◌<◌, ltb, ℤ, length}
-use Rattle.std.proofs.Common.{sym, ap, subst, ◌∙◌, ⊎_elim, mul_assoc, mul_comm, mul-le-mul_right, le-mul_of_pos_right, arith, lt-ltb, le-ltb, le-leb}
+use Rattle.std.specs.Prelude.{◌≡◌, List, [], ◌∷◌, Bool, true, false, ℕ, zero, suc, ◌+◌, ◌-◌, ◌*◌, ◌/◌, ◌%◌, ◌^◌, ◌≤◌, ◌<◌, ℤ, length}
+use Rattle.std.proofs.Common.{sym, ap, subst, ◌∙◌, ⊎_elim, mul_assoc, mul-le-mul_right, le-mul_of_pos_right, arith, lt-ltb, le-ltb, le-leb}
 use Rattle.std.proofs.Math.Nat.{pow-succ', pow-le-pow_right}
 use Rattle.std.proofs.lemmas.Bool.{lt-leb}
 use Rattle.std.specs.Int.Signed.{mag}
@@ -9,7 +9,7 @@ use Rattle.std.proofs.Math.Facts.{to_z_pos, to_z-neg}
 use Rattle.definitions.specs.Ints.{from_bits}
 use Rattle.definitions.specs.Warnings.{Counts}
 use Rattle.definitions.specs.Outcome.{Outcome, ok, err}
-use Rattle.definitions.specs.Packed.{Read, signed, sign, more, read_int, write_more, sign_bit, write_int}
+use Rattle.definitions.specs.Packed.{Read, signed, sign, more, read_int, write_more, write_int}
 use Rattle.laws.specs.Tests.{below}
 
 -- ---- how long a written int is

@@ -1,8 +1,7 @@
 -- What holds of the store whatever deltas come: its ticks fall, and a table that it takes has the sum that was sent. Assumes nothing.
-use Rattle.std.specs.Prelude.{◌≡◌, refl, Bool, cond, List, [], ◌∷◌, ℕ, zero, suc, leb, ℤ, length, take}
+use Rattle.std.specs.Prelude.{◌≡◌, refl, Bool, cond, List, [], ◌∷◌, ℕ, zero, suc, leb, ℤ, take}
 use Rattle.std.proofs.Math.Bool.{true, false}
 use Rattle.std.proofs.Math.Option.{Option, some}
-use Rattle.std.proofs.Math.Option as Option
 use Rattle.std.proofs.Common.{arith}
 use Rattle.definitions.specs.Ints.{signed_less}
 use Rattle.definitions.specs.Refusals.{store_old_delta, invalid_crc, capacity_error}

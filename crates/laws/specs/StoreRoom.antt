@@ -1,5 +1,5 @@
 -- Tables that stay when others are dropped: they are sound, no more than before, and take no more ints. Assumes nothing.
-use Rattle.std.specs.Prelude.{◌≡◌, Bool, true, false, cond, List, [], ◌∷◌, ℕ, zero, suc, ◌*◌, ◌≤◌, ℤ, length, take}
+use Rattle.std.specs.Prelude.{Bool, true, false, cond, List, [], ◌∷◌, ℕ, zero, suc, ◌*◌, ◌≤◌, ℤ, length, take}
 use Rattle.std.proofs.Common.{arith}
 use Rattle.definitions.specs.Ints.{signed_less}
 use Rattle.definitions.specs.Storage.{StoredSnap, drop_older, is_negative, drop_for}

@@ -1,20 +1,18 @@
 -- What is read from a list in form is what was written: lengths, and the front of the list.
-use Prim.Native.Nat.{ℕ, zero, suc, ◌+◌, ◌-◌, ◌*◌, ◌/◌, ◌%◌, ◌<◌, ◌≤◌, ◌^◌}
-use Rattle.std.specs.Prelude.{◌≡◌, Bool, cond, true, false, ◌&&◌, ℤ, negsuc, drop}
+use Prim.Native.Nat.{ℕ, zero, suc, ◌+◌, ◌-◌, ◌*◌, ◌/◌, ◌<◌, ◌≤◌, ◌^◌}
+use Rattle.std.specs.Prelude.{◌≡◌, ℤ, negsuc, drop}
 use Rattle.std.proofs.Math.Path.{refl, ap}
-use Rattle.std.proofs.Common.{sym, ap₂, ◌∙◌, subst, length-take, take-append-drop, lt-ltb}
-use mathlib.Core.List.{List, [], ◌∷◌, ◌++◌, map, append_assoc, append-nil}
-use Rattle.std.proofs.Math.Option.{Option, some, none}
+use Rattle.std.proofs.Common.{sym, ap₂, ◌∙◌, length-take, take-append-drop, lt-ltb}
+use mathlib.Core.List.{List, [], ◌∷◌, ◌++◌, append_assoc, append-nil}
 use Rattle.std.proofs.Math.Numerals.{add-one}
 use native.Mathlib.Omega.{arith}
 use Rattle.std.proofs.Math.IntN.{pos}
-use Rattle.std.specs.Int.Signed.{mag}
 use Rattle.std.proofs.Math.ListN.{length, get_or, take, length-append, length-drop}
-use Rattle.std.proofs.Math.Seq.{take-add, take-suc, drop-cons, drop-drop, get_or-drop, take-length}
-use Rattle.definitions.specs.Ints.{bits, from_bits}
+use Rattle.std.proofs.Math.Seq.{take-add, take-suc, drop-cons, drop-drop, get_or-drop}
+use Rattle.definitions.specs.Ints.{from_bits}
 use Rattle.laws.specs.IntLaws.{whole-bits}
-use Rattle.definitions.specs.Tables.{Item, Table, body, offsets, written, list, all, size, count, edge, start, key_at, values_at, item_at, lowest, fits, in_form, items, table_of, num, nat}
-use Rattle.laws.specs.TableShape.{Shape, Step, edge-aligned, edge-within, edge-end, size-aligned, start-rises, start-within, start_first, start-end, start-least, bounds, shape, shape-in}
+use Rattle.definitions.specs.Tables.{Table, body, offsets, written, list, size, count, edge, start, key_at, values_at, item_at, items, num, nat}
+use Rattle.laws.specs.TableShape.{Shape, edge-aligned, edge-within, edge-end, start-rises, start-within, start_first, start-end, start-least, bounds}
 
 -- ---- of any table
 

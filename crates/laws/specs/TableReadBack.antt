@@ -1,18 +1,18 @@
 -- A table that an area holds is read from it; what is written is read back without a warning. Assumes nothing.
 use Rattle.std.proofs.Math.Path.{◌≡◌, ap}
-use Rattle.std.specs.Prelude.{refl, Bool, true, ltb, leb, ℤ, pos, length, get_or, drop}
-use Rattle.std.proofs.Common.{sym, ◌∙◌, subst, add-one, arith, length-append}
+use Rattle.std.specs.Prelude.{refl, Bool, true, ltb, ℤ, length}
+use Rattle.std.proofs.Common.{sym, ◌∙◌, arith}
 use Rattle.std.proofs.Math.Bool.{false}
 use mathlib.Core.List.{List, [], ◌∷◌, ◌++◌, append-nil, append_assoc}
-use Rattle.std.proofs.Math.Option.{Option, some, none}
-use Prim.Native.Nat.{ℕ, zero, suc, ◌+◌, ◌-◌, ◌*◌, ◌/◌, ◌%◌, ◌^◌, ◌<◌, ◌≤◌}
+use Rattle.std.proofs.Math.Option.{some, none}
+use Prim.Native.Nat.{ℕ, zero, suc, ◌+◌, ◌/◌, ◌<◌, ◌≤◌}
 use borrow.Author.Tests.{lt-ltb, le-ltb, le-leb, eq-eqb}
 use Rattle.definitions.specs.Warnings.{ExcessSnapData}
 use Rattle.definitions.specs.Outcome.{Outcome, return, require, warn_if, ◌>>=◌, ◌>>◌}
-use Rattle.definitions.specs.Tables.{Item, Table, body, written, sound, list, nat, size, count, edge, start, ends, key_at, item_at, items, in_form, table_of, find, is_some, insert}
+use Rattle.definitions.specs.Tables.{Item, Table, written, sound, list, size, count, edge, ends, key_at, item_at, items, in_form, table_of, find, insert}
 use Rattle.definitions.specs.TableReading.{add_item, read_items, read_table}
 use Rattle.laws.specs.OutcomeLaws.{return-bind, after_none}
-use Rattle.laws.specs.TableShape.{Shape, shape-in, shape, well-ends, keys-rise, start_first, start-within, size-aligned}
+use Rattle.laws.specs.TableShape.{Shape, shape, well-ends, keys-rise, start_first, start-within, size-aligned}
 use Rattle.laws.specs.TableForm.{length-list, length-body, length-written, length-form}
 use Rattle.laws.specs.TableFind.{find_none}
 use Rattle.laws.specs.TableHeader.{header_read}

@@ -1,11 +1,11 @@
 -- A sound table is read back from its written form, and what is read is sound.
-use Prim.Native.Nat.{ℕ, zero, suc, ◌+◌, ◌-◌, ◌*◌, ◌/◌, ◌%◌, ◌<◌, ◌≤◌, ◌^◌}
+use Prim.Native.Nat.{ℕ, zero, suc, ◌+◌, ◌-◌, ◌*◌, ◌<◌, ◌≤◌, ◌^◌}
 use Rattle.std.proofs.Math.Path.{◌≡◌, refl, sym, ap, ap₂}
-use Rattle.std.proofs.Common.{◌∙◌, subst, ⊎_elim, eq-or-lt_of_le, add-one, length-take, length-drop, take-append-drop, take-suc, length-take-le, lt-ltb, le-leb, leb-true, ltb-true}
-use Rattle.std.specs.Prelude.{Bool, cond, true, ◌&&◌, ℤ, take, leb, ltb}
+use Rattle.std.proofs.Common.{◌∙◌, subst, ⊎_elim, eq-or-lt_of_le, add-one, take-append-drop, take-suc, lt-ltb, le-leb, leb-true, ltb-true}
+use Rattle.std.specs.Prelude.{Bool, true, ℤ, take, leb, ltb}
 use Rattle.std.proofs.Math.Bool.{false}
-use mathlib.Core.List.{List, [], ◌∷◌, ◌++◌, append_assoc, append-nil}
-use Rattle.std.proofs.Math.Option.{Option, some, none}
+use mathlib.Core.List.{List, [], ◌∷◌, ◌++◌, append_assoc}
+use Rattle.std.proofs.Math.Option.{some, none}
 use native.Mathlib.Omega.{arith}
 use Rattle.std.proofs.Math.IntN.{pos}
 use Rattle.std.specs.Int.Signed.{mag}
@@ -16,8 +16,8 @@ use Rattle.definitions.specs.Ints.{bits, from_bits}
 use Rattle.laws.specs.IntLaws.{bits_below, bits_back, digits-below}
 use Rattle.definitions.specs.Tables.{Item, Table, body, offsets, written, rising, sound, list, size, count, edge, start, key_at, values_at, item_at, lowest, in_form, items, table_of, num, nat}
 use Rattle.laws.specs.ListLaws.{list-cons, list_ext, list-get_or}
-use Rattle.laws.specs.TableShape.{Shape, Step, both, shape, shape-in, some_is, edge-end, key-next}
-use Rattle.laws.specs.TableForm.{length-list, body-append, length-offsets, length-written, length-items, length-items-body, length-form, restores, edge-nat}
+use Rattle.laws.specs.TableShape.{Shape, both, shape, some_is, edge-end, key-next}
+use Rattle.laws.specs.TableForm.{body-append, length-offsets, length-written, length-items, length-form, restores, edge-nat}
 
 abbrev pub no_item : Item
 no_item = record { key = 0; values = [] }

@@ -1,13 +1,12 @@
 -- What `in_form` says, as facts about numbers; the tests of `all` one by one.
-use Rattle.std.specs.Prelude.{ℕ, zero, suc, ◌+◌, ◌-◌, ◌*◌, ◌/◌, ◌%◌, ◌<◌, ◌≤◌, ◌^◌, ◌≡◌, refl, Bool, cond, true, false, ◌&&◌, List, [], ◌∷◌, ◌++◌, map, ℤ, pos, length, get_or, take, drop, ltb, leb, eqb}
-use Rattle.std.proofs.Common.{sym, ap, ◌∙◌, subst, ⊎_elim, eq-or-lt_of_le, le_of_suc-le-suc, add-one, ltb-true, leb-true, eqb-true, le-ltb, lt-ltb, le-leb, eq-eqb}
+use Rattle.std.specs.Prelude.{ℕ, zero, suc, ◌+◌, ◌/◌, ◌%◌, ◌<◌, ◌≤◌, ◌^◌, ◌≡◌, refl, Bool, true, false, ◌&&◌, List, ℤ, pos, length, get_or, leb, eqb}
+use Rattle.std.proofs.Common.{sym, ap, subst, ⊎_elim, eq-or-lt_of_le, le_of_suc-le-suc, add-one, ltb-true, leb-true, eqb-true, le-ltb, lt-ltb, le-leb, eq-eqb}
 use Rattle.std.proofs.Math.Bool.{and-false}
 use Rattle.std.proofs.lemmas.Bool.{false≢true}
-use Rattle.std.proofs.Math.Option.{Option, some, none}
+use Rattle.std.proofs.Math.Option.{some, none}
 use native.Mathlib.Omega.{arith}
 use Rattle.std.specs.Int.Signed.{mag}
-use Rattle.definitions.specs.Ints.{bits, from_bits}
-use Rattle.definitions.specs.Tables.{Item, Table, all, size, count, edge, start, key_at, values_at, lowest, ends, fits, in_form, items, table_of, nat}
+use Rattle.definitions.specs.Tables.{all, size, count, edge, start, key_at, lowest, ends, fits, in_form, items, table_of}
 
 pub both : (x y : Bool) → (x && y) ≡ true → (x ≡ true) × (y ≡ true)
 both true y e = (refl, e)

@@ -1,1 +1,3 @@
+#![tactic(auto)]
+
 // The laws are in specs/. This crate has no code.

@@ -2,7 +2,6 @@
 use Rattle.std.specs.Prelude.{◌≡◌, refl, true, false, List, [], ◌∷◌, ◌++◌, ℕ, ◌≤◌, ltb, ℤ, pos, negsuc, length}
 use Rattle.std.proofs.Common.{sym, ◌∙◌, ap, subst, arith, ltb-true, lt-ltb}
 use Rattle.std.proofs.Math.Option.{Option, some}
-use Rattle.std.proofs.Math.Option as Option
 use Rattle.definitions.specs.Ints.{signed_less}
 use Rattle.definitions.specs.Outcome.{Outcome, ok, err}
 use Rattle.definitions.specs.Tables.{Table, table_of}
@@ -23,7 +22,7 @@ use Rattle.session.specs.HeldTicks.{snap_at, Falls, end, next, falls-drop, all_d
 use Rattle.session.specs.Dropping.{Oldest, oldest-found}
 use Rattle.session.specs.ControllerSteps.{drops, base-left, call-adds, call-unformed, Sets, unsets, sets, setting-is, set_step, call-sets}
 use Rattle.session.specs.ControllerSteps as ControllerSteps
-use Rattle.session.specs.ControllerState.{Based, unset, set, none, more, Keeping, Controls, laid_out, told-refused, told-adding, adds-controls}
+use Rattle.session.specs.ControllerState.{Based, unset, set, none, Keeping, Controls, laid_out, told-refused, told-adding, adds-controls}
 
 -- ---- the base tick is set
 

@@ -2,7 +2,6 @@
 use Rattle.std.specs.Prelude.{◌≡◌, refl, true, false, List, [], ◌∷◌, ◌++◌, ℕ, suc, ◌≤◌, ◌<◌, ℤ, pos, length, drop}
 use Rattle.std.proofs.Common.{sym, ◌∙◌, ap, subst, arith, ltb-true}
 use Rattle.std.proofs.Math.Option.{Option, some}
-use Rattle.std.proofs.Math.Option as Option
 use Rattle.definitions.specs.Ints.{signed_less}
 use Rattle.definitions.specs.Areas.{lay}
 use Rattle.definitions.specs.Outcome.{Outcome, ok, err, return}

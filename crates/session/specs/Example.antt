@@ -1,7 +1,7 @@
 -- A session of three ticks, whose premises are met: parts swapped, one lost, one doubled and one late. Assumes nothing.
 use Rattle.std.specs.Prelude.{◌≡◌, refl, true, false, List, [], ◌∷◌, map, ℕ, zero, suc, ◌<◌, ℤ, pos, negsuc, length, replicate}
 use Rattle.std.proofs.Common.{sym, subst, arith}
-use Rattle.std.proofs.Math.Option.{some, none}
+use Rattle.std.proofs.Math.Option.{some}
 use Rattle.definitions.specs.Refusals.{old_delta, duplicate_part}
 use Rattle.definitions.specs.Tables.{Table, list, body, offsets, written, num, nat, edge, start, key_at, values_at, all, items, ends, lowest, fits, in_form, table_of, find, insert, negatives, positives, all_values}
 use Rattle.definitions.specs.Messages.{Message, delta_chunks}

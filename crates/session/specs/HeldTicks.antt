@@ -2,7 +2,6 @@
 use Rattle.std.specs.Prelude.{◌≡◌, refl, true, false, List, [], ◌∷◌, map, ℕ, zero, suc, ◌≤◌, ◌<◌, ltb, eqb, ℤ, pos, length, take}
 use Rattle.std.proofs.Common.{sym, ◌∙◌, ap, subst, arith, ltb-true, ltb-false, lt-ltb, eqb-true, ne_eqb, take_all}
 use Rattle.std.proofs.Math.Option.{Option, some}
-use Rattle.std.proofs.Math.Option as Option
 use Rattle.definitions.specs.Ints.{bits, signed_less}
 use Rattle.definitions.specs.Tables.{Table}
 use Rattle.definitions.specs.Receiver.{same}

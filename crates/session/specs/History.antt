@@ -3,7 +3,6 @@ use Rattle.std.specs.Prelude.{◌≡◌, true, false, ◌||◌, List, [], ◌∷
 use Rattle.std.proofs.Math.Path.{refl}
 use Rattle.std.proofs.Common.{sym, ◌∙◌, subst, arith, ltb-true, ltb-false, eqb-true}
 use Rattle.std.proofs.Math.Option.{Option, some}
-use Rattle.std.proofs.Math.Option as Option
 use Rattle.std.proofs.lemmas.Bool.{eqb-false}
 use Rattle.definitions.specs.Ints.{signed_less}
 use Rattle.definitions.specs.DeltaReading.{elem}

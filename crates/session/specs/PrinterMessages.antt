@@ -4,7 +4,6 @@ use Rattle.std.proofs.Math.Path.{refl, subst}
 use Rattle.std.proofs.Common.{sym, inl, inr, arith}
 use mathlib.Core.List.{List, []}
 use Rattle.std.proofs.Math.Option.{Option, some}
-use Rattle.std.proofs.Math.Option as Option
 use Rattle.std.proofs.Math.ListN.{length}
 use Rattle.definitions.specs.Areas.{lay}
 use Rattle.definitions.specs.Outcome.{return, ◌>>=◌}

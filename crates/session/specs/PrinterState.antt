@@ -1,9 +1,8 @@
 -- How a printer's receiver and store agree with the logbook, while messages of accepted tables come. Assumes nothing.
-use Rattle.std.specs.Prelude.{◌≡◌, Bool, true, false, not, List, [], ◌∷◌, ℕ, suc, ◌≤◌, ◌<◌, ltb, ℤ, pos, length}
+use Rattle.std.specs.Prelude.{◌≡◌, Bool, true, false, not, List, [], ℕ, suc, ◌≤◌, ◌<◌, ltb, ℤ, pos, length}
 use Rattle.std.proofs.Math.Path.{refl}
 use Rattle.std.proofs.Common.{sym, ap, subst, arith}
 use Rattle.std.proofs.Math.Option.{Option, some}
-use Rattle.std.proofs.Math.Option as Option
 use borrow.Author.Tests.{ltb-true, le-leb, lt-ltb}
 use Rattle.definitions.specs.Ints.{signed_less}
 use Rattle.definitions.specs.Tables.{Table, sound, crc}

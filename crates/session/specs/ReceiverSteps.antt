@@ -2,7 +2,6 @@
 use Rattle.std.specs.Prelude.{◌≡◌, refl, Bool, true, false, cond, not, List, ℕ, ◌*◌, ◌≤◌, ◌<◌, eqb, ℤ, length}
 use Rattle.std.proofs.Common.{ap}
 use Rattle.std.proofs.Math.Option.{Option, some}
-use Rattle.std.proofs.Math.Option as Option
 use borrow.Author.Tests.{le-leb, lt-ltb}
 use Rattle.definitions.specs.Areas.{lay, lay_at}
 use Rattle.definitions.specs.Refusals.{old_delta, duplicate_part}

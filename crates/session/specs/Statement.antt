@@ -1,7 +1,6 @@
 -- Demand 3, with the rules for sessions in docs/FORMAT.md: what a session is, and what is claimed about it. Assumes nothing.
 use Rattle.std.specs.Prelude.{◌≡◌, Bool, true, false, List, [], ◌∷◌, ◌++◌, map, ◌↔◌, ℕ, ◌<◌, ◌≤◌, ℤ, pos, negsuc, length}
 use Rattle.std.proofs.Math.Option.{Option, some}
-use Rattle.std.proofs.Math.Option as Option
 use Rattle.definitions.specs.Ints.{signed_less}
 use Rattle.definitions.specs.Refusals.{delta_differing_sizes, capacity_error, scratch_too_short, store_full, unknown_snap, not_in_form}
 use Rattle.definitions.specs.Warnings.{Counts, one, WeirdNegativeDeltaTick}

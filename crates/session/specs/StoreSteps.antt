@@ -5,7 +5,6 @@ use Rattle.std.proofs.Math.Path.{subst}
 use Rattle.std.proofs.Math.Bool.{false}
 use mathlib.Core.List.{List, [], ◌∷◌}
 use Rattle.std.proofs.Math.Option.{Option, some}
-use Rattle.std.proofs.Math.Option as Option
 use Prim.Native.Nat.{ℕ, suc, ◌≤◌}
 use borrow.Author.Tests.{leb-true, le-ltb}
 use Rattle.std.proofs.Math.Dec.{ltb}
