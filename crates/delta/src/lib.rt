@@ -1,4 +1,6 @@
 // Deltas between tables, in lent areas of ints.
+#![tactic(auto)]
+
 ghost use Rattle.std.specs.Prelude.{◌≡◌, length};
 ghost use Rattle.definitions.specs.Areas.{cleared};
 ghost use Rattle.definitions.specs.DeltaCalls.{clear_call, create_call, create_clash, write_to_ints_call, write_call, read_from_ints_call, read_call};
