@@ -1,4 +1,6 @@
 // The store of tables by tick.
+#![tactic(auto)]
+
 ghost use Rattle.std.specs.Prelude.{◌≡◌, cond, length};
 ghost use Rattle.std.proofs.Math.Option.{some, none};
 ghost use Rattle.definitions.specs.Areas.{cleared};

@@ -1,0 +1,13 @@
+-- `Storage::add_delta` meets its contract: the delta is taken, and scratch is cleared. Assumes nothing.
+use Rattle.laws.specs.AreaLaws.{cleared-same}
+use mathlib.Core.Path.{◌∙◌}
+use mir.Facts.{to_z-of_z}
+use Rattle.std.proofs.Common.{w32}
+use Rattle.storage.proofs.Storage.add_delta.Goals as goal
+
+pub returns : goal.returns
+returns c =
+    let s = c in
+    let t = c.take-taking in
+    let e = rw (to_z-of_z {w = w32} s.ranges.crc) at t.ensures in
+    (e, c.clear.ensures ∙ cleared-same t.new.scratch s.args.scratch.now t.auto.scratch)
