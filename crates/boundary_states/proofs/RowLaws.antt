@@ -7,7 +7,6 @@ use Prim.Native.Nat.{ℕ}
 use lib.IntN.{ℤ, pos}
 use lib.ListN.{get_or}
 use borrow.Author.Tests.{eq-eqb, ne_eqb}
-use Rattle.definitions.specs.Receiver.{Receiver, Current}
 use Rattle.ticks.specs.Ticks.{tick_of}
 use Rattle.receiver.specs.States.{receiver_of, receiver_with, current_in, current_of}
 use Rattle.receiver.specs.declared.checked.Ticks as ReceiverTicks

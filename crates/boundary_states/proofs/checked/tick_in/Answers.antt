@@ -1,0 +1,10 @@
+-- `boundary_states::checked::tick_in` meets its contract: by the flag. Assumes nothing.
+use mathlib.Core.Path.{refl}
+use Rattle.boundary_states.proofs.RowLaws.{given-some, given-none}
+use Rattle.boundary_states.proofs.checked.tick_in.Goals as goal
+
+pub returns-then-flag-ne0 : goal.returns-then-flag-ne0
+returns-then-flag-ne0 c = given-some c.args.tick.0 c.args.flag _ c.if-flag-ne0.true refl
+
+pub returns : goal.returns
+returns c = given-none c.args.tick.0 c.args.flag _ c.if-flag-ne0.false refl
