@@ -25,7 +25,6 @@ use Rattle.format.specs.declared.Error.{Error}
 use Rattle.format.specs.declared.Reading.{Reading}
 use Rattle.format.specs.declared.Stored.{Stored}
 use Rattle.format.specs.declared.Stored.TheVariants as answer
-use Rattle.format.specs.declared.Warnings.{Warnings}
 use Rattle.receiver.specs.States.{receiver_of}
 use Rattle.receiver.specs.Answers.{received_with, answered}
 use Rattle.receiver.specs.declared.Received.{Received}

@@ -1,6 +1,6 @@
 -- The results of the steps of a message. Assumes nothing.
 use Rattle.std.specs.Prelude.{◌≡◌, List, [], ℕ, ◌≤◌, leb, ℤ, length}
-use Rattle.std.proofs.Math.Option.{Option, some, none}
+use Rattle.std.proofs.Math.Option.{Option, some}
 use Rattle.definitions.specs.Areas.{lay}
 use Rattle.definitions.specs.Warnings.{Counts}
 use Rattle.definitions.specs.Warnings as Warnings

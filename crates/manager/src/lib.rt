@@ -1,4 +1,6 @@
 // The manager of a printer: a receiver and a store.
+#![tactic(auto)]
+
 ghost use Rattle.std.specs.Prelude.{◌≡◌, List, [], ℤ, length};
 ghost use Rattle.definitions.specs.Areas.{cleared};
 ghost use Rattle.definitions.specs.Outcome.{return};
