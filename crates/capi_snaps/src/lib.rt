@@ -1,4 +1,6 @@
 // Applying deltas, tables with types, and the builder as C sees them.
+#![tactic(auto)]
+
 ghost use Rattle.std.specs.Prelude.{◌≡◌, length};
 ghost use Rattle.definitions.specs.Areas.{cleared};
 ghost use Rattle.definitions.specs.Applying.{raw_read_with_delta_call};

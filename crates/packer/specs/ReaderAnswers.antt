@@ -13,7 +13,7 @@ abbrev pub moved : Unpacker → Outcome IntAt → Unpacker
 moved u o = record { src = u.src; at = place_after (length u.src.now) u.at o }
 
 abbrev pub ints_moved : IntUnpacker → Outcome IntAt → IntUnpacker
-ints_moved u o = record { src = u.src; at = place_after (length u.src.now) u.at o }
+ints_moved r o = record { src = r.src; at = place_after (length r.src.now) r.at o }
 
 -- the answer of a reader of some entries for what it read at a place
 pub record Answered {A : Type 0} (o : Outcome IntAt) (entries : List A) (at : ℕ) (r : ReaderAnswer) : Type 0 where

@@ -81,7 +81,7 @@ impl<'a> IntUnpacker<'a> {
 
     // Whether no int is left.
     pub fn is_empty(self) -> bool
-        ensures { result ≡ leb (length self.entry.src.now) self.entry.at }
+        ensures empty { result ≡ leb (length self.entry.src.now) self.entry.at }
     {
         self.src.len() <= self.at
     }
@@ -97,7 +97,7 @@ impl<'a> IntUnpacker<'a> {
 
     // The ints that are left.
     pub fn as_slice(self) -> &'a [i32]
-        ensures { result.now ≡ drop self.entry.at self.entry.src.now }
+        ensures rest { result.now ≡ drop self.entry.at self.entry.src.now }
     {
         places::ints_from(self.src, self.at)
     }
