@@ -1,4 +1,6 @@
 // The calls on deltas, and on the differences of single items, as C sees them.
+#![tactic(auto)]
+
 ghost use Rattle.std.specs.Prelude.{◌≡◌, length};
 ghost use Rattle.definitions.specs.Areas.{cleared};
 ghost use Rattle.definitions.specs.DeltaCalls.{clear_call, create_call, create_clash, write_to_ints_call, write_call, read_from_ints_call, read_call, create_item_delta_call, apply_item_delta_call};

@@ -1,9 +1,8 @@
 -- The place of a message's bytes among those of its delta: from byte 900 i on. Assumes nothing.
 use Rattle.std.specs.Prelude.{◌≡◌, refl, List, [], ◌∷◌, ℕ, zero, suc, ◌*◌, ◌≤◌, ◌<◌, ℤ, length, take, drop}
-use Rattle.std.proofs.Common.{sym, ap, ◌∙◌, ⊎_elim, arith, le-leb, take_all}
-use Rattle.std.proofs.Math.Option.{Option, some, none}
+use Rattle.std.proofs.Common.{sym, ap, ⊎_elim, arith, le-leb, take_all}
 use Rattle.std.proofs.lemmas.Bool.{lt-leb}
-use Rattle.definitions.specs.Messages.{Message, SnapMsg, num_parts, delta_chunks, nth_message, chunk_call}
+use Rattle.definitions.specs.Messages.{SnapMsg, num_parts, delta_chunks, nth_message, chunk_call}
 use Rattle.laws.specs.Tests.{below}
 use Rattle.laws.specs.CutLaws.{chunks-none, chunks-single, length-chunks, nth-chunk, nth_past}
 use Rattle.delta_chunks.specs.Answers.{bytes_in, bytes_of}

@@ -1,4 +1,6 @@
 // Messages and the receiver as C sees them.
+#![tactic(auto)]
+
 ghost use Rattle.std.specs.Prelude.{◌≡◌, [], pos};
 ghost use Rattle.definitions.specs.Messages.{num_chunks_call, chunk_call};
 ghost use Rattle.definitions.specs.Receiver.{fresh_receiver, snap_call, snap_single_call, snap_empty_call};
