@@ -44,7 +44,7 @@ use Rattle.session.specs.ControllerRun.{not_negative, set-based, calls-control, 
 -- the base that is chosen is the one held at the tick that is set, or the empty table
 base-in : (s : Storage) (x : StoredSnap) (o : Option ℤ) (l : List StoredSnap) → s.delta_tick ≡ o → s.snaps ≡ l → Based o l → BaseIn s (chosen_base o x l).snap
 unfolding oldest_or
-base-in s x (some t) [] e q x5 = elim x5 [ ]
+base-in s x (some t) [] e q m = elim m [ ]
 base-in s x Option.none l e q unset = Statement.empty e
 base-in s x (some t) (y ∷ l) e q (set h) =
     Statement.held {x = oldest_or y l} (e ∙ ap some (sym h)) (subst (Among (oldest_or y l)) (sym q) (oldest-among y l))
@@ -93,7 +93,7 @@ module _ (c : Controller) (tick : ℤ) (table : List ℤ) (t : Table) (s : Stora
 
 -- a base tick that is set is held
 held_at : (t : ℤ) (l : List StoredSnap) → Based (some t) l → HeldAt t l
-held_at t [] x'' = elim x'' [ ]
+held_at t [] m = elim m [ ]
 held_at t (x ∷ l) (set h) = record { snap = oldest_or x l; among = oldest-among x l; tick_is = h }
 
 -- a tick that is held is found

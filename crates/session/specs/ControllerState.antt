@@ -107,7 +107,7 @@ empty-sound = refl
 -- so the base that is chosen is sound
 pub base-sound : (o : Option ℤ) (x : StoredSnap) (l : List StoredSnap) → Based o l → Sounds l → sound (chosen_base o x l).snap ≡ true
 unfolding oldest_or
-base-sound (some t) x [] x5 h = elim x5 [ ]
+base-sound (some t) x [] m h = elim m [ ]
 base-sound Option.none x l unset h = empty-sound
 base-sound (some t) x (y ∷ l) (set e) h = sounds-oldest y l h
 
@@ -115,7 +115,7 @@ base-sound (some t) x (y ∷ l) (set e) h = sounds-oldest y l h
 pub base-named : (es : List Accepted) (o : Option ℤ) (x : StoredSnap) (l : List StoredSnap) → Based o l → All (IsAccepted es) l
     → Base (AcceptedAt es) (chosen_base o x l).tick (chosen_base o x l).snap
 unfolding oldest_or
-base-named es (some t) x [] x5 a = elim x5 [ ]
+base-named es (some t) x [] m a = elim m [ ]
 base-named es Option.none x l unset a = Statement.empty
 base-named es (some t) x (y ∷ l) (set e) a =
     Statement.named (all_among a (oldest-among y l))
@@ -123,14 +123,14 @@ base-named es (some t) x (y ∷ l) (set e) a =
 -- its tick is the base tick, or -1
 pub base-tick : (o : Option ℤ) (x : StoredSnap) (l : List StoredSnap) → Based o l → (chosen_base o x l).tick ≡ or_none o
 unfolding oldest_or
-base-tick (some t) x [] x4 = elim x4 [ ]
+base-tick (some t) x [] m = elim m [ ]
 base-tick Option.none x l unset = refl
 base-tick (some t) x (y ∷ l) (set e) = e
 
 -- one more table does not change the oldest
 based-more : (x : StoredSnap) (o : Option ℤ) (l : List StoredSnap) → Based o l → Based o (x ∷ l)
 unfolding oldest_or
-based-more x (some t) [] x3 = elim x3 [ ]
+based-more x (some t) [] m = elim m [ ]
 based-more x Option.none l unset = unset
 based-more x (some t) (y ∷ l) (set e) = set e
 

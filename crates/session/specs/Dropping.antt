@@ -16,7 +16,7 @@ falls-next {k} n x l e h f = subst (λ (z : ℤ). Falls k (record { tick = z; sn
 
 -- the tick of one held
 pub falls-tick : {k : ℕ} {x : StoredSnap} {l : List StoredSnap} → Falls k l → Among x l → (n : ℕ) × (x.tick ≡ pos n) × (n < k)
-falls-tick (end {k = k}) x7 = elim x7 [ ]
+falls-tick end m = elim m [ ]
 falls-tick (next {n = n} h f) here = (n, refl, h)
 falls-tick (next {n = n} h f) (there m) = let (j, q, i) = falls-tick f m in (j, q, omega arith)
 

@@ -206,6 +206,6 @@ has_tick-held b (next {n = n} {t = t} p f) e =
 -- a tick that is held is among those of the tables
 pub held-has_tick : (b : ℤ) (l : List StoredSnap) (x : StoredSnap) → Among x l → x.tick ≡ b → has_tick b (ticks l) ≡ true
 unfolding has_tick
-held-has_tick b [] x x4 e = elim x4 [ ]
+held-has_tick b [] x m e = elim m [ ]
 held-has_tick b (y ∷ l) x here e = rw (e, same_self b) refl
 held-has_tick b (y ∷ l) x (there m) e = rw (held-has_tick b l x m e) (or-true (same y.tick b))

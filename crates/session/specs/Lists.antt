@@ -40,7 +40,7 @@ module _ {A : Type 0} where
 
   -- what all entries of a list have, each has
   pub all_among : {P : A → Type 0} {a : A} {l : List A} → All P l → Among a l → P a
-  all_among {P = P} {a = a} none x3 = elim x3 [ ]
+  all_among none m = elim m [ ]
   all_among (more p ps) here = p
   all_among (more p ps) (there m) = all_among ps m
 

@@ -30,7 +30,7 @@ pub record Numbered (a : Accepted) : Type 0 where
 
 -- each accepted tick is one
 pub numbered : {l : List Accepted} {a : Accepted} → Rising l → Among a l → Numbered a
-numbered {a = a} none x3 = elim x3 [ ]
+numbered none m = elim m [ ]
 numbered (more n e h f r) here = record { number = n; tick_is = e; int = h }
 numbered (more n e h f r) (there m) = numbered r m
 
@@ -43,7 +43,7 @@ never-below n y z e q h =
 
 -- the table accepted at a tick is one
 pub one-accepted : {l : List Accepted} {a b : Accepted} → Rising l → Among a l → Among b l → a.tick ≡ b.tick → a ≡ b
-one-accepted {a = a} {b = b} none x7 _ q = elim x7 [ ]
+one-accepted none m k q = elim m [ ]
 one-accepted (more n e h f r) here here q = refl
 one-accepted {a = a} {b = b} (more n e h f r) here (there m) q = absurd (never-below n a.tick b.tick e (sym q) (all_among f m))
 one-accepted {a = a} {b = b} (more n e h f r) (there m) here q = absurd (never-below n b.tick a.tick e q (all_among f m))
