@@ -8,6 +8,7 @@ use packer::IntWrite;
 use raw_snap::{Checksum, raw_builder};
 use replay_text::areas::{int_area, part_area};
 use snap::TypeId;
+use std::io::Result;
 use storage::{Added, Storage};
 use ticks::{OptionTick, Tick};
 
@@ -151,19 +152,19 @@ fn pack(delta: &[i32], packed: &mut [u8]) -> usize {
 }
 
 // Prints what was added; returns the tick of its base.
-fn report(tick: Tick, answer: Added, len: usize) -> Tick {
+fn report(rt: &impl Print, tick: Tick, answer: Added, len: usize) -> Result<Tick> {
     match answer {
         Added::Delta { base, ints } => {
-            print_added(tick, base, ints, len);
-            base
+            print_added(rt, tick, base, ints, len)?;
+            Ok(base)
         }
         Added::DifferingSizes(_) => {
-            print_not_added(tick);
-            Tick(-1)
+            print_not_added(rt, tick)?;
+            Ok(Tick(-1))
         }
         Added::Refused(_) => {
-            print_not_added(tick);
-            Tick(-1)
+            print_not_added(rt, tick)?;
+            Ok(Tick(-1))
         }
     }
 }
@@ -207,11 +208,12 @@ impl Controller {
     // Adds a table and packs its delta.
     fn add(
         self,
+        rt: &impl Print,
         made: Prepared,
         tick: Tick,
         table: &[i32; 16384],
         area: &mut [i32; 65536],
-    ) -> Told {
+    ) -> Result<Told> {
         let mut delta = int_area();
         let mut packed = part_area();
         let storage = self.storage;
@@ -219,23 +221,29 @@ impl Controller {
         let len = pack_new(made.repeated, &delta, &mut packed);
         let storage = adding.storage;
         let answer = adding.answer;
-        let base = report(tick, answer, len);
+        let base = report(rt, tick, answer, len)?;
         let crc = sum(table);
         let seed = made.seed;
         let controller = Controller { storage, seed };
         let sent = Sent { tick, base, crc };
-        Told {
+        Ok(Told {
             controller,
             sent,
             packed,
             len,
-        }
+        })
     }
 
     // Adds a table at a tick. If again is set and there is a base, it is the base's table again, and no bytes are sent.
-    pub fn tell(self, tick: Tick, again: bool, area: &mut [i32; 65536]) -> Told {
+    pub fn tell(
+        self,
+        rt: &impl Print,
+        tick: Tick,
+        again: bool,
+        area: &mut [i32; 65536],
+    ) -> Result<Told> {
         let mut table = int_area();
         let made = prepare(self, again, area, &mut table);
-        self.add(made, tick, &table, area)
+        self.add(rt, made, tick, &table, area)
     }
 }

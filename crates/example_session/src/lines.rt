@@ -1,9 +1,10 @@
 // The lines of the session's text.
 use format::Error;
 use gamenet_snap::SnapMsg;
-use printer_logbook::Answer;
 use manager::Handled;
+use printer_logbook::Answer;
 use replay_text::line::Line;
+use std::io::Result;
 use ticks::{Distance, Tick};
 
 // The tick, the base and the part of a message.
@@ -68,19 +69,24 @@ fn noted(line: Line, a: Answer) -> Line {
 }
 
 // Prints a message that arrived, with the manager's answer and the logbook's.
-pub fn print_delivered(m: SnapMsg, a: Handled, b: Answer, agree: bool) {
+pub fn print_delivered(
+    rt: &impl Print,
+    m: SnapMsg,
+    a: Handled,
+    b: Answer,
+    agree: bool,
+) -> Result<()> {
     let line = handled(message_line(m).text(b": "), a);
     let line = noted(line.text(b", logbook "), b);
     if agree {
-        line.print();
-        return;
+        return line.print(rt);
     }
-    line.text(b", DIFFERS").print();
+    line.text(b", DIFFERS").print(rt)
 }
 
 // Prints a message, and what happened to it on the way.
-pub fn print_on_the_way(m: SnapMsg, what: &[u8]) {
-    message_line(m).text(what).print();
+pub fn print_on_the_way(rt: &impl Print, m: SnapMsg, what: &[u8]) -> Result<()> {
+    message_line(m).text(what).print(rt)
 }
 
 // A table and its tick.
@@ -89,18 +95,24 @@ fn table_line(tick: Tick) -> Line {
 }
 
 // Prints a table that was added: its tick, its base, and the length of its delta in ints and in packed bytes.
-pub fn print_added(tick: Tick, base: Tick, ints: usize, bytes: usize) {
+pub fn print_added(
+    rt: &impl Print,
+    tick: Tick,
+    base: Tick,
+    ints: usize,
+    bytes: usize,
+) -> Result<()> {
     let line = table_line(tick).text(b": base ").int(base.0);
     let line = line.text(b", delta of ").number(ints);
     line.text(b" ints, sent in ")
         .number(bytes)
         .text(b" bytes")
-        .print();
+        .print(rt)
 }
 
 // Prints a table that was not added.
-pub fn print_not_added(tick: Tick) {
-    table_line(tick).text(b" REFUSED").print();
+pub fn print_not_added(rt: &impl Print, tick: Tick) -> Result<()> {
+    table_line(tick).text(b" REFUSED").print(rt)
 }
 
 // An acknowledgement.
@@ -109,22 +121,21 @@ fn acknowledgement(tick: Tick) -> Line {
 }
 
 // Prints an acknowledgement, and what happened to it on the way.
-pub fn print_acknowledgement(tick: Tick, what: &[u8]) {
-    acknowledgement(tick).text(what).print();
+pub fn print_acknowledgement(rt: &impl Print, tick: Tick, what: &[u8]) -> Result<()> {
+    acknowledgement(tick).text(what).print(rt)
 }
 
 // Prints an acknowledgement that the controller took as its base.
-pub fn print_base_set(tick: Tick) {
+pub fn print_base_set(rt: &impl Print, tick: Tick) -> Result<()> {
     if tick.is_negative() {
-        print_acknowledgement(tick, b": no base");
-        return;
+        return print_acknowledgement(rt, tick, b": no base");
     }
-    print_acknowledgement(tick, b": base set");
+    print_acknowledgement(rt, tick, b": base set")
 }
 
 // Prints an acknowledgement that the controller refused as a base.
-pub fn print_base_refused(tick: Tick, e: Error) {
-    refused(acknowledgement(tick).text(b": base "), e).print();
+pub fn print_base_refused(rt: &impl Print, tick: Tick, e: Error) -> Result<()> {
+    refused(acknowledgement(tick).text(b": base "), e).print(rt)
 }
 
 // Whether both ends hold the same table.
@@ -136,11 +147,18 @@ fn verdict(equal: bool) -> Line {
 }
 
 // Prints the last line: whether both ends hold the same table, and how often each thing happened.
-pub fn print_last(equal: bool, tick: Tick, messages: usize, acknowledged: usize, differing: usize) {
+pub fn print_last(
+    rt: &impl Print,
+    equal: bool,
+    tick: Tick,
+    messages: usize,
+    acknowledged: usize,
+    differing: usize,
+) -> Result<()> {
     let line = verdict(equal).text(b" at tick ").int(tick.0);
     let line = line.text(b", ").number(messages).text(b" messages, ");
     let line = line.number(acknowledged).text(b" acknowledgements, ");
     line.number(differing)
         .text(b" answers differ from the logbook")
-        .print();
+        .print(rt)
 }

@@ -4,6 +4,7 @@ use crate::printer::Printer;
 use crate::radio::{Fate, Radio, bytes_at};
 use delta_chunks::{Chunk, NumChunks, chunk_data, chunk_numbers, num_chunks};
 use gamenet_snap::SnapMsg;
+use std::io::Result;
 use ticks::Tick;
 
 // The radio and the printer.
@@ -31,109 +32,130 @@ impl Link {
     }
 
     // Holds a message back, or loses it if there is no place for it.
-    fn hold(self, m: SnapMsg, data: &[u8]) -> Link {
+    fn hold(self, rt: &impl Print, m: SnapMsg, data: &[u8]) -> Result<Link> {
         let radio = self.radio;
         let printer = self.printer;
         let k = radio.free();
         if 8 <= k {
-            print_on_the_way(m, b": lost");
-            return self;
+            print_on_the_way(rt, m, b": lost")?;
+            return Ok(self);
         }
-        print_on_the_way(m, b": held back");
+        print_on_the_way(rt, m, b": held back")?;
         let radio = radio.hold(k, m, data);
-        Link { radio, printer }
+        Ok(Link { radio, printer })
     }
 
     // Delivers a message to the printer, whose store has its tables in an area.
-    fn deliver(self, m: SnapMsg, data: &[u8], area: &mut [i32; 65536]) -> Link {
+    fn deliver(
+        self,
+        rt: &impl Print,
+        m: SnapMsg,
+        data: &[u8],
+        area: &mut [i32; 65536],
+    ) -> Result<Link> {
         let radio = self.radio;
         let printer = self.printer;
-        let printer = printer.deliver(m, data, area);
-        Link { radio, printer }
+        let printer = printer.deliver(rt, m, data, area)?;
+        Ok(Link { radio, printer })
     }
 
     // Sends a message; if sure, it is not lost, held back or doubled.
-    fn send(self, m: SnapMsg, data: &[u8], sure: bool, area: &mut [i32; 65536]) -> Link {
+    fn send(
+        self,
+        rt: &impl Print,
+        m: SnapMsg,
+        data: &[u8],
+        sure: bool,
+        area: &mut [i32; 65536],
+    ) -> Result<Link> {
         if sure {
-            return self.deliver(m, data, area);
+            return self.deliver(rt, m, data, area);
         }
         let h = self.roll();
         let radio = h.radio;
         let fate = radio.fate();
         match fate {
             Fate::Lost => {
-                print_on_the_way(m, b": lost");
-                h
+                print_on_the_way(rt, m, b": lost")?;
+                Ok(h)
             }
-            Fate::Late => h.hold(m, data),
+            Fate::Late => h.hold(rt, m, data),
             Fate::Twice => {
-                let h = h.deliver(m, data, area);
-                h.deliver(m, data, area)
+                let h = h.deliver(rt, m, data, area)?;
+                h.deliver(rt, m, data, area)
             }
-            Fate::Through => h.deliver(m, data, area),
+            Fate::Through => h.deliver(rt, m, data, area),
         }
     }
 
     // Sends the i-th message of a delta.
     fn send_chunk(
         self,
+        rt: &impl Print,
         sent: Sent,
         i: usize,
         data: &[u8],
         sure: bool,
         area: &mut [i32; 65536],
-    ) -> Link {
+    ) -> Result<Link> {
         let tick = sent.tick;
         let base = sent.base;
         let chunk = chunk_numbers(tick, base, data, sent.crc, i);
         let Chunk::Message(m) = chunk else {
-            return self;
+            return Ok(self);
         };
-        self.send(m, chunk_data(data, i), sure, area)
+        self.send(rt, m, chunk_data(data, i), sure, area)
     }
 
     // Sends the messages of a delta.
-    pub fn send_all(self, sent: Sent, data: &[u8], sure: bool, area: &mut [i32; 65536]) -> Link {
+    pub fn send_all(
+        self,
+        rt: &impl Print,
+        sent: Sent,
+        data: &[u8],
+        sure: bool,
+        area: &mut [i32; 65536],
+    ) -> Result<Link> {
         let count = num_chunks(data);
         let NumChunks::Messages(n) = count else {
-            return self;
+            return Ok(self);
         };
         let mut h = self;
         let mut i: usize = 0;
         while i < n {
-            h = h.send_chunk(sent, i, data, sure, area);
+            h = h.send_chunk(rt, sent, i, data, sure, area)?;
             i += 1;
         }
-        h
+        Ok(h)
     }
 
     // Delivers the message held back at the k-th place, or keeps it waiting.
-    fn come(self, k: usize, area: &mut [i32; 65536]) -> Link {
+    fn come(self, rt: &impl Print, k: usize, area: &mut [i32; 65536]) -> Result<Link> {
         let h = self.roll();
         let radio = h.radio;
         let letter = radio.letter(k);
         if !letter.full {
-            return h;
+            return Ok(h);
         }
         if !radio.comes() {
-            return h;
+            return Ok(h);
         }
         let m = letter.message;
         let bytes = radio.bytes;
-        let h = h.deliver(m, bytes_at(&bytes, k, letter.len), area);
+        let h = h.deliver(rt, m, bytes_at(&bytes, k, letter.len), area)?;
         let printer = h.printer;
         let radio = radio.release(k);
-        Link { radio, printer }
+        Ok(Link { radio, printer })
     }
 
     // Delivers some of the messages held back.
-    pub fn come_late(self, area: &mut [i32; 65536]) -> Link {
+    pub fn come_late(self, rt: &impl Print, area: &mut [i32; 65536]) -> Result<Link> {
         let mut h = self;
         let mut k: usize = 0;
         while k < 8 {
-            h = h.come(k, area);
+            h = h.come(rt, k, area)?;
             k += 1;
         }
-        h
+        Ok(h)
     }
 }

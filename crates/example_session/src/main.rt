@@ -1,4 +1,6 @@
 // Runs a session of a controller and a printer over a radio that loses, doubles and reorders messages, and prints each answer beside the logbook's.
+#![tactic(auto)]
+
 mod controller;
 mod lines;
 mod link;
@@ -12,6 +14,8 @@ use link::Link;
 use printer::Printer;
 use radio::Radio;
 use random::side_of;
+use std::io::Result;
+use std::rt::HostRuntime;
 use storage::{Set, Storage};
 use ticks::{OptionTick, Tick};
 
@@ -38,18 +42,24 @@ fn acknowledged(h: Link) -> Tick {
 }
 
 // Delivers an acknowledgement to the controller, which sets its base from it; -1 sets none.
-fn set_base(s: Storage, tick: Tick, control: &mut [i32]) -> Storage {
+fn set_base(rt: &impl Print, s: Storage, tick: Tick, control: &mut [i32]) -> Result<Storage> {
     let setting = s.set_delta_tick(tick, control);
     let answer = setting.answer;
     match answer {
-        Set::Done => print_base_set(tick),
-        Set::Refused(e) => print_base_refused(tick, e),
+        Set::Done => print_base_set(rt, tick)?,
+        Set::Refused(e) => print_base_refused(rt, tick, e)?,
     }
-    setting.storage
+    Ok(setting.storage)
 }
 
 // Sends the printer's acknowledgement back: it is lost, or held back while the one held back before is delivered, or delivered.
-fn acknowledge(controller: Controller, link: Link, late: Tick, control: &mut [i32]) -> Session {
+fn acknowledge(
+    rt: &impl Print,
+    controller: Controller,
+    link: Link,
+    late: Tick,
+    control: &mut [i32],
+) -> Result<Session> {
     let link = link.roll();
     let radio = link.radio;
     let side = side_of(radio.seed);
@@ -57,35 +67,41 @@ fn acknowledge(controller: Controller, link: Link, late: Tick, control: &mut [i3
     let mut storage = controller.storage;
     let mut ack_tick = late;
     if side < 4 {
-        print_acknowledgement(tick, b": lost");
+        print_acknowledgement(rt, tick, b": lost")?;
     } else if side < 7 {
-        print_acknowledgement(tick, b": held back");
-        storage = set_base(storage, late, control);
+        print_acknowledgement(rt, tick, b": held back")?;
+        storage = set_base(rt, storage, late, control)?;
         ack_tick = tick;
     } else {
-        storage = set_base(storage, tick, control);
+        storage = set_base(rt, storage, tick, control)?;
     }
     let seed = controller.seed;
     let controller = Controller { storage, seed };
-    Session {
+    Ok(Session {
         controller,
         link,
         ack_tick,
-    }
+    })
 }
 
 // Runs one tick: some messages held back are delivered, a table is added and sent, and the acknowledgement goes back.
-fn turn(s: Session, tick: u32, control: &mut [i32; 65536], area: &mut [i32; 65536]) -> Session {
+fn turn(
+    rt: &impl Print,
+    s: Session,
+    tick: u32,
+    control: &mut [i32; 65536],
+    area: &mut [i32; 65536],
+) -> Result<Session> {
     let link = s.link;
-    let link = link.come_late(area);
+    let link = link.come_late(rt, area)?;
     let controller = s.controller;
-    let told = controller.tell(Tick(ints::from_bits(tick)), tick % 8 == 5, control);
+    let told = controller.tell(rt, Tick(ints::from_bits(tick)), tick % 8 == 5, control)?;
     let packed = told.packed;
     let sent = told.sent;
-    let link = link.send_all(sent, packed_part(&packed, told.len), tick == LAST, area);
+    let link = link.send_all(rt, sent, packed_part(&packed, told.len), tick == LAST, area)?;
     let controller = told.controller;
     let late = s.ack_tick;
-    acknowledge(controller, link, late, control)
+    acknowledge(rt, controller, link, late, control)
 }
 
 // Whether two lists of ints are equal.
@@ -104,7 +120,7 @@ fn equal(a: &[i32], b: &[i32]) -> bool {
 }
 
 // Compares the newest tables of both ends.
-fn finish(s: Session, control: &[i32], area: &[i32]) {
+fn finish(rt: &impl Print, s: Session, control: &[i32], area: &[i32]) -> Result<()> {
     let controller = s.controller;
     let link = s.link;
     let printer = link.printer;
@@ -113,12 +129,13 @@ fn finish(s: Session, control: &[i32], area: &[i32]) {
     let theirs = manager.storage;
     let same = equal(ours.snap(control, 0), theirs.snap(area, 0));
     print_last(
+        rt,
         same,
         acknowledged(link),
         printer.messages,
         printer.acknowledged,
         printer.differing,
-    );
+    )
 }
 
 // A session before anything happened; both seeds are fixed.
@@ -135,19 +152,19 @@ fn begin() -> Session {
 }
 
 // Runs all ticks, one after the other.
-fn run(control: &mut [i32; 65536], area: &mut [i32; 65536]) {
+fn run(rt: &impl Print, control: &mut [i32; 65536], area: &mut [i32; 65536]) -> Result<()> {
     let mut s = begin();
     let mut tick: u32 = 0;
     while tick <= LAST {
-        s = turn(s, tick, control, area);
+        s = turn(rt, s, tick, control, area)?;
         tick += 1;
     }
-    finish(s, control, area);
+    finish(rt, s, control, area)
 }
 
 // Lends both ends the areas of their stores and runs the session.
-fn main() {
+fn main(rt: HostRuntime) -> Result<()> {
     let mut control = [0i32; 65536];
     let mut area = [0i32; 65536];
-    run(&mut control, &mut area);
+    run(&rt, &mut control, &mut area)
 }

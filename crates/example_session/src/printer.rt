@@ -2,9 +2,10 @@
 use crate::lines::print_delivered;
 use format::{Error, Warnings};
 use gamenet_snap::SnapMsg;
-use printer_logbook::{Answer, Logbook, Note};
 use manager::{Handled, Handling, Manager};
+use printer_logbook::{Answer, Logbook, Note};
 use replay_text::areas::{int_area, part_area, scratch};
+use std::io::Result;
 
 // The manager with its part area; the logbook with its two lists; how many messages came, how many of them were acknowledged, and how often the
 // two answers differed.
@@ -184,7 +185,13 @@ impl Printer {
     }
 
     // Delivers a message and prints both answers.
-    pub fn deliver(self, m: SnapMsg, data: &[u8], area: &mut [i32; 65536]) -> Printer {
+    pub fn deliver(
+        self,
+        rt: &impl Print,
+        m: SnapMsg,
+        data: &[u8],
+        area: &mut [i32; 65536],
+    ) -> Result<Printer> {
         let mut parts = self.parts;
         let mut came = self.came;
         let mut held = self.held;
@@ -193,10 +200,10 @@ impl Printer {
         let a = handling.answer;
         let b = noted.answer;
         let alike = agree(a, b);
-        print_delivered(m, a, b, alike);
+        print_delivered(rt, m, a, b, alike)?;
         let manager = handling.manager;
         let logbook = noted.logbook;
-        Printer {
+        Ok(Printer {
             manager,
             parts,
             logbook,
@@ -205,6 +212,6 @@ impl Printer {
             messages: count(self.messages, true),
             acknowledged: count(self.acknowledged, is_tick(a)),
             differing: count(self.differing, !alike),
-        }
+        })
     }
 }

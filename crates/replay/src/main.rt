@@ -1,6 +1,8 @@
 // Replays recorded answers of the Rust. Each line of standard input is SUBJECT CASE and gets one line of answer; the file of each subject says what
 // its cases and their answers are. A line that is no case is answered odd. The cases of receiver, storage and manager share one manager: those of
 // receiver call its receiver, those of storage its store. So a list of calls begins with n.
+#![tactic(auto)]
+
 ghost use Rattle.std.specs.Prelude.{◌≡◌, length};
 
 mod delta_cases;
@@ -15,10 +17,12 @@ mod storage_cases;
 mod table_cases;
 
 use fields::{letter, odd};
-use libc::STDIN_FILENO;
 use replay_text::areas::part_area;
+use replay_text::input::read_full;
 use replay_text::words::word;
 use state::{Answered, State};
+use std::io::Result;
+use std::rt::HostRuntime;
 
 // What a case is about.
 #[derive(Clone, Copy)]
@@ -95,23 +99,35 @@ fn answer(
 }
 
 // Prints the answer to a line; returns the state afterwards.
-fn step(state: State, line: &[u8], parts: &mut [u8; 28800], area: &mut [i32; 1024]) -> State {
+fn step(
+    rt: &impl Print,
+    state: State,
+    line: &[u8],
+    parts: &mut [u8; 28800],
+    area: &mut [i32; 1024],
+) -> Result<State> {
     let subject = subject_of(word(line, 0));
     let case = replay_text::after(line, b' ');
     let answered = answer(state, subject, case, parts, area);
-    answered.line.print();
-    answered.state
+    answered.line.print(rt)?;
+    Ok(answered.state)
 }
 
 // Prints the answer to each line.
-fn replay(cases: &[u8], parts: &mut [u8; 28800], area: &mut [i32; 1024]) {
+fn replay(
+    rt: &impl Print,
+    cases: &[u8],
+    parts: &mut [u8; 28800],
+    area: &mut [i32; 1024],
+) -> Result<()> {
     let mut state = State::new();
     let mut at: usize = 0;
     while at < cases.len() {
         let line = replay_text::until(&cases[at..], b'\n');
-        state = step(state, line, parts, area);
+        state = step(rt, state, line, parts, area)?;
         at += line.len() + 1;
     }
+    Ok(())
 }
 
 // 524,288 zeros, for all lines of the input.
@@ -122,10 +138,10 @@ fn buffer() -> [u8; 524288]
 }
 
 // Reads all cases and answers them.
-fn main() {
+fn main(rt: HostRuntime) -> Result<()> {
     let mut cases = buffer();
     let mut parts = part_area();
     let mut area = [0i32; 1024];
-    let len = io::read_full(STDIN_FILENO, &mut cases);
-    replay(&cases[..len], &mut parts, &mut area);
+    let len = read_full(&rt, &mut cases)?;
+    replay(&rt, &cases[..len], &mut parts, &mut area)
 }

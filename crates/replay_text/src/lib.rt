@@ -13,6 +13,7 @@ ghost use Rattle.format.specs.Numbers.{number};
 use format::Error;
 
 pub mod areas;
+pub mod input;
 pub mod line;
 pub mod words;
 

@@ -1,11 +1,15 @@
 // Lists the packed table on standard input: its item count and sum, then type, id and int count of each item.
-use libc::{STDIN_FILENO, STDOUT_FILENO};
+#![tactic(auto)]
+
+use replay_text::input::read_full;
+use std::io::Result;
+use std::rt::HostRuntime;
 
 // Reads until the input ends or is too long, and writes its listing.
-fn main() {
+fn main(rt: HostRuntime) -> Result<()> {
     let mut src = io::large_buffer();
-    let len = io::read_full(STDIN_FILENO, &mut src);
+    let len = read_full(&rt, &mut src)?;
     let mut text = [0u8; 32768];
     let end = table_text::listing(&src[..len], &mut text);
-    io::write_all(STDOUT_FILENO, &text[..end]);
+    rt.write_all(&text[..end])
 }

@@ -1,28 +1,33 @@
 // Lists packed tables: each line of standard input is one, in hexadecimal digits, and gets its listing.
-use libc::{STDIN_FILENO, STDOUT_FILENO};
+#![tactic(auto)]
+
+use replay_text::input::read_full;
+use std::io::Result;
+use std::rt::HostRuntime;
 
 // Writes the listing of the packed table on a line.
-fn reply(line: &[u8]) {
+fn reply(rt: &impl Print, line: &[u8]) -> Result<()> {
     let mut src = [0u8; 16384];
     let len = replay_text::bytes(line, &mut src);
     let mut text = [0u8; 32768];
     let end = table_text::listing(&src[..len], &mut text);
-    io::write_all(STDOUT_FILENO, &text[..end]);
+    rt.write_all(&text[..end])
 }
 
 // Writes the listing of each line.
-fn replay(cases: &[u8]) {
+fn replay(rt: &impl Print, cases: &[u8]) -> Result<()> {
     let mut at: usize = 0;
     while at < cases.len() {
         let line = replay_text::until(&cases[at..], b'\n');
-        reply(line);
+        reply(rt, line)?;
         at += line.len() + 1;
     }
+    Ok(())
 }
 
 // Reads all cases and answers them.
-fn main() {
+fn main(rt: HostRuntime) -> Result<()> {
     let mut cases = io::large_buffer();
-    let len = io::read_full(STDIN_FILENO, &mut cases);
-    replay(&cases[..len]);
+    let len = read_full(&rt, &mut cases)?;
+    replay(&rt, &cases[..len])
 }
