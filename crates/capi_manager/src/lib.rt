@@ -129,7 +129,7 @@ pub extern "C" fn cef_manager_snap(
     ack: &mut i32,
     warnings: &mut [usize; WARNING_KINDS],
 ) -> u32
-    ensures told { Told (message_call sizes.now (held_receiver receiver_ticks.old receiver_counts.old lengths.old) (held_store ticks.entry.now counts.old) (record { numbers = Snap tick (record { ticks = distance }) num_parts part crc; bytes = «data».now }) parts.old joined.old delta.old area.old (length scratch.old)) (record { ticks_of_receiver = receiver_ticks.old; counts_of_receiver = receiver_counts.old; lengths = lengths.old; ticks = ticks.entry.now; counts = counts.old; taken = taken.old; ack = ack.old }) (record { ticks_of_receiver = receiver_ticks.new; counts_of_receiver = receiver_counts.new; lengths = lengths.new; ticks = ticks.exit.now; counts = counts.new; taken = taken.new; ack = ack.new }) parts.new joined.new delta.new area.new warnings.new result }
+    ensures told { Told (message_call sizes.now (held_receiver receiver_ticks.old receiver_counts.old lengths.old) (held_store ticks.old counts.old) (record { numbers = Snap tick (record { ticks = distance }) num_parts part crc; bytes = «data».now }) parts.old joined.old delta.old area.old (length scratch.old)) (record { ticks_of_receiver = receiver_ticks.old; counts_of_receiver = receiver_counts.old; lengths = lengths.old; ticks = ticks.old; counts = counts.old; taken = taken.old; ack = ack.old }) (record { ticks_of_receiver = receiver_ticks.new; counts_of_receiver = receiver_counts.new; lengths = lengths.new; ticks = ticks.new; counts = counts.new; taken = taken.new; ack = ack.new }) parts.new joined.new delta.new area.new warnings.new result }
     ensures scratch_after { scratch.new ≡ cleared scratch.old }
 {
     let receiver = load_receiver(receiver_ticks, receiver_counts, lengths);
@@ -184,7 +184,7 @@ pub extern "C" fn cef_manager_snap_single(
     ack: &mut i32,
     warnings: &mut [usize; WARNING_KINDS],
 ) -> u32
-    ensures told { Told (message_call sizes.now (held_receiver receiver_ticks.old receiver_counts.old lengths.old) (held_store ticks.entry.now counts.old) (record { numbers = SnapSingle tick (record { ticks = distance }) crc; bytes = «data».now }) parts.old joined.old delta.old area.old (length scratch.old)) (record { ticks_of_receiver = receiver_ticks.old; counts_of_receiver = receiver_counts.old; lengths = lengths.old; ticks = ticks.entry.now; counts = counts.old; taken = taken.old; ack = ack.old }) (record { ticks_of_receiver = receiver_ticks.new; counts_of_receiver = receiver_counts.new; lengths = lengths.new; ticks = ticks.exit.now; counts = counts.new; taken = taken.new; ack = ack.new }) parts.new joined.new delta.new area.new warnings.new result }
+    ensures told { Told (message_call sizes.now (held_receiver receiver_ticks.old receiver_counts.old lengths.old) (held_store ticks.old counts.old) (record { numbers = SnapSingle tick (record { ticks = distance }) crc; bytes = «data».now }) parts.old joined.old delta.old area.old (length scratch.old)) (record { ticks_of_receiver = receiver_ticks.old; counts_of_receiver = receiver_counts.old; lengths = lengths.old; ticks = ticks.old; counts = counts.old; taken = taken.old; ack = ack.old }) (record { ticks_of_receiver = receiver_ticks.new; counts_of_receiver = receiver_counts.new; lengths = lengths.new; ticks = ticks.new; counts = counts.new; taken = taken.new; ack = ack.new }) parts.new joined.new delta.new area.new warnings.new result }
     ensures scratch_after { scratch.new ≡ cleared scratch.old }
 {
     let receiver = load_receiver(receiver_ticks, receiver_counts, lengths);
@@ -234,7 +234,7 @@ pub extern "C" fn cef_manager_snap_empty(
     ack: &mut i32,
     warnings: &mut [usize; WARNING_KINDS],
 ) -> u32
-    ensures told { Told (message_call [] (held_receiver receiver_ticks.old receiver_counts.old lengths.old) (held_store ticks.entry.now counts.old) (record { numbers = SnapEmpty tick (record { ticks = distance }); bytes = [] }) parts.old joined.old delta.old area.old (length scratch.old)) (record { ticks_of_receiver = receiver_ticks.old; counts_of_receiver = receiver_counts.old; lengths = lengths.old; ticks = ticks.entry.now; counts = counts.old; taken = taken.old; ack = ack.old }) (record { ticks_of_receiver = receiver_ticks.new; counts_of_receiver = receiver_counts.new; lengths = lengths.new; ticks = ticks.exit.now; counts = counts.new; taken = taken.new; ack = ack.new }) parts.new joined.new delta.new area.new warnings.new result }
+    ensures told { Told (message_call [] (held_receiver receiver_ticks.old receiver_counts.old lengths.old) (held_store ticks.old counts.old) (record { numbers = SnapEmpty tick (record { ticks = distance }); bytes = [] }) parts.old joined.old delta.old area.old (length scratch.old)) (record { ticks_of_receiver = receiver_ticks.old; counts_of_receiver = receiver_counts.old; lengths = lengths.old; ticks = ticks.old; counts = counts.old; taken = taken.old; ack = ack.old }) (record { ticks_of_receiver = receiver_ticks.new; counts_of_receiver = receiver_counts.new; lengths = lengths.new; ticks = ticks.new; counts = counts.new; taken = taken.new; ack = ack.new }) parts.new joined.new delta.new area.new warnings.new result }
     ensures scratch_after { scratch.new ≡ cleared scratch.old }
 {
     let receiver = load_receiver(receiver_ticks, receiver_counts, lengths);

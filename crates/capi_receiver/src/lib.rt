@@ -206,16 +206,16 @@ pub extern "C" fn cef_receiver_snap(
     len: &mut usize,
     warnings: &mut [usize; WARNING_KINDS],
 ) -> u32
-    ensures value { result ≡ status (snap_call (held_receiver ticks.entry.now counts.old lengths.old) (record { tick = tick; distance = record { ticks = distance }; num_parts = num_parts; part = part; crc = crc }) «data».now parts.old joined.old).answer }
-    ensures ticks_value { ticks.exit.now ≡ ticks_after ticks.entry.now (snap_call (held_receiver ticks.entry.now counts.old lengths.old) (record { tick = tick; distance = record { ticks = distance }; num_parts = num_parts; part = part; crc = crc }) «data».now parts.old joined.old) }
-    ensures counts_after { counts.new ≡ counts_after counts.old (snap_call (held_receiver ticks.entry.now counts.old lengths.old) (record { tick = tick; distance = record { ticks = distance }; num_parts = num_parts; part = part; crc = crc }) «data».now parts.old joined.old) }
-    ensures lengths_after { lengths.new ≡ (snap_call (held_receiver ticks.entry.now counts.old lengths.old) (record { tick = tick; distance = record { ticks = distance }; num_parts = num_parts; part = part; crc = crc }) «data».now parts.old joined.old).receiver.parts }
-    ensures parts_after { parts.new ≡ (snap_call (held_receiver ticks.entry.now counts.old lengths.old) (record { tick = tick; distance = record { ticks = distance }; num_parts = num_parts; part = part; crc = crc }) «data».now parts.old joined.old).parts }
-    ensures joined_after { joined.new ≡ (snap_call (held_receiver ticks.entry.now counts.old lengths.old) (record { tick = tick; distance = record { ticks = distance }; num_parts = num_parts; part = part; crc = crc }) «data».now parts.old joined.old).joined }
-    ensures kind_after { kind.new ≡ output kind_of kind.old (snap_call (held_receiver ticks.entry.now counts.old lengths.old) (record { tick = tick; distance = record { ticks = distance }; num_parts = num_parts; part = part; crc = crc }) «data».now parts.old joined.old).answer }
-    ensures received_after { received.new ≡ output (ticks_or received.old) received.old (snap_call (held_receiver ticks.entry.now counts.old lengths.old) (record { tick = tick; distance = record { ticks = distance }; num_parts = num_parts; part = part; crc = crc }) «data».now parts.old joined.old).answer }
-    ensures len_after { len.new ≡ output (length_or len.old) len.old (snap_call (held_receiver ticks.entry.now counts.old lengths.old) (record { tick = tick; distance = record { ticks = distance }; num_parts = num_parts; part = part; crc = crc }) «data».now parts.old joined.old).answer }
-    ensures warnings_after { warnings.new ≡ Totals.row (warnings_of (snap_call (held_receiver ticks.entry.now counts.old lengths.old) (record { tick = tick; distance = record { ticks = distance }; num_parts = num_parts; part = part; crc = crc }) «data».now parts.old joined.old).answer) }
+    ensures value { result ≡ status (snap_call (held_receiver ticks.old counts.old lengths.old) (record { tick = tick; distance = record { ticks = distance }; num_parts = num_parts; part = part; crc = crc }) «data».now parts.old joined.old).answer }
+    ensures ticks_value { ticks.new ≡ ticks_after ticks.old (snap_call (held_receiver ticks.old counts.old lengths.old) (record { tick = tick; distance = record { ticks = distance }; num_parts = num_parts; part = part; crc = crc }) «data».now parts.old joined.old) }
+    ensures counts_after { counts.new ≡ counts_after counts.old (snap_call (held_receiver ticks.old counts.old lengths.old) (record { tick = tick; distance = record { ticks = distance }; num_parts = num_parts; part = part; crc = crc }) «data».now parts.old joined.old) }
+    ensures lengths_after { lengths.new ≡ (snap_call (held_receiver ticks.old counts.old lengths.old) (record { tick = tick; distance = record { ticks = distance }; num_parts = num_parts; part = part; crc = crc }) «data».now parts.old joined.old).receiver.parts }
+    ensures parts_after { parts.new ≡ (snap_call (held_receiver ticks.old counts.old lengths.old) (record { tick = tick; distance = record { ticks = distance }; num_parts = num_parts; part = part; crc = crc }) «data».now parts.old joined.old).parts }
+    ensures joined_after { joined.new ≡ (snap_call (held_receiver ticks.old counts.old lengths.old) (record { tick = tick; distance = record { ticks = distance }; num_parts = num_parts; part = part; crc = crc }) «data».now parts.old joined.old).joined }
+    ensures kind_after { kind.new ≡ output kind_of kind.old (snap_call (held_receiver ticks.old counts.old lengths.old) (record { tick = tick; distance = record { ticks = distance }; num_parts = num_parts; part = part; crc = crc }) «data».now parts.old joined.old).answer }
+    ensures received_after { received.new ≡ output (ticks_or received.old) received.old (snap_call (held_receiver ticks.old counts.old lengths.old) (record { tick = tick; distance = record { ticks = distance }; num_parts = num_parts; part = part; crc = crc }) «data».now parts.old joined.old).answer }
+    ensures len_after { len.new ≡ output (length_or len.old) len.old (snap_call (held_receiver ticks.old counts.old lengths.old) (record { tick = tick; distance = record { ticks = distance }; num_parts = num_parts; part = part; crc = crc }) «data».now parts.old joined.old).answer }
+    ensures warnings_after { warnings.new ≡ Totals.row (warnings_of (snap_call (held_receiver ticks.old counts.old lengths.old) (record { tick = tick; distance = record { ticks = distance }; num_parts = num_parts; part = part; crc = crc }) «data».now parts.old joined.old).answer) }
 {
     let m = Part {
         tick: Tick(tick),
@@ -248,15 +248,15 @@ pub extern "C" fn cef_receiver_snap_single(
     len: &mut usize,
     warnings: &mut [usize; WARNING_KINDS],
 ) -> u32
-    ensures value { result ≡ status (snap_single_call (held_receiver ticks.entry.now counts.old lengths.old) tick (record { ticks = distance }) crc «data».now [] joined.old).answer }
-    ensures ticks_value { ticks.exit.now ≡ ticks_after ticks.entry.now (snap_single_call (held_receiver ticks.entry.now counts.old lengths.old) tick (record { ticks = distance }) crc «data».now [] joined.old) }
-    ensures counts_after { counts.new ≡ counts_after counts.old (snap_single_call (held_receiver ticks.entry.now counts.old lengths.old) tick (record { ticks = distance }) crc «data».now [] joined.old) }
-    ensures lengths_after { lengths.new ≡ (snap_single_call (held_receiver ticks.entry.now counts.old lengths.old) tick (record { ticks = distance }) crc «data».now [] joined.old).receiver.parts }
-    ensures joined_after { joined.new ≡ (snap_single_call (held_receiver ticks.entry.now counts.old lengths.old) tick (record { ticks = distance }) crc «data».now [] joined.old).joined }
-    ensures kind_after { kind.new ≡ output kind_of kind.old (snap_single_call (held_receiver ticks.entry.now counts.old lengths.old) tick (record { ticks = distance }) crc «data».now [] joined.old).answer }
-    ensures received_after { received.new ≡ output (ticks_or received.old) received.old (snap_single_call (held_receiver ticks.entry.now counts.old lengths.old) tick (record { ticks = distance }) crc «data».now [] joined.old).answer }
-    ensures len_after { len.new ≡ output (length_or len.old) len.old (snap_single_call (held_receiver ticks.entry.now counts.old lengths.old) tick (record { ticks = distance }) crc «data».now [] joined.old).answer }
-    ensures warnings_after { warnings.new ≡ Totals.row (warnings_of (snap_single_call (held_receiver ticks.entry.now counts.old lengths.old) tick (record { ticks = distance }) crc «data».now [] joined.old).answer) }
+    ensures value { result ≡ status (snap_single_call (held_receiver ticks.old counts.old lengths.old) tick (record { ticks = distance }) crc «data».now [] joined.old).answer }
+    ensures ticks_value { ticks.new ≡ ticks_after ticks.old (snap_single_call (held_receiver ticks.old counts.old lengths.old) tick (record { ticks = distance }) crc «data».now [] joined.old) }
+    ensures counts_after { counts.new ≡ counts_after counts.old (snap_single_call (held_receiver ticks.old counts.old lengths.old) tick (record { ticks = distance }) crc «data».now [] joined.old) }
+    ensures lengths_after { lengths.new ≡ (snap_single_call (held_receiver ticks.old counts.old lengths.old) tick (record { ticks = distance }) crc «data».now [] joined.old).receiver.parts }
+    ensures joined_after { joined.new ≡ (snap_single_call (held_receiver ticks.old counts.old lengths.old) tick (record { ticks = distance }) crc «data».now [] joined.old).joined }
+    ensures kind_after { kind.new ≡ output kind_of kind.old (snap_single_call (held_receiver ticks.old counts.old lengths.old) tick (record { ticks = distance }) crc «data».now [] joined.old).answer }
+    ensures received_after { received.new ≡ output (ticks_or received.old) received.old (snap_single_call (held_receiver ticks.old counts.old lengths.old) tick (record { ticks = distance }) crc «data».now [] joined.old).answer }
+    ensures len_after { len.new ≡ output (length_or len.old) len.old (snap_single_call (held_receiver ticks.old counts.old lengths.old) tick (record { ticks = distance }) crc «data».now [] joined.old).answer }
+    ensures warnings_after { warnings.new ≡ Totals.row (warnings_of (snap_single_call (held_receiver ticks.old counts.old lengths.old) tick (record { ticks = distance }) crc «data».now [] joined.old).answer) }
 {
     let r = load_ticks(ticks, counts);
     let s = receive_single(
@@ -287,14 +287,14 @@ pub extern "C" fn cef_receiver_snap_empty(
     len: &mut usize,
     warnings: &mut [usize; WARNING_KINDS],
 ) -> u32
-    ensures value { result ≡ status (snap_empty_call (held_receiver ticks.entry.now counts.old lengths.old) tick (record { ticks = distance }) [] []).answer }
-    ensures ticks_value { ticks.exit.now ≡ ticks_after ticks.entry.now (snap_empty_call (held_receiver ticks.entry.now counts.old lengths.old) tick (record { ticks = distance }) [] []) }
-    ensures counts_after { counts.new ≡ counts_after counts.old (snap_empty_call (held_receiver ticks.entry.now counts.old lengths.old) tick (record { ticks = distance }) [] []) }
-    ensures lengths_after { lengths.new ≡ (snap_empty_call (held_receiver ticks.entry.now counts.old lengths.old) tick (record { ticks = distance }) [] []).receiver.parts }
-    ensures kind_after { kind.new ≡ output kind_of kind.old (snap_empty_call (held_receiver ticks.entry.now counts.old lengths.old) tick (record { ticks = distance }) [] []).answer }
-    ensures received_after { received.new ≡ output (ticks_or received.old) received.old (snap_empty_call (held_receiver ticks.entry.now counts.old lengths.old) tick (record { ticks = distance }) [] []).answer }
-    ensures len_after { len.new ≡ output (length_or len.old) len.old (snap_empty_call (held_receiver ticks.entry.now counts.old lengths.old) tick (record { ticks = distance }) [] []).answer }
-    ensures warnings_after { warnings.new ≡ Totals.row (warnings_of (snap_empty_call (held_receiver ticks.entry.now counts.old lengths.old) tick (record { ticks = distance }) [] []).answer) }
+    ensures value { result ≡ status (snap_empty_call (held_receiver ticks.old counts.old lengths.old) tick (record { ticks = distance }) [] []).answer }
+    ensures ticks_value { ticks.new ≡ ticks_after ticks.old (snap_empty_call (held_receiver ticks.old counts.old lengths.old) tick (record { ticks = distance }) [] []) }
+    ensures counts_after { counts.new ≡ counts_after counts.old (snap_empty_call (held_receiver ticks.old counts.old lengths.old) tick (record { ticks = distance }) [] []) }
+    ensures lengths_after { lengths.new ≡ (snap_empty_call (held_receiver ticks.old counts.old lengths.old) tick (record { ticks = distance }) [] []).receiver.parts }
+    ensures kind_after { kind.new ≡ output kind_of kind.old (snap_empty_call (held_receiver ticks.old counts.old lengths.old) tick (record { ticks = distance }) [] []).answer }
+    ensures received_after { received.new ≡ output (ticks_or received.old) received.old (snap_empty_call (held_receiver ticks.old counts.old lengths.old) tick (record { ticks = distance }) [] []).answer }
+    ensures len_after { len.new ≡ output (length_or len.old) len.old (snap_empty_call (held_receiver ticks.old counts.old lengths.old) tick (record { ticks = distance }) [] []).answer }
+    ensures warnings_after { warnings.new ≡ Totals.row (warnings_of (snap_empty_call (held_receiver ticks.old counts.old lengths.old) tick (record { ticks = distance }) [] []).answer) }
 {
     let r = load_ticks(ticks, counts);
     let s = receive_empty(r, Tick(tick), Distance(distance), lengths);

@@ -153,7 +153,7 @@ pub extern "C" fn cef_storage_add_snap(
     count: &mut usize,
     clash: &mut i32,
 ) -> u32
-    ensures told_added { ToldAdded (add_snap_call (held_store ticks.entry.now counts.old) area.old tick table.now delta.old) (record { ticks = ticks.entry.now; counts = counts.old; base = base.old; count = count.old }) (record { ticks = ticks.exit.now; counts = counts.new; base = base.new; count = count.new }) area.new delta.new result }
+    ensures told_added { ToldAdded (add_snap_call (held_store ticks.old counts.old) area.old tick table.now delta.old) (record { ticks = ticks.old; counts = counts.old; base = base.old; count = count.old }) (record { ticks = ticks.new; counts = counts.new; base = base.new; count = count.new }) area.new delta.new result }
     ensures clash_after { clash.new ≡ key_or clash.old
         (add_snap_clash (held_store ticks.old counts.old) area.old tick table.now delta.old) }
 {
