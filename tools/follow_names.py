@@ -16,13 +16,15 @@ import sys
 
 
 def by_place(function):
-    """The names of a function's goals, steps, places and loops, each beside a name that does not go by the source's text."""
+    """The names of a function's goals, steps, places, loops and tests, each beside a name that does not go by the source's text."""
     places = function["places"]
     return [
         [(old, new) for old, new in function["needs"]],
         [(place[0], place[2][1]) for place in places],
         [(place[0], name) for place, name in zip(places, function["places_by_name"])],
         [(loop[0][0], loop[0][1]) for loop in function["loops"]],
+        # What a test says of its condition, whose field differs where the condition is a negation.
+        [(place[0] + said, place[2][1] + "." + dict(place[4]).get(said, said)) for place in places for said in ("true", "false")],
     ]
 
 
