@@ -6,9 +6,6 @@ use Rattle.replay_text.specs.Buffer.{puts}
 use Rattle.replay_text.specs.Answers.{next}
 use Rattle.replay_text.proofs.put_refused.Goals as goal
 
--- GOAL? slice-aggregate-put : tie.Need-slice-aggregate-put
--- slice-aggregate-put c = search rules
-
 pub returns : goal.returns
 returns c =
     let e = c.error_number in

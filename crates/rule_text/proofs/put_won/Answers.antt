@@ -6,9 +6,6 @@ use Rattle.rule_text.proofs.Lines.{answer-put}
 use borrow.Author.Rules.{rules}
 use Rattle.rule_text.proofs.put_won.Goals as goal
 
--- GOAL? slice-aggregate-put : tie.Need-slice-aggregate-put
--- slice-aggregate-put c = search rules
-
 pub returns-in-Rule : goal.returns-in-Rule
 returns-in-Rule c =
     let fits = c in

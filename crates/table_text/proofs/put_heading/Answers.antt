@@ -4,12 +4,6 @@ use Rattle.table_text.proofs.Texts.{heading-put}
 use Rattle.std.proofs.Common.{w32}
 use Rattle.table_text.proofs.put_heading.Goals as goal
 
--- GOAL? slice-aggregate-put : tie.Need-slice-aggregate-put
--- slice-aggregate-put c = search rules
-
--- GOAL? slice-aggregate-put-2 : tie.Need-slice-aggregate-put-2
--- slice-aggregate-put-2 c = search rules
-
 pub returns : goal.returns
 returns c =
     let s = c in

@@ -3,9 +3,6 @@ use Rattle.delta.proofs.ReadCalls.{any-ints, ordered-ints}
 use mathlib.Core.List.{[]}
 use Rattle.delta.proofs.checked.read_ints.Goals as goal
 
--- GOAL? slice-aggregate-read-any : tie.Need-slice-aggregate-read-any
--- slice-aggregate-read-any c = search rules
-
 pub read_any-requires : goal.read_any-requires
 read_any-requires c = c.requires
 
