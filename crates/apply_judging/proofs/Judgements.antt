@@ -5,8 +5,8 @@ use mathlib.Core.Bool.{Bool, true, false}
 use mathlib.Core.List.{List}
 use native.Mathlib.Omega.{arith}
 use lib.ListN.{length}
-use borrow.Author.Tests.{lt-ltb, le-ltb, le-leb, lt-leb}
-use Rattle.definitions.specs.Refusals.{too_long_snap, too_many_items, delta_differing_sizes}
+use borrow.Author.Tests.{lt-ltb, le-ltb, lt-leb}
+use Rattle.definitions.specs.Refusals.{too_long_snap, too_many_items}
 use Rattle.definitions.specs.Tables.{Item, Table, find, is_some}
 use Rattle.definitions.specs.DeltaMaking.{agree}
 use Rattle.laws.specs.ApplyJudging.{Judged, bad, good, kept_of, judge_length, judge_new, judge_update}
@@ -15,18 +15,12 @@ module _ (same : Bool) (n w : ℕ) where
   pub as_long : same ≡ true → good n w ≡ judge_length same n w
   as_long e = rw e
 
-  pub not_as_long : same ≡ false → bad delta_differing_sizes ≡ judge_length same n w
-  not_as_long e = rw e
-
 module _ (same : Bool) (size n w : ℕ) where
   pub too_many : 1023 < n → bad too_many_items ≡ judge_new same size n w
   too_many l = rw (le-ltb n 1024 l)
 
   pub too_long : n ≤ 1023 → 16384 < w + (2 + size) → bad too_long_snap ≡ judge_new same size n w
   too_long l m = rw (lt-ltb n 1024 (omega arith), lt-leb (w + (2 + size)) 16384 m)
-
-  pub new-item : (j : Judged) → n ≤ 1023 → w + (2 + size) ≤ 16384 → j ≡ judge_length same (n + 1) (w + (2 + size)) → j ≡ judge_new same size n w
-  new-item j l m e = rw (lt-ltb n 1024 (omega arith), le-leb (w + (2 + size)) 16384 m) e
 
 -- an update, by whether its key is kept
 module _ (g : List ℕ) (b : Table) (u : Item) (n w : ℕ) (same : Bool) (a : same ≡ agree (find u.key b) u.values) (j : Judged) where

@@ -1,17 +1,17 @@
 -- Places that are searched from a hint on, and what the place of a key says. Assumes nothing.
-use Prim.Native.Nat.{ℕ, ◌+◌, ◌-◌, ◌<◌, ◌≤◌, ◌^◌}
+use Prim.Native.Nat.{ℕ, ◌-◌, ◌<◌, ◌≤◌}
 use mathlib.Core.Path.{◌≡◌, refl, sym, ap, ◌∙◌}
 use mathlib.Core.Logic.{◌⊎◌, inl, inr}
-use mathlib.Core.Bool.{Bool, cond, true, false, false≢true, true≢false}
-use mathlib.Core.List.{List, []}
+use mathlib.Core.Bool.{Bool, true, false, false≢true, true≢false}
+use mathlib.Core.List.{List}
 use mathlib.Core.Option.{Option, some, none}
 use native.Mathlib.Omega.{arith}
 use lib.IntN.{ℤ}
 use lib.ListN.{length}
 use lib.Dec.{eqb}
 use borrow.Author.Tests.{eqb-true, eqb-false}
-use Rattle.definitions.specs.Tables.{items, key_at, values_at, find, is_some, nat}
-use Rattle.definitions.specs.Deltas.{rank, deleted_at, update_at}
+use Rattle.definitions.specs.Tables.{items, key_at, values_at, find, is_some}
+use Rattle.definitions.specs.Deltas.{rank, deleted_at}
 use Rattle.definitions.specs.DeltaMaking.{agree}
 use Rattle.laws.specs.Tests.{below}
 use Rattle.laws.specs.TableShape.{keys-le}
@@ -30,9 +30,6 @@ keys-under a n k hint h z l m i o =
 pub ranks-under : (d : List ℤ) (k hint low : ℕ) → DeletedKeys d k → 0 < hint → hint ≤ k → rank (deleted_at d (hint - 1)) < low → Under d hint low
 ranks-under d k hint low h z l m =
     record { below = λ i o. omega (arith, ranks-rise d k h.keys i (hint - 1) (omega arith) (omega arith)) }
-
-pub none-under : (d : List ℤ) (low : ℕ) → Under d 0 low
-none-under d low = record { below = λ j l. absurd (omega arith) }
 
 -- a key that is found is found at its place
 module _ (a : List ℤ) (n k p : ℕ) (h : Held a n) (q : Place a k p) where
@@ -59,11 +56,3 @@ module _ (o : Option (List ℤ)) (v : List ℤ) where
 
   pub some-agrees : (w : List ℤ) (m : ℕ) → o ≡ some w → m ≡ length v → eqb (length w) m ≡ agree o v
   some-agrees w m e f = rw (e, f)
-
--- whether a key is kept
-module _ (b : Bool) (o : Option (List ℤ)) where
-  pub gone-kept : b ≡ true → false ≡ is_some (cond b none o)
-  gone-kept e = rw e
-
-  pub still_kept : (r : Bool) → b ≡ false → r ≡ is_some o → r ≡ is_some (cond b none o)
-  still_kept r e f = rw e f

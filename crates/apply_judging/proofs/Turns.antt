@@ -1,6 +1,6 @@
 -- One turn of the walk along the updates, and one of the walk along the base. Assumes nothing.
 use Prim.Native.Nat.{ℕ, suc, ◌+◌, ◌-◌, ◌/◌, ◌<◌, ◌≤◌}
-use mathlib.Core.Path.{◌≡◌, refl, sym, ap, ◌∙◌, subst}
+use mathlib.Core.Path.{◌≡◌, refl, sym, ap, ◌∙◌}
 use mathlib.Core.Bool.{true, false, not}
 use mathlib.Core.List.{List, [], ◌∷◌, ◌++◌, append-nil}
 use native.Mathlib.Numerals.{add-one}
@@ -20,11 +20,7 @@ use Rattle.laws.specs.ApplyFound.{kept_append, kept_less}
 use Rattle.laws.specs.ApplyJudging.{Judged, bad, good, and_then, judge_update, judge_updates, judge_delta, has_unknown}
 use Rattle.table.specs.Held.{Held}
 use Rattle.delta_form.specs.Held.{HeldDelta}
-use Rattle.format.specs.Numbers.{number}
-use Rattle.format.specs.declared.Error.{Error}
-use Rattle.apply_judging.specs.Judging.{deleted_of, judged_of, Within}
-use Rattle.apply_judging.specs.declared.checked.Judged as code
-use Rattle.apply_judging.specs.declared.checked.Judged.TheVariants as judged
+use Rattle.apply_judging.specs.Judging.{deleted_of}
 
 -- ---- the updates
 
@@ -47,17 +43,13 @@ module _ {g : List ℕ} {b : Table} {d : List ℤ} {whole : Judged} {p left item
       sym s.same ∙ ap (λ (n : ℕ). judge_updates g b (updates [] d p n) items ints) e
 
   -- it is refused
-  pub update-refused : 0 < left → (j : code.Judged) (e : Error) → j ≡ judged.Refused e → judged_of j ≡ judge_update g b (update_at [] d p) items ints → (judged_of j ≡ whole) × Within j
-  update-refused l j e q f =
-      let r : bad (number e) ≡ judge_update g b (update_at [] d p) items ints = rw q at f in
-      rw q (sym (step l ∙ rw (← r)), tt)
+  pub update-refused : 0 < left → (e : ℕ) → bad e ≡ judge_update g b (update_at [] d p) items ints → bad e ≡ whole
+  update-refused l e f = sym (step l ∙ rw (← f))
 
   -- it is not
-  pub update-fine : 0 < left → (j : code.Judged) (n w next : ℕ) → j ≡ judged.Fine n w → (judged_of j ≡ judge_update g b (update_at [] d p) items ints) × Within j → next ≡ update_end [] d p → Judging g b d whole next (left - 1) n w
-  update-fine l j n w next q f e =
-      let r : (good n w ≡ judge_update g b (update_at [] d p) items ints) × ((n ≤ 1024) × (w ≤ 16384)) =
-      subst (λ (k : code.Judged). (judged_of k ≡ judge_update g b (update_at [] d p) items ints) × Within k) q f in
-      record { lie = rw e (other-updates s.lie l); same = rw e (sym (step l ∙ rw (← r.0))); few = r.1.0; short = r.1.1 }
+  pub update-fine : 0 < left → (n w next : ℕ) → good n w ≡ judge_update g b (update_at [] d p) items ints → (n ≤ 1024) × (w ≤ 16384) → next ≡ update_end [] d p → Judging g b d whole next (left - 1) n w
+  update-fine l n w next f m e =
+      record { lie = rw e (other-updates s.lie l); same = rw e (sym (step l ∙ rw (← f))); few = m.0; short = m.1 }
 
   pub all-judged : left ≤ 0 → good items ints ≡ whole
   unfolding judge_updates updates

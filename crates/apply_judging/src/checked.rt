@@ -19,11 +19,11 @@ use delta_form::checked::{deleted_from, has_deleted, next_update, update_key, up
 use format::Error;
 use table::checked::{data_at, has_key, key_at, nat_at, next_place};
 
-// The refusal, or how many items and ints the result has.
+// How many items and ints the result of a delta that is not refused has.
 #[derive(Clone, Copy)]
-pub enum Judged {
-    Fine { items: usize, ints: usize },
-    Refused(Error),
+pub struct Fine {
+    pub items: usize,
+    pub ints: usize,
 }
 
 // How many items, and how many ints their keys and data take.
@@ -36,7 +36,7 @@ pub struct Sizes {
 // The result of judging a delta: its judgement, and whether the base lacks a deleted key.
 #[derive(Clone, Copy)]
 pub struct Judgement {
-    pub judged: Judged,
+    pub judged: Result<Fine, Error>,
     pub unknown_delete: bool,
 }
 
@@ -45,10 +45,7 @@ fn is_key_of(area: &[i32], n: usize, i: usize, key: i32) -> bool
     requires { Held area.now n }
     ensures { result ≡ true → Place area.now (bits key) i }
 {
-    if i < n {
-        return key_at(area, n, i) == key;
-    }
-    false
+    i < n && key_at(area, n, i) == key
 }
 
 // The place of a key among the n items, searched from a hint on, or else from the start.
@@ -56,10 +53,7 @@ fn place_from(area: &[i32], n: usize, hint: usize, key: i32) -> usize
     requires { Held area.now n × (hint ≤ n) }
     ensures { Place area.now (bits key) result }
 {
-    if hint == 0 {
-        return next_place(area, n, 0, key);
-    }
-    if ints::unsigned_less(key_at(area, n, hint - 1), key) {
+    if 0 < hint && ints::unsigned_less(key_at(area, n, hint - 1), key) {
         return next_place(area, n, hint, key);
     }
     next_place(area, n, 0, key)
@@ -82,10 +76,7 @@ pub fn deleted_near(delta: &[i32], deleted: usize, hint: usize, key: i32) -> usi
     requires { DeletedKeys delta.now deleted × (hint ≤ deleted) }
     ensures { Reached delta.now deleted result (rank (bits key)) }
 {
-    if hint == 0 {
-        return deleted_from(delta, deleted, 0, key);
-    }
-    if ints::signed_less(delta[2 + hint], key) {
+    if 0 < hint && ints::signed_less(delta[2 + hint], key) {
         return deleted_from(delta, deleted, hint, key);
     }
     deleted_from(delta, deleted, 0, key)
@@ -104,10 +95,8 @@ fn is_as_long(base: &[i32], nb: usize, b: usize, delta: &[i32], p: usize) -> boo
     requires { Held base.now nb × Update [] delta.now p × Place base.now (update_key delta.now p) b }
     ensures { result ≡ agree (find (update_key delta.now p) (items base.now)) (update_at [] delta.now p).values }
 {
-    if has_key(base, nb, b, update_key(delta, p)) {
-        return data_at(base, nb, b).len() == update_size(delta, p);
-    }
-    true
+    !has_key(base, nb, b, update_key(delta, p))
+        || data_at(base, nb, b).len() == update_size(delta, p)
 }
 
 // Whether the base keeps the key of the update at a place, given the key's places.
@@ -125,34 +114,31 @@ fn is_kept(
     ensures { result ≡ is_some (kept_of (deleted_of delta.now deleted) (items base.now) (update_key delta.now p)) }
 {
     let key = update_key(delta, p);
-    if is_deleted(delta, deleted, g, key) {
-        return false;
-    }
-    has_key(base, nb, b, key)
+    !is_deleted(delta, deleted, g, key) && has_key(base, nb, b, key)
 }
 
 // So many items and ints, if the lengths agree; else the refusal.
-fn judge_length(same: bool, items: usize, ints: usize) -> Judged
+fn judge_length(same: bool, items: usize, ints: usize) -> Result<Fine, Error>
     requires { (items ≤ 1024) × (ints ≤ 16384) }
     ensures { (judged_of result ≡ judge_length same items ints) × Within result }
 {
     if same {
-        return Judged::Fine { items, ints };
+        return Ok(Fine { items, ints });
     }
-    Judged::Refused(Error::DeltaDifferingSizes)
+    Err(Error::DeltaDifferingSizes)
 }
 
 // One more item, with so many ints of data.
-fn judge_new(same: bool, size: usize, items: usize, ints: usize) -> Judged
+fn judge_new(same: bool, size: usize, items: usize, ints: usize) -> Result<Fine, Error>
     requires { (size < 2 ^ 32) × (items ≤ 1024) × (ints ≤ 16384) }
     ensures { (judged_of result ≡ judge_new same size items ints) × Within result }
 {
     if 1023 < items {
-        return Judged::Refused(Error::TooManyItems);
+        return Err(Error::TooManyItems);
     }
     let more = ints + (2 + size);
     if 16384 < more {
-        return Judged::Refused(Error::TooLongSnap);
+        return Err(Error::TooLongSnap);
     }
     judge_length(same, items + 1, more)
 }
@@ -168,7 +154,7 @@ fn judge_update(
     p: usize,
     items: usize,
     ints: usize,
-) -> Judged
+) -> Result<Fine, Error>
     requires { Held base.now nb × DeletedKeys delta.now deleted × Update [] delta.now p × Place base.now (update_key delta.now p) b
         × Reached delta.now deleted g (rank (update_key delta.now p)) × (items ≤ 1024) × (ints ≤ 16384) }
     ensures { (judged_of result ≡ judge_update (deleted_of delta.now deleted) (Tables.items base.now) (update_at [] delta.now p) items ints) × Within result }
@@ -189,38 +175,22 @@ fn judge_updates(
     updated: usize,
     items: usize,
     ints: usize,
-) -> Judged
+) -> Result<Fine, Error>
     requires { Held base.now nb × HeldDelta [] delta.now deleted updated × (items ≤ 1024) × (ints ≤ 16384) }
     ensures { (judged_of result ≡ judge_updates (deleted_of delta.now deleted) (Tables.items base.now) (updates [] delta.now (3 + deleted) updated) items ints) × Within result }
 {
-    let mut so_far = Sizes { items, ints };
+    let mut so_far = Fine { items, ints };
     let mut p = 3 + deleted;
-    let mut left = updated;
     let mut b = 0;
     let mut g = 0;
-    while 0 < left {
+    for _ in 0..updated {
         let key = update_key(delta, p);
         b = place_near(base, nb, b, key);
         g = deleted_near(delta, deleted, g, key);
-        let one = judge_update(base, nb, b, delta, deleted, g, p, so_far.items, so_far.ints);
-        let Judged::Fine {
-            items: more,
-            ints: size,
-        } = one
-        else {
-            return one;
-        };
-        so_far = Sizes {
-            items: more,
-            ints: size,
-        };
+        so_far = judge_update(base, nb, b, delta, deleted, g, p, so_far.items, so_far.ints)?;
         p = next_update(delta, p);
-        left -= 1;
     }
-    Judged::Fine {
-        items: so_far.items,
-        ints: so_far.ints,
-    }
+    Ok(so_far)
 }
 
 // How many items the base keeps, and how many ints their keys and data take, in one walk along the base.
@@ -229,20 +199,16 @@ fn count_kept(base: &[i32], nb: usize, delta: &[i32], deleted: usize) -> Sizes
     ensures { (result.items ≡ length (kept (deleted_of delta.now deleted) (Tables.items base.now)))
         × (result.ints ≡ length (body (kept (deleted_of delta.now deleted) (Tables.items base.now)))) }
 {
-    let mut i = 0;
     let mut g = 0;
     let mut n: usize = 0;
     let mut w: usize = 0;
-    while i < nb {
+    for i in 0..nb {
         let key = key_at(base, nb, i);
         g = deleted_near(delta, deleted, g, key);
-        if is_deleted(delta, deleted, g, key) {
-            i += 1;
-            continue;
+        if !is_deleted(delta, deleted, g, key) {
+            n += 1;
+            w += 1 + data_at(base, nb, i).len();
         }
-        n += 1;
-        w += 1 + data_at(base, nb, i).len();
-        i += 1;
     }
     Sizes { items: n, ints: w }
 }

@@ -27,9 +27,9 @@ use Rattle.format.specs.declared.Error.{Error}
 use Rattle.format.specs.Sources.{unknown_counts}
 use Rattle.table.specs.Held.{Held}
 use Rattle.delta_form.specs.Held.{HeldDelta}
-use Rattle.apply_judging.specs.Judging.{judged_of, Within}
-use Rattle.apply_judging.specs.declared.checked.Judged as code
-use Rattle.apply_judging.specs.declared.checked.Judged.TheVariants as judged
+use Rattle.apply_judging.specs.Judging.{judged_of}
+use Rattle.apply_judging.specs.declared.checked.Fine.{Fine}
+use Rattle.std.proofs.Common.{Result, Ok, Err}
 
 counts_same : (b : Bool) → laws.unknown_counts b ≡ unknown_counts b
 counts_same true = refl
@@ -59,7 +59,7 @@ stored-done out w t l =
     done = unfold stored in rw (le-leb (length (written t)) (length out) l)
 
 module _ (base : List ℤ) (nb : ℕ) (hb : Held base nb) (delta : List ℤ) (k u : ℕ) (hd : HeldDelta [] delta k u) (out : List ℤ)
-    (j : code.Judged) (ej : judged_of j ≡ judge_delta (items base) (delta_in [] delta)) (unknown : Bool) (eu : unknown ≡ has_unknown (items base) (delta_in [] delta)) where
+    (j : Result Fine Error) (ej : judged_of j ≡ judge_delta (items base) (delta_in [] delta)) (unknown : Bool) (eu : unknown ≡ has_unknown (items base) (delta_in [] delta)) where
   abbrev table : Table
   table = applied_table (items base) (delta_in [] delta)
 
@@ -71,32 +71,24 @@ module _ (base : List ℤ) (nb : ℕ) (hb : Held base nb) (delta : List ℤ) (k 
       (e.0 ∙ ap₂ (λ (w : Counts) (x : Judged). after w (judged_as x table)) (ap laws.unknown_counts (sym eu) ∙ counts_same unknown) (sym ej), subst (λ (x : Judged). SizesOf x table) (sym ej) e.1)
 
   -- it is refused
-  pub is-refused : (e : Error) → j ≡ judged.Refused e → stored_table out (apply_delta (items base) (delta_in [] delta)) ≡ record { answer = err (number e) (unknown_counts unknown); out = out }
+  pub is-refused : (e : Error) → j ≡ Err e → stored_table out (apply_delta (items base) (delta_in [] delta)) ≡ record { answer = err (number e) (unknown_counts unknown); out = out }
   is-refused e q =
-      ap (stored_table out) (comes.0 ∙ ap (λ (x : code.Judged). after (unknown_counts unknown) (judged_as (judged_of x) table)) q)
+      ap (stored_table out) (comes.0 ∙ ap (λ (x : Result Fine Error). after (unknown_counts unknown) (judged_as (judged_of x) table)) q)
       ∙ stored_refused out (unknown_counts unknown) (number e)
 
-  module _ (n ints : ℕ) (q : j ≡ judged.Fine n ints) where
-    fine : (apply_delta (items base) (delta_in [] delta) ≡ after (unknown_counts unknown) (return table)) × (ints ≡ length (written table))
+  module _ (f : Fine) (q : j ≡ Ok f) where
+    fine : (apply_delta (items base) (delta_in [] delta) ≡ after (unknown_counts unknown) (return table)) × (f.ints ≡ length (written table))
     fine =
-        let s : (n ≡ length table) × (ints ≡ length (written table)) = subst (λ (x : code.Judged). SizesOf (judged_of x) table) q comes.1 in
-        (comes.0 ∙ ap (λ (x : code.Judged). after (unknown_counts unknown) (judged_as (judged_of x) table)) q, s.1)
-
-    -- what the writing of the table is given
-    pub judged-good : judge_delta (items base) (delta_in [] delta) ≡ good n ints
-    judged-good = sym ej ∙ ap judged_of q
+        let s : (f.items ≡ length table) × (f.ints ≡ length (written table)) = subst (λ (x : Result Fine Error). SizesOf (judged_of x) table) q comes.1 in
+        (comes.0 ∙ ap (λ (x : Result Fine Error). after (unknown_counts unknown) (judged_as (judged_of x) table)) q, s.1)
 
     -- out is too short
-    pub is-short : length out < ints → stored_table out (apply_delta (items base) (delta_in [] delta)) ≡ record { answer = err capacity_error (unknown_counts unknown); out = out }
+    pub is-short : length out < f.ints → stored_table out (apply_delta (items base) (delta_in [] delta)) ≡ record { answer = err capacity_error (unknown_counts unknown); out = out }
     is-short l = ap (stored_table out) fine.0 ∙ stored_short out (unknown_counts unknown) table (omega (arith, fine.1))
 
     -- the table is written
-    pub is-done : (out' : List ℤ) → ints ≤ length out → out' ≡ lay (written table) out → stored_table out (apply_delta (items base) (delta_in [] delta)) ≡ record { answer = ok ints (unknown_counts unknown); out = out' }
+    pub is-done : (out' : List ℤ) → f.ints ≤ length out → out' ≡ lay (written table) out → stored_table out (apply_delta (items base) (delta_in [] delta)) ≡ record { answer = ok f.ints (unknown_counts unknown); out = out' }
     is-done out' l e =
         ap (stored_table out) fine.0
         ∙ (stored-done out (unknown_counts unknown) table (omega (arith, fine.1))
         ∙ ap₂ (λ (m : ℕ) (o : List ℤ). record { answer = ok m (unknown_counts unknown); out = o }) (sym fine.1) (sym e))
-
--- sizes that are within the limits
-pub within-fine : (j : code.Judged) (n w : ℕ) → j ≡ judged.Fine n w → Within j → (n ≤ 1024) × (w ≤ 16384)
-within-fine j n w q f = subst (λ (x : code.Judged). Within x) q f

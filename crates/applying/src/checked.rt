@@ -1,5 +1,5 @@
 // Applies a delta to its base, both in areas in form: judges first, then merges in two passes, for keys below 2^31 and for the others.
-ghost use Rattle.std.specs.Prelude.{◌≡◌, true, cond, [], ◌∷◌, ◌+◌, ◌-◌, ◌*◌, ◌<◌, ◌≤◌, ◌^◌, pos, length, set};
+ghost use Rattle.std.specs.Prelude.{◌≡◌, true, cond, Err, [], ◌∷◌, ◌+◌, ◌-◌, ◌*◌, ◌<◌, ◌≤◌, ◌^◌, pos, length, set};
 ghost use Rattle.std.proofs.Math.Option.{some, none};
 ghost use Rattle.definitions.specs.Ints.{bits};
 ghost use Rattle.definitions.specs.Areas.{lay_at};
@@ -14,22 +14,21 @@ ghost use Rattle.laws.specs.ApplyJudging.{good, judge_delta, applied_table};
 ghost use Rattle.laws.specs.ApplyMerge.{Ahead, merged};
 ghost use Rattle.laws.specs.ApplyHalves.{HighBefore, NextLow};
 ghost use Rattle.laws.specs.ApplyWriting.{Room, wrote};
-ghost use Rattle.format.specs.declared.Stored.TheVariants as stored;
 ghost use Rattle.table.specs.Held.{Held};
 ghost use Rattle.delta_form.specs.Held.{HeldDelta};
 ghost use Rattle.apply_judging.specs.Judging.{DeletedKeys};
 ghost use Rattle.applying.specs.Answers.{applied_ints};
 ghost use Rattle.applying.specs.Merging.{rest_of, Going, Comes, Turned};
 
-use apply_judging::checked::{Judged, deleted_near, is_deleted, judge};
+use apply_judging::checked::{deleted_near, is_deleted, judge};
 use delta_form::checked::{next_update, update_data, update_key};
-use format::{Error, Stored};
+use format::Error;
 use table::checked::{data_at, key_at, put, walk_start};
 
 // The result of applying: the answer, and whether the base lacks a deleted key.
 #[derive(Clone, Copy)]
 pub struct Applied {
-    pub answer: Stored,
+    pub answer: Result<usize, Error>,
     pub unknown_delete: bool,
 }
 
@@ -106,7 +105,8 @@ fn put_sums(
     put_head(out, n, m, at, key);
     let from = at + 1;
     let to = from + more.len();
-    format::apply_item_delta(has_old, old, more, &mut out[from..to]);
+    // The lengths agree and the part has the room, so this is not refused.
+    let _ = format::apply_item_delta(has_old, old, more, &mut out[from..to]);
 }
 
 // Passes the next item of the base, which comes before all updates: copies it, unless its key is deleted.
@@ -129,22 +129,18 @@ fn pass_item(
     if is_deleted(delta, deleted, hint, key) {
         return Merge {
             item: s.item + 1,
-            update: s.update,
-            left: s.left,
             hint,
-            items: s.items,
-            at: s.at,
+            ..s
         };
     }
     let values = data_at(base, nb, s.item);
     put_item(out, n, s.items, s.at, key, values);
     Merge {
         item: s.item + 1,
-        update: s.update,
-        left: s.left,
         hint,
         items: s.items + 1,
         at: s.at + 1 + values.len(),
+        ..s
     }
 }
 
@@ -171,9 +167,9 @@ fn add_update(
         item: s.item + 1,
         update: next_update(delta, s.update),
         left: s.left - 1,
-        hint: s.hint,
         items: s.items + 1,
         at: s.at + 1 + old.len(),
+        ..s
     }
 }
 
@@ -196,12 +192,11 @@ fn put_update(
     let more = differences(delta, s.update);
     put_sums(out, n, s.items, s.at, key, false, &more[..0], more);
     Merge {
-        item: s.item,
         update: next_update(delta, s.update),
         left: s.left - 1,
-        hint: s.hint,
         items: s.items + 1,
         at: s.at + 1 + more.len(),
+        ..s
     }
 }
 
@@ -242,8 +237,7 @@ fn merge_one(
         × (0 < (to - s.item) + s.left) }
     ensures { Turned base.now nb to delta.now deleted n out.old s out.new result }
 {
-    let next = next_of(base, nb, to, delta, s);
-    match next {
+    match next_of(base, nb, to, delta, s) {
         Next::Item => pass_item(base, nb, to, delta, deleted, n, out, s),
         Next::Both => add_update(base, nb, to, delta, deleted, n, out, s),
         Next::Update => put_update(base, nb, to, delta, deleted, n, out, s),
@@ -267,6 +261,7 @@ fn merge_part(
         × (out.new ≡ wrote n out.old start.items start.at (rest_of base.now to delta.now deleted start)) }
 {
     let mut s = start;
+    // A turn takes an item, an update or both, so no range has the turns.
     while s.item < to || 0 < s.left {
         s = merge_one(base, nb, to, delta, deleted, n, out, s);
     }
@@ -279,15 +274,16 @@ fn low_updates(delta: &[i32], from: usize, updated: usize) -> Low
     ensures { HighBefore delta.now from updated result.update result.left × NextLow (updates [] delta.now result.update result.left) }
 {
     let mut p = from;
-    let mut left = updated;
-    while 0 < left {
+    for i in 0..updated {
         if !ints::signed_less(update_key(delta, p), 0) {
-            return Low { update: p, left };
+            return Low {
+                update: p,
+                left: updated - i,
+            };
         }
         p = next_update(delta, p);
-        left -= 1;
     }
-    Low { update: p, left }
+    Low { update: p, left: 0 }
 }
 
 // Writes the table that the delta makes, of so many items and ints, into the front of out.
@@ -331,10 +327,10 @@ fn write_table(
 
 // The refusal: nothing is made.
 fn refused(error: Error, unknown_delete: bool) -> Applied
-    ensures { result ≡ record { answer = stored.Refused error; unknown_delete = unknown_delete } }
+    ensures { result ≡ record { answer = Err error; unknown_delete = unknown_delete } }
 {
     Applied {
-        answer: Stored::Refused(error),
+        answer: Err(error),
         unknown_delete,
     }
 }
@@ -353,16 +349,17 @@ pub fn apply(
 {
     let all = judge(base, nb, delta, deleted, updated);
     let unknown_delete = all.unknown_delete;
-    let judged = all.judged;
-    match judged {
-        Judged::Refused(e) => refused(e, unknown_delete),
-        Judged::Fine { items, ints } => {
-            if out.len() < ints {
+    match all.judged {
+        Err(e) => refused(e, unknown_delete),
+        Ok(fine) => {
+            if out.len() < fine.ints {
                 return refused(Error::CapacityError, unknown_delete);
             }
-            write_table(base, nb, delta, deleted, updated, items, ints, out);
+            write_table(
+                base, nb, delta, deleted, updated, fine.items, fine.ints, out,
+            );
             Applied {
-                answer: Stored::Ints(ints),
+                answer: Ok(fine.ints),
                 unknown_delete,
             }
         }

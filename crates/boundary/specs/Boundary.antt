@@ -1,10 +1,12 @@
 -- An outcome as C sees it: a number, and outputs through pointers. Assumes nothing.
-use Rattle.std.specs.Prelude.{List, Bool, not, cond, ℕ, eqb, ℤ}
+use Rattle.std.specs.Prelude.{List, Bool, not, cond, ℕ, eqb, ℤ, Result, Ok, Err}
 use Rattle.std.proofs.Math.Option.{Option, some, none}
 use Rattle.definitions.specs.Warnings.{Counts}
 use Rattle.definitions.specs.Stored.{stored}
 use Rattle.definitions.specs.Outcome.{Outcome, ok, err, return, Wrote, ◌>>=◌}
 use Rattle.definitions.specs.TableCalls.{or_empty}
+use Rattle.format.specs.Numbers.{number}
+use Rattle.format.specs.declared.Error.{Error}
 
 -- 1 for true, 0 for false
 abbrev pub flag : Bool → ℕ
@@ -25,6 +27,16 @@ module _ {A : Type 0} where
   abbrev pub output : {B : Type 0} → (A → B) → B → Outcome A → B
   output f before (ok a w) = f a
   output f before (err n w) = before
+
+  -- the number of an answer of the code: 0, or the refusal's
+  abbrev pub refusal : Result A Error → ℕ
+  refusal (Ok a) = 0
+  refusal (Err e) = number e
+
+  -- its value, or the previous content of the output if the call was refused
+  abbrev pub value_or : A → Result A Error → A
+  value_or before (Ok a) = a
+  value_or before (Err e) = before
 
 -- a part of an area written over the front of another
 unfoldable pub part_into : List ℤ → List ℤ → Wrote ℕ ℤ

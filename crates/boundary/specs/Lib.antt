@@ -1,4 +1,3 @@
 -- What the C functions return and write. Assumes nothing.
 pub mod Boundary
-pub mod Outcomes
 pub mod Items

@@ -115,6 +115,10 @@ snap-few n m x s f = go (ltb (length s.snaps) 100) refl
 abbrev pub Fits : Store → Type 0
 Fits s = s.count < 2 ^ 32
 
+-- for an equal store
+pub fits-before : {s h : Store} → s ≡ h → Fits s → Fits h
+fits-before e f = rw e at f
+
 module _ (s : Store) (area : List ℤ) (fits : Fits s) where
   step_fits : {A B : Type 0} (P : B → Type 0) (o : Outcome B) (f : B → Keeps A) → Every P o → ((x : B) → P x → Few (f x).storage) → Fits (after_judging s area o f).store
   unfolding after_judging

@@ -2,4 +2,3 @@
 pub mod Rows
 pub mod Holding
 pub mod Few
-pub mod Emptied

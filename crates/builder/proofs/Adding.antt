@@ -3,7 +3,7 @@ use mathlib.Core.Path.{◌≡◌, refl, sym, ap, ◌∙◌}
 use mathlib.Core.Bool.{Bool, true, false}
 use mathlib.Core.List.{List, [], ◌∷◌}
 use mathlib.Core.Logic.{⊎_elim}
-use mathlib.Core.Option.{none}
+use mathlib.Core.Option.{some, none}
 use Prim.Native.Nat.{ℕ, ◌+◌, ◌/◌, ◌^◌, ◌≤◌, ◌<◌}
 use native.Mathlib.Omega.{arith}
 use borrow.Author.Tests.{leb-true, lt-ltb, le-ltb}
@@ -28,7 +28,6 @@ use Rattle.laws.specs.TableReadSound.{added-sound, length-insert}
 use Rattle.laws.specs.BuilderForm.{item_of}
 use Rattle.laws.specs.BuilderCalls.{laid-held, adds-or-not}
 use Rattle.table.specs.Held.{Held}
-use Rattle.snap.specs.Answers.{number_in}
 use Rattle.builder.specs.Building.{Built-as, added_as}
 
 -- ---- what is stored
@@ -111,14 +110,14 @@ module _ (a : List ℤ) (id : ℕ) (v : List ℤ) where
   unfolding add_where add_typed judge_type_id
   number-adds n d h = rw (lt-ltb 0 n (omega arith), lt-ltb n 16384 h)
 
-  module _ (k : List ℤ) (r : ℕ) (e : kind_number k (items a) ≡ number_in r) where
-    pub kind-adds : r < 65536 → added_as a (Uuid k) id v ≡ add_to a (items a) r id v
+  module _ (k : List ℤ) where
+    pub kind-adds : (r : ℕ) → kind_number k (items a) ≡ some r → added_as a (Uuid k) id v ≡ add_to a (items a) r id v
     unfolding add_where add_typed judge_type_id
-    kind-adds h = rw (e, lt-ltb r 65536 h)
+    kind-adds r e = rw e
 
-    pub kind-new : 65536 ≤ r → added_as a (Uuid k) id v ≡ add_of_kind a (items a) none k id v
+    pub kind-new : kind_number k (items a) ≡ none → added_as a (Uuid k) id v ≡ add_of_kind a (items a) none k id v
     unfolding add_where add_typed judge_type_id
-    kind-new h = rw (e, le-ltb r 65536 h)
+    kind-new e = rw e
 
   module _ (t : Table) (k : List ℤ) where
     -- the item that names a kind

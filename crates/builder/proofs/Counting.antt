@@ -1,17 +1,18 @@
 -- The kinds of a table that run without a gap, item by item, and the form of a builder's table. Assumes nothing.
-use mathlib.Core.Path.{◌≡◌, refl, subst, ◌∙◌}
-use mathlib.Core.Bool.{true, false, cond, ◌&&◌}
+use mathlib.Core.Path.{◌≡◌, refl, sym, subst, ◌∙◌}
+use mathlib.Core.Bool.{true, false, cond, ◌&&◌, false≢true}
 use mathlib.Core.List.{List, ◌∷◌}
 use Prim.Native.Nat.{ℕ, zero, suc, ◌+◌, ◌-◌, ◌/◌, ◌≤◌, ◌<◌}
 use native.Mathlib.Numerals.{add-one}
 use native.Mathlib.Omega.{arith}
 use borrow.Author.Tests.{eq-eqb, ne_eqb}
 use lib.Dec.{eqb}
+use Rattle.std.specs.Prelude.{Result, Ok, Err, Option, Some, None, is_err}
 use lib.IntN.{ℤ}
 use lib.ListN.{length}
 use Rattle.definitions.specs.Refusals.{not_in_form}
 use Rattle.definitions.specs.Warnings.{Counts}
-use Rattle.definitions.specs.Outcome.{ok, err, return, refuse}
+use Rattle.definitions.specs.Outcome.{return, refuse}
 use Rattle.definitions.specs.Tables.{Item, Table, table_of, items, item_at, key_at, count, size}
 use Rattle.definitions.specs.TableCalls.{held}
 use Rattle.definitions.specs.Types.{type_of, typed}
@@ -20,8 +21,9 @@ use Rattle.laws.specs.TableShape.{keys-le, some_is}
 use Rattle.laws.specs.TableForm.{length-form}
 use Rattle.table.specs.Held.{Held, form_of}
 use Rattle.table.specs.Writing.{not-held}
-use Rattle.table.specs.declared.checked.TableForm.TheVariants as form
 use Rattle.types.specs.Picks.{seg, items-seg}
+use Rattle.format.specs.declared.Error.{Error}
+use Rattle.types.specs.Answers.{types_with}
 use Rattle.builder.specs.Building.{Runs, Built-as}
 
 -- ---- item by item
@@ -89,32 +91,32 @@ module _ (a : List ℤ) (n : ℕ) (h : Held a n) where
       record { few = omega arith; run = rw e; kinds = rw e (omega arith) }
 
   -- as the table has them
-  in_table : (r : ℕ) → Runs (seg (item_at a) 0 n) r → Runs (items a) r
+  in_table : (r : Option ℕ) → Runs (seg (item_at a) 0 n) r → Runs (items a) r
   in_table r x = subst (λ (t : Table). Runs t r) (items-seg a n h) x
 
   module _ (j : ℕ) (l : Left (item_at a) n j) where
-    pub all-run : n ≤ j → Runs (items a) n
+    pub all-run : n ≤ j → Runs (items a) (Some n)
     all-run b =
         let q : j ≡ n = omega (arith, l.few) in
         let p = plain-run (item_at a) (16384 + j) j (n - j) (λ i x y. absurd (omega arith)) in
-        in_table n (record { run = λ x. (l.run ∙ p.0, omega (arith, l.kinds, p.1)); gap = λ x. absurd (omega (arith, h.shape.few, h.count-is)) })
+        in_table (Some n) (l.run ∙ p.0, omega (arith, l.kinds, p.1), omega (arith, h.shape.few, h.count-is))
 
     module _ (b : j < n) where
       -- item j is not of type 0, nor is one after it
-      pub ended : 65536 ≤ key_at a j → Runs (items a) j
+      pub ended : 65536 ≤ key_at a j → Runs (items a) (Some j)
       ended k =
           let p = plain-run (item_at a) (16384 + j) j (n - j) (λ i x y. omega (arith, keys-le a h.shape j i x (omega (arith, h.count-is)))) in
-          in_table j (record { run = λ x. (l.run ∙ p.0, omega (arith, l.kinds, p.1)); gap = λ x. absurd (omega (arith, h.shape.few, h.count-is)) })
+          in_table (Some j) (l.run ∙ p.0, omega (arith, l.kinds, p.1), omega (arith, h.shape.few, h.count-is))
 
-      gapped : kinds_run (16384 + j) (seg (item_at a) j (n - j)) ≡ false → Runs (items a) 1025
-      gapped e = in_table 1025 (record { run = λ x. absurd (omega arith); gap = λ x. l.run ∙ e })
+      gapped : kinds_run (16384 + j) (seg (item_at a) j (n - j)) ≡ false → Runs (items a) None
+      gapped e = in_table None (l.run ∙ e)
 
       module _ (k : key_at a j < 65536) where
-        pub wrong-id : (key_at a j ≡ 16384 + j → ⊥) → Runs (items a) 1025
+        pub wrong-id : (key_at a j ≡ 16384 + j → ⊥) → Runs (items a) None
         wrong-id d = gapped (other-id (item_at a) n j b k d)
 
         module _ (e : key_at a j ≡ 16384 + j) where
-          pub wrong-length : (length (item_at a j).values ≡ 4 → ⊥) → Runs (items a) 1025
+          pub wrong-length : (length (item_at a j).values ≡ 4 → ⊥) → Runs (items a) None
           wrong-length d = gapped (other_length (item_at a) n j b k e d)
 
           pub one_more : length (item_at a j).values ≡ 4 → Left (item_at a) n (j + 1)
@@ -128,27 +130,30 @@ module _ (a : List ℤ) (n : ℕ) (h : Held a n) where
 -- ---- the form of a builder's table
 
 module _ (a : List ℤ) where
-  pub not-in-form : form.Bad ≡ form_of (table_of a) → held_builder a ≡ refuse not_in_form
+  pub not-in-form : None ≡ form_of (table_of a) → held_builder a ≡ refuse not_in_form
   unfolding held_builder
   not-in-form e = rw (not-held a e)
 
-  module _ (n : ℕ) (h : Held a n) (r : ℕ) (x : Runs (items a) r) where
+  module _ (n : ℕ) (h : Held a n) where
     is_held : held a ≡ return (items a)
     unfolding held
     is_held = rw (some_is a h.shape)
 
-    pub kinds-apart : 1024 < r → held_builder a ≡ refuse not_in_form
+    pub kinds-apart : Runs (items a) None → held_builder a ≡ refuse not_in_form
     unfolding held_builder builder_form
-    kinds-apart l = rw (is_held, x.gap l)
+    kinds-apart x = rw (is_held, x)
 
-    module _ (l : r ≤ 1024) where
-      pub types-refused : (m : ℕ) (w : Counts) → typed (items a) ≡ err m w → held_builder a ≡ refuse not_in_form
+    module _ (r : ℕ) (x : Runs (items a) (Some r)) where
+      -- by the answer on the types
+      pub types-refused : (y : Result (Unit {0}) Error) (w : Counts) → is_err y ≡ true → typed (items a) ≡ types_with (items a) y w → held_builder a ≡ refuse not_in_form
       unfolding held_builder builder_form
-      types-refused m w e = rw (is_held, (x.run l).0, e)
+      types-refused (Ok u) w b e = absurd (false≢true b)
+      types-refused (Err m) w b e = rw (is_held, x.0, e)
 
-      pub builds : (k : ℕ) (w : Counts) → k ≡ 2 + count a + size a / 4 → typed (items a) ≡ ok (items a) w → Built-as a n k r
-      builds k w t e =
-          record { builder = unfold held_builder builder_form in rw (is_held, (x.run l).0, e); held = h; takes = t; kinds = (x.run l).1; few = l; types = rw e }
+      pub builds : (k : ℕ) (y : Result (Unit {0}) Error) (w : Counts) → k ≡ 2 + count a + size a / 4 → is_err y ≡ false → typed (items a) ≡ types_with (items a) y w → Built-as a n k r
+      builds k (Ok u) w t b e =
+          record { builder = unfold held_builder builder_form in rw (is_held, x.0, e); held = h; takes = t; kinds = x.1; few = x.2; types = rw e }
+      builds k (Err m) w t b e = absurd (false≢true (sym b))
 
 -- ---- finishing
 

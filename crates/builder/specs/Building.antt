@@ -1,5 +1,5 @@
 -- A builder's table in an area, and the result of adding to it. Assumes nothing.
-use Rattle.std.specs.Prelude.{◌≡◌, true, false, List, ℕ, ◌+◌, ◌/◌, ◌≤◌, ◌<◌, ℤ, length}
+use Rattle.std.specs.Prelude.{◌≡◌, true, false, List, ℕ, ◌+◌, ◌/◌, ◌≤◌, ◌<◌, ℤ, length, Option, Some, None}
 use Rattle.definitions.specs.Refusals.{not_in_form}
 use Rattle.definitions.specs.Outcome.{return, refuse, ◌>>◌, Wrote}
 use Rattle.definitions.specs.Tables.{Item, Table, written, find, is_some, items, count, size}
@@ -11,12 +11,11 @@ use Rattle.format.specs.Numbers.{number}
 use Rattle.format.specs.declared.Error.{Error}
 use Rattle.table.specs.Held.{Held}
 use Rattle.builder.specs.declared.checked.Building.{Building}
-use Rattle.builder.specs.declared.checked.Building.TheVariants as building
 
--- r kinds run from 4000 hex on; more than 1,024 if they do not
-pub record Runs (t : Table) (r : ℕ) : Type 0 where
-  pub run : r ≤ 1024 → (kinds_run 16384 t ≡ true) × (num_kinds t ≡ r)
-  pub gap : 1024 < r → kinds_run 16384 t ≡ false
+-- so many kinds run from 4000 hex on, or they do not
+abbrev pub Runs : Table → Option ℕ → Type 0
+Runs t (Some r) = (kinds_run 16384 t ≡ true) × (num_kinds t ≡ r) × (r ≤ 1024)
+Runs t None = kinds_run 16384 t ≡ false
 
 -- an area holds a builder's table of n items, k ints and m kinds
 pub record Built-as (a : List ℤ) (n k m : ℕ) : Type 0 where
@@ -28,9 +27,9 @@ pub record Built-as (a : List ℤ) (n k m : ℕ) : Type 0 where
   pub types : is_ok (typed (items a)) ≡ true
 
 -- what an answer says of an area
-abbrev pub Built : List ℤ → Building → Type 0
-Built a (building.Table n k m) = Built-as a n k m
-Built a building.Bad = held_builder a ≡ refuse not_in_form
+abbrev pub Built : List ℤ → Option Building → Type 0
+Built a (Some b) = Built-as a b.items b.ints b.kinds
+Built a None = held_builder a ≡ refuse not_in_form
 
 -- the result of adding an item to the builder's table of an area
 abbrev pub added_as : List ℤ → TypeId → ℕ → List ℤ → Wrote ℕ ℤ

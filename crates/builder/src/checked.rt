@@ -8,62 +8,54 @@ ghost use Rattle.format.specs.Answers.{stored_ints};
 ghost use Rattle.table.specs.Held.{Held};
 ghost use Rattle.builder.specs.Building.{Runs, Built, Built-as, added_as, RefusesAs};
 
-use format::{Error, Stored};
+use format::Error;
 use snap::checked::kind_number;
-use table::checked::{TableForm, data_at, form, key_at};
+use table::checked::{data_at, form, key_at};
 use table_adding::checked::add;
-use types::checked::{Types, judge_form};
+use types::checked::judge_form;
 
-// How many kinds there are if their items run from id 4000 hex on without a gap, four ints each; 1,025 if they do not.
-pub fn count_kinds(area: &[i32], n: usize) -> usize
+// How many kinds there are if their items run from id 4000 hex on without a gap, four ints each.
+pub fn count_kinds(area: &[i32], n: usize) -> Option<usize>
     requires { Held area.now n }
     ensures { Runs (items area.now) result }
 {
-    let mut j: usize = 0;
-    while j < n {
+    for j in 0..n {
         let key = ints::to_bits(key_at(area, n, j)) as usize;
         if 65536 <= key {
-            return j;
+            return Some(j);
         }
         if key != 16384 + j {
-            return 1025;
+            return None;
         }
         if data_at(area, n, j).len() != 4 {
-            return 1025;
+            return None;
         }
-        j += 1;
     }
-    n
+    Some(n)
 }
 
 // A builder's table: its items, the ints that it takes, and its kinds.
 #[derive(Clone, Copy)]
-pub enum Building {
-    Table {
-        items: usize,
-        ints: usize,
-        kinds: usize,
-    },
-    Bad,
+pub struct Building {
+    pub items: usize,
+    pub ints: usize,
+    pub kinds: usize,
 }
 
-// Whether an area holds a builder's table.
-pub fn judge_building(area: &[i32]) -> Building
+// The builder's table that an area holds, if it holds one.
+pub fn judge_building(area: &[i32]) -> Option<Building>
     ensures { Built area.now result }
 {
-    let TableForm::Table { items, ints } = form(area) else {
-        return Building::Bad;
-    };
-    let kinds = count_kinds(area, items);
-    if 1024 < kinds {
-        return Building::Bad;
+    let form = form(area)?;
+    let kinds = count_kinds(area, form.items)?;
+    if judge_form(area, form.items, form.ints).types.is_err() {
+        return None;
     }
-    let judged = judge_form(area, items, ints);
-    let types = judged.types;
-    if let Types::Refused(_) = types {
-        return Building::Bad;
-    }
-    Building::Table { items, ints, kinds }
+    Some(Building {
+        items: form.items,
+        ints: form.ints,
+        kinds,
+    })
 }
 
 // Adds an item whose type is a number.
@@ -74,15 +66,12 @@ pub fn add_ordinal(
     number: u16,
     id: u16,
     data: &[i32],
-) -> Stored
+) -> Result<usize, Error>
     requires { Held area.old n × (ints ≡ 2 + count area.old + size area.old / 4) }
     ensures { added_as area.old (Ordinal number) id «data».now ≡ record { answer = stored_ints result; out = area.new } }
 {
-    if number == 0 {
-        return Stored::Refused(Error::InvalidTypeId);
-    }
-    if 16384 <= number {
-        return Stored::Refused(Error::InvalidTypeId);
+    if number == 0 || number >= 16384 {
+        return Err(Error::InvalidTypeId);
     }
     add(area, n, ints, format::key(number, id), data)
 }
@@ -111,19 +100,19 @@ pub fn add_with_kind(
     kind: &[i32],
     id: u16,
     data: &[i32],
-) -> Stored
+) -> Result<usize, Error>
     requires { Built-as area.old n ints kinds }
     ensures { add_of_kind area.old (items area.old) none kind.now id «data».now ≡ record { answer = stored_ints result; out = area.new } }
 {
     let number = (16384 + kinds) as u16;
     let first = add(area, n, ints, format::key(0, number), kind);
     match first {
-        Stored::Ints(total) => add(area, n + 1, total, format::key(number, id), data),
-        Stored::Refused(e) => match e {
+        Ok(total) => add(area, n + 1, total, format::key(number, id), data),
+        Err(e) => match e {
             Error::CapacityError => {
-                Stored::Refused(refuse_without_room(n + 1, ints + (kind.len() + 2), data))
+                Err(refuse_without_room(n + 1, ints + (kind.len() + 2), data))
             }
-            _ => Stored::Refused(e),
+            _ => Err(e),
         },
     }
 }
@@ -140,13 +129,12 @@ pub fn add_of_kind(
     d: i32,
     id: u16,
     data: &[i32],
-) -> Stored
+) -> Result<usize, Error>
     requires { Built-as area.old n ints kinds }
     ensures { added_as area.old (Uuid (a ∷ b ∷ c ∷ d ∷ [])) id «data».now ≡ record { answer = stored_ints result; out = area.new } }
 {
-    let found = kind_number(area, n, a, b, c, d);
-    if found < 65536 {
-        return add(area, n, ints, format::key(found as u16, id), data);
+    if let Some(number) = kind_number(area, n, a, b, c, d) {
+        return add(area, n, ints, format::key(number, id), data);
     }
     let kind = [a, b, c, d];
     add_with_kind(area, n, ints, kinds, &kind, id, data)

@@ -6,14 +6,13 @@ ghost use Rattle.definitions.specs.Builder.{new_call, builder_add_item_call, fin
 ghost use Rattle.format.specs.Answers.{stored_ints};
 ghost use Rattle.snap.specs.Answers.{type_of};
 
-use checked::Building;
-use format::{Error, Stored};
+use format::Error;
 use snap::TypeId;
 
 pub mod checked;
 
 // Writes the empty table.
-pub fn new(out: &mut [i32]) -> Stored
+pub fn new(out: &mut [i32]) -> Result<usize, Error>
     ensures { new_call out.old ≡ record { answer = stored_ints result; out = out.new } }
 {
     raw_snap::empty(out)
@@ -21,31 +20,42 @@ pub fn new(out: &mut [i32]) -> Stored
 
 // Adds an item at its place by key. An item of a kind that is new to the table comes with the item that names the kind; that one stays, if it
 // fits, even if the other is refused. Apart from that, a refused call leaves the area unchanged.
-pub fn add_item(area: &mut [i32], type_id: TypeId, id: u16, data: &[i32]) -> Stored
+pub fn add_item(area: &mut [i32], type_id: TypeId, id: u16, data: &[i32]) -> Result<usize, Error>
     ensures { builder_add_item_call area.old (type_of type_id) id «data».now ≡ record { answer = stored_ints result; out = area.new } }
 {
-    let Building::Table { items, ints, kinds } = checked::judge_building(area) else {
-        return Stored::Refused(Error::NotInForm);
+    let Some(table) = checked::judge_building(area) else {
+        return Err(Error::NotInForm);
     };
     match type_id {
-        TypeId::Ordinal(number) => checked::add_ordinal(area, items, ints, number, id, data),
+        TypeId::Ordinal(number) => checked::add_ordinal(
+            area,
+            table.items,
+            table.ints,
+            number,
+            id,
+            data,
+        ),
         TypeId::Uuid(a, b, c, d) => checked::add_of_kind(
-            area, items, ints, kinds, a, b, c, d, id, data,
+            area,
+            table.items,
+            table.ints,
+            table.kinds,
+            a,
+            b,
+            c,
+            d,
+            id,
+            data,
         ),
     }
 }
 
 // How many ints the table takes.
-pub fn finish(area: &[i32]) -> Stored
+pub fn finish(area: &[i32]) -> Result<usize, Error>
     ensures { finish_call area.now ≡ stored_ints result }
 {
-    let Building::Table {
-        items: _,
-        ints,
-        kinds: _,
-    } = checked::judge_building(area)
-    else {
-        return Stored::Refused(Error::NotInForm);
+    let Some(table) = checked::judge_building(area) else {
+        return Err(Error::NotInForm);
     };
-    Stored::Ints(ints)
+    Ok(table.ints)
 }

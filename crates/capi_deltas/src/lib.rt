@@ -7,10 +7,9 @@ ghost use Rattle.definitions.specs.DeltaCalls.{clear_call, create_call, create_c
 ghost use Rattle.format.specs.Totals as Totals;
 ghost use Rattle.boundary.specs.Boundary.{status, warnings_of, output, key_or, given};
 
-use boundary::checked::told;
-use delta_making::Made;
-use format::{Error, WARNING_KINDS, row};
-use packer::IntWrite;
+use boundary::checked::{told, told_reading};
+use delta_making::MakeError;
+use format::{Error, WARNING_KINDS};
 
 // Writes the empty delta into the front of out.
 #[unsafe(no_mangle)]
@@ -37,17 +36,16 @@ pub extern "C" fn cef_delta_create(
     ensures count_after { count.new ≡ output (λ n. n) count.old (create_call base.now target.now out.old).answer }
     ensures clash_after { clash.new ≡ key_or clash.old (create_clash base.now target.now out.old) }
 {
-    let m = delta::create(base, target, out);
-    match m {
-        Made::Ints(n) => {
+    match delta::create(base, target, out) {
+        Ok(n) => {
             *count = n;
             0
         }
-        Made::DifferingSizes(key) => {
+        Err(MakeError::DifferingSizes(key)) => {
             *clash = key;
-            format::error_number(Error::DeltaDifferingSizes)
+            u32::from(Error::DeltaDifferingSizes)
         }
-        Made::Refused(e) => format::error_number(e),
+        Err(MakeError::Refused(e)) => u32::from(e),
     }
 }
 
@@ -78,14 +76,7 @@ pub extern "C" fn cef_delta_write(
     ensures out_after { out.new ≡ (write_call area.now sizes.now out.old).out }
     ensures count_after { count.new ≡ output (λ n. n) count.old (write_call area.now sizes.now out.old).answer }
 {
-    let w = delta::write(area, sizes, out);
-    match w {
-        IntWrite::Next(n) => {
-            *count = n;
-            0
-        }
-        IntWrite::Refused(e) => format::error_number(e),
-    }
+    told(delta::write(area, sizes, out), count)
 }
 
 // Reads a delta from ints under known sizes into the front of out.
@@ -104,10 +95,11 @@ pub extern "C" fn cef_delta_read_from_ints(
     ensures count_after { count.new ≡ output (λ n. n) count.old (read_from_ints_call src.now sizes.now out.old (length scratch.old)).answer }
     ensures warnings_after { warnings.new ≡ Totals.row (warnings_of (read_from_ints_call src.now sizes.now out.old (length scratch.old)).answer) }
 {
-    let read = delta::read_from_ints(src, sizes, out, scratch);
-    *warnings = row(read.warnings);
-    let answer = read.answer;
-    told(answer, count)
+    told_reading(
+        delta::read_from_ints(src, sizes, out, scratch),
+        count,
+        warnings,
+    )
 }
 
 // Reads a packed delta under known sizes into the front of out.
@@ -126,10 +118,7 @@ pub extern "C" fn cef_delta_read(
     ensures count_after { count.new ≡ output (λ n. n) count.old (read_call src.now sizes.now out.old (length scratch.old)).answer }
     ensures warnings_after { warnings.new ≡ Totals.row (warnings_of (read_call src.now sizes.now out.old (length scratch.old)).answer) }
 {
-    let read = delta::read(src, sizes, out, scratch);
-    *warnings = row(read.warnings);
-    let answer = read.answer;
-    told(answer, count)
+    told_reading(delta::read(src, sizes, out, scratch), count, warnings)
 }
 
 // Writes the differences of an item's data from the base's data, if there is any, into the front of out.
@@ -145,10 +134,10 @@ pub extern "C" fn cef_create_item_delta(
     ensures out_after { out.new ≡ (create_item_delta_call (given has_from from.now) to.now out.old).out }
     ensures count_after { count.new ≡ output (λ n. n) count.old (create_item_delta_call (given has_from from.now) to.now out.old).answer }
 {
-    if has_from == 0 {
-        return told(format::create_item_delta(false, from, to, out), count);
-    }
-    told(format::create_item_delta(true, from, to, out), count)
+    told(
+        format::create_item_delta(has_from != 0, from, to, out),
+        count,
+    )
 }
 
 // Writes an item's data, from its differences and the base's data, if there is any, into the front of out.
@@ -164,8 +153,8 @@ pub extern "C" fn cef_apply_item_delta(
     ensures out_after { out.new ≡ (apply_item_delta_call (given has_from from.now) delta.now out.old).out }
     ensures count_after { count.new ≡ output (λ n. n) count.old (apply_item_delta_call (given has_from from.now) delta.now out.old).answer }
 {
-    if has_from == 0 {
-        return told(format::apply_item_delta(false, from, delta, out), count);
-    }
-    told(format::apply_item_delta(true, from, delta, out), count)
+    told(
+        format::apply_item_delta(has_from != 0, from, delta, out),
+        count,
+    )
 }

@@ -1,43 +1,27 @@
 -- What C sees, given a message with a known step. Assumes nothing.
-use mathlib.Core.Path.{◌≡◌, refl, sym, ap, ◌∙◌}
-use mathlib.Core.List.{List}
-use Prim.Native.Nat.{ℕ}
-use lib.IntN.{ℤ}
+use Rattle.std.specs.Prelude.{◌≡◌, refl, List, ℕ, ℤ, Some, None, Result, Ok, Err}
+use Rattle.std.specs.Prelude as Prelude
+use Rattle.std.proofs.Common.{sym, ap, ◌∙◌}
 use Rattle.definitions.specs.Warnings.{Counts}
 use Rattle.definitions.specs.Messages.{SnapMsg, Snap, SnapEmpty, SnapSingle}
 use Rattle.definitions.specs.Receiver.{Receiver}
 use Rattle.definitions.specs.Storage.{Store}
 use Rattle.definitions.specs.Manager.{ManagerStep, message_call}
-use Rattle.format.specs.Numbers.{number}
 use Rattle.format.specs.Totals.{counts, row}
 use Rattle.format.specs.declared.Error.{Error}
 use Rattle.ticks.specs.declared.Tick.{Tick}
 use Rattle.storage.specs.States.{store_of}
 use Rattle.manager.specs.Answers.{handled_with, handlings}
-use Rattle.manager.specs.declared.Handled.{Handled}
-use Rattle.manager.specs.declared.Handled.TheVariants as handled
 use Rattle.manager.specs.declared.Handling.{Handling}
 use Rattle.boundary.specs.Boundary.{warnings_of}
 use Rattle.boundary_states.specs.Few.{Fits}
-use Rattle.capi_manager.specs.Told.{Rows, Told, Tells, Settles}
-
--- ---- the answer
-
-module _ (a : Handled) where
-  pub tells-tick : {t : Tick} {n : ℤ} → a ≡ handled.Tick t → n ≡ t.0 → (taken₀ : ℕ) (ack₀ : ℤ) → Tells a taken₀ ack₀ 1 n 0
-  tells-tick e p taken₀ ack₀ = rw (e, p) (record { number_is = λ w. refl; taken_is = λ w. refl; ack-is = λ w. refl })
-
-  pub tells-not-yet : a ≡ handled.NotYet → (taken₀ : ℕ) (ack₀ : ℤ) → Tells a taken₀ ack₀ 0 ack₀ 0
-  tells-not-yet e taken₀ ack₀ = rw e (record { number_is = λ w. refl; taken_is = λ w. refl; ack-is = λ w. refl })
-
-  pub tells-refused : {x : Error} → a ≡ handled.Refused x → (r taken₀ : ℕ) (ack₀ : ℤ) → r ≡ number x → Tells a taken₀ ack₀ taken₀ ack₀ r
-  tells-refused e r taken₀ ack₀ p = rw (e, p) (record { number_is = λ w. refl; taken_is = λ w. refl; ack-is = λ w. refl })
+use Rattle.capi_manager.specs.Told.{Rows, Told, Settles}
 
 -- the warnings of an answer
-warned : (a : Handled) (w : Counts) → warnings_of (handled_with a w) ≡ w
-warned (handled.Tick t) w = refl
-warned handled.NotYet w = refl
-warned (handled.Refused x) w = refl
+warned : (a : Result (Prelude.Option Tick) Error) (w : Counts) → warnings_of (handled_with a w) ≡ w
+warned (Ok (Some t)) w = refl
+warned (Ok None) w = refl
+warned (Err x) w = refl
 
 -- ---- the numbers of a message
 

@@ -1,15 +1,17 @@
 -- What C sees of a message for a manager, by the definition's step. Assumes nothing.
-use Rattle.std.specs.Prelude.{◌≡◌, List, ℕ, ℤ}
+use Rattle.std.specs.Prelude.{◌≡◌, List, ℕ, ℤ, Result}
+use Rattle.std.specs.Prelude as Prelude
 use Rattle.std.proofs.Math.Option.{Option, some, none}
 use Rattle.definitions.specs.Warnings.{Counts}
 use Rattle.definitions.specs.Receiver.{Receiver}
 use Rattle.definitions.specs.Storage.{Store}
 use Rattle.definitions.specs.Manager.{ManagerStep}
 use Rattle.format.specs.Totals.{counts, row}
+use Rattle.format.specs.declared.Error.{Error}
+use Rattle.ticks.specs.declared.Tick.{Tick}
 use Rattle.receiver.specs.States.{receiver_of}
 use Rattle.storage.specs.States.{store_of}
 use Rattle.manager.specs.Answers.{handled_with}
-use Rattle.manager.specs.declared.Handled.{Handled}
 use Rattle.manager.specs.declared.Handling.{Handling}
 use Rattle.boundary.specs.Boundary.{status, warnings_of, output, key_or}
 use Rattle.boundary_states.specs.Rows.{SavedReceiver, SavedStore}
@@ -49,7 +51,7 @@ pub record Told (step : ManagerStep) (before after : Rows) (parts joined : List 
 -- ---- what the inner functions promise
 
 -- whether a table was taken, its tick and the number, by the answer
-pub record Tells (a : Handled) (taken₀ : ℕ) (ack₀ : ℤ) (taken : ℕ) (ack : ℤ) (r : ℕ) : Type 0 where
+pub record Tells (a : Result (Prelude.Option Tick) Error) (taken₀ : ℕ) (ack₀ : ℤ) (taken : ℕ) (ack : ℤ) (r : ℕ) : Type 0 where
   pub number_is : (w : Counts) → r ≡ status (handled_with a w)
   pub taken_is : (w : Counts) → taken ≡ output took_one taken₀ (handled_with a w)
   pub ack-is : (w : Counts) → ack ≡ output (key_or ack₀) ack₀ (handled_with a w)

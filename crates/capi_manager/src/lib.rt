@@ -14,8 +14,8 @@ ghost use Rattle.capi_manager.specs.Told.{Told, Tells, Settles};
 use boundary_states::checked::{
     load_receiver, load_storage, save_receiver, save_storage, write_receiver, write_storage,
 };
-use format::{WARNING_KINDS, row};
-use manager::{Handled, Handling, Manager};
+use format::{Error, WARNING_KINDS, row};
+use manager::{Handling, Manager};
 use ticks::{Distance, Tick};
 
 // A receiver without any tick, and a store without tables.
@@ -64,21 +64,20 @@ pub extern "C" fn cef_manager_reset(
 }
 
 // Sets whether a table was taken and its tick; returns the number of the answer.
-fn tell(a: Handled, taken: &mut u32, ack: &mut i32) -> u32
+fn tell(a: Result<Option<Tick>, Error>, taken: &mut u32, ack: &mut i32) -> u32
     ensures { Tells a taken.old ack.old taken.new ack.new result }
 {
     match a {
-        Handled::Tick(tick) => {
+        Ok(Some(tick)) => {
             *taken = 1;
-            let number = tick.0;
-            *ack = number;
+            *ack = tick.0;
             0
         }
-        Handled::NotYet => {
+        Ok(None) => {
             *taken = 0;
             0
         }
-        Handled::Refused(e) => format::error_number(e),
+        Err(e) => u32::from(e),
     }
 }
 
@@ -101,8 +100,7 @@ fn settle(
     let m = h.manager;
     save_receiver(m.receiver, receiver_ticks, receiver_counts, lengths);
     save_storage(m.storage, ticks, counts);
-    let answer = h.answer;
-    tell(answer, taken, ack)
+    tell(h.answer, taken, ack)
 }
 
 // Takes a part of a delta. With the last missing part, the delta is joined, read and applied to its base; the table is held and acknowledged.

@@ -4,10 +4,11 @@
 ghost use Rattle.std.specs.Prelude.{◌≡◌};
 ghost use Rattle.definitions.specs.Packer.{read_int_call, write_int_at, unpack_call};
 ghost use Rattle.format.specs.Totals as Totals;
-ghost use Rattle.boundary.specs.Boundary.{status, warnings_of, output, flag};
+ghost use Rattle.boundary.specs.Boundary as Boundary;
+ghost use Rattle.boundary.specs.Boundary.{status, warnings_of, output};
 
+use boundary::checked::{flag, told};
 use format::{WARNING_KINDS, Warnings, row, warned_row};
-use packer::{IntRead, IntWrite, IntsRead};
 
 // Reads the packed integer at a place of src.
 #[unsafe(no_mangle)]
@@ -24,23 +25,18 @@ pub extern "C" fn cef_read_int(
     ensures warnings_after { warnings.new ≡ Totals.row (warnings_of (read_int_call src.now at)) }
 {
     *warnings = row(Warnings::none());
-    let read = packer::read_int(src, at);
-    let IntRead::Int {
-        value: v,
-        next: n,
-        overlong,
-    } = read
-    else {
-        return packer::places::refusal(read);
-    };
-    *value = v;
-    *next = n;
-    // The compiler omits this test for an integer of one byte.
-    if overlong {
-        *warnings = warned_row(true);
-        return 0;
+    match packer::read_int(src, at) {
+        Ok(read) => {
+            *value = read.value;
+            *next = read.next;
+            // The compiler omits this test for an integer of one byte.
+            if read.overlong {
+                *warnings = warned_row(true);
+            }
+            0
+        }
+        Err(e) => u32::from(e),
     }
-    0
 }
 
 // Writes the shortest form of value into out at a place.
@@ -50,14 +46,7 @@ pub extern "C" fn cef_write_int(out: &mut [u8], at: usize, value: i32, next: &mu
     ensures out_after { out.new ≡ (write_int_at out.old at value).out }
     ensures next_after { next.new ≡ output (λ n. n) next.old (write_int_at out.old at value).answer }
 {
-    let w = packer::write_int(out, at, value);
-    match w {
-        IntWrite::Next(n) => {
-            *next = n;
-            0
-        }
-        IntWrite::Refused(e) => format::error_number(e),
-    }
+    told(packer::write_int(out, at, value), next)
 }
 
 // Unpacks all integers of src into the front of out.
@@ -72,18 +61,17 @@ pub extern "C" fn cef_unpack(
     ensures value { result ≡ status (unpack_call src.now out.old).answer }
     ensures out_after { out.new ≡ (unpack_call src.now out.old).out }
     ensures count_after { count.new ≡ output (λ u. u.count) count.old (unpack_call src.now out.old).answer }
-    ensures cut_after { cut.new ≡ output (λ u. flag u.cut) cut.old (unpack_call src.now out.old).answer }
+    ensures cut_after { cut.new ≡ output (λ u. Boundary.flag u.cut) cut.old (unpack_call src.now out.old).answer }
     ensures warnings_after { warnings.new ≡ Totals.row (warnings_of (unpack_call src.now out.old).answer) }
 {
     let u = packer::unpack(src, out);
     *warnings = row(u.warnings);
-    let answer = u.answer;
-    match answer {
-        IntsRead::Ints { count: n, cut: c } => {
-            *count = n;
-            *cut = boundary::checked::flag(c);
+    match u.answer {
+        Ok(read) => {
+            *count = read.count;
+            *cut = flag(read.cut);
             0
         }
-        IntsRead::Refused(e) => format::error_number(e),
+        Err(e) => u32::from(e),
     }
 }

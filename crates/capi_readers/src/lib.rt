@@ -4,25 +4,25 @@
 ghost use Rattle.std.specs.Prelude.{◌≡◌};
 ghost use Rattle.definitions.specs.Packer.{read_int_call};
 ghost use Rattle.definitions.specs.Readers.{plain_int_call};
-ghost use Rattle.packer.specs.Answers.{refusal};
 ghost use Rattle.capi_readers.specs.Standing.{kept, Stands};
 ghost use Rattle.format.specs.Totals as Totals;
-ghost use Rattle.boundary.specs.Boundary.{status, warnings_of, output, flag};
+ghost use Rattle.boundary.specs.Boundary as Boundary;
+ghost use Rattle.boundary.specs.Boundary.{refusal, status, warnings_of, output};
 
-use format::{WARNING_KINDS, Warnings, row, warned_row};
-use packer::{IntRead, ReaderAnswer};
+use boundary::checked::{flag, told};
+use format::{Error, WARNING_KINDS, Warnings, row, warned_row};
+use packer::ReaderAnswer;
 
 // Sets the outputs for the position of a reader. They are unchanged if there are too many entries to read (42).
 fn put_standing(r: ReaderAnswer, next: &mut usize, left: &mut usize, empty: &mut u32)
-    ensures { (next.new ≡ kept (refusal r.read) next.old r.at) × ((left.new ≡ kept (refusal r.read) left.old r.left) × (empty.new ≡ kept (refusal r.read) empty.old (flag r.empty))) }
+    ensures { (next.new ≡ kept (refusal r.read) next.old r.at) × ((left.new ≡ kept (refusal r.read) left.old r.left) × (empty.new ≡ kept (refusal r.read) empty.old (Boundary.flag r.empty))) }
 {
-    let read = r.read;
-    if packer::places::refusal(read) == 42 {
+    if let Err(Error::InputTooLong) = r.read {
         return;
     }
     *next = r.at;
     *left = r.left;
-    *empty = boundary::checked::flag(r.empty);
+    *empty = flag(r.empty);
 }
 
 // The answer of a reader over packed bytes at a place of src. If the bytes end there or padding bits are set, only value is unchanged.
@@ -43,19 +43,17 @@ pub extern "C" fn cef_unpacker_read_int(
 {
     let r = packer::read_bytes(src, at);
     put_standing(r, next, left, empty);
-    let read = r.read;
-    let IntRead::Int {
-        value: v,
-        overlong,
-        ..
-    } = read
-    else {
-        *warnings = row(Warnings::none());
-        return packer::places::refusal(read);
-    };
-    *value = v;
-    *warnings = warned_row(overlong);
-    0
+    match r.read {
+        Ok(read) => {
+            *value = read.value;
+            *warnings = warned_row(read.overlong);
+            0
+        }
+        Err(e) => {
+            *warnings = row(Warnings::none());
+            u32::from(e)
+        }
+    }
 }
 
 // The answer of a reader over ints at a place of src. If the ints end there, only value is unchanged.
@@ -74,10 +72,5 @@ pub extern "C" fn cef_int_unpacker_read_int(
 {
     let r = packer::read_ints(src, at);
     put_standing(r, next, left, empty);
-    let read = r.read;
-    let IntRead::Int { value: v, .. } = read else {
-        return packer::places::refusal(read);
-    };
-    *value = v;
-    0
+    told(r.read.map(|read| read.value), value)
 }

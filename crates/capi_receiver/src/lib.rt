@@ -9,13 +9,13 @@ ghost use Rattle.format.specs.Totals as Totals;
 ghost use Rattle.boundary.specs.Boundary.{status, warnings_of, output};
 ghost use Rattle.boundary_states.specs.Rows.{ticks_of_receiver, counts_of_receiver, held_receiver};
 ghost use Rattle.gamenet_snap.specs.Numbers as gamenet;
-ghost use Rattle.capi_receiver.specs.Left.{is_refused, Rows};
+ghost use Rattle.capi_receiver.specs.Left.{Rows};
 ghost use Rattle.capi_receiver.specs.Held.{ticks_after, counts_after, kind_of, ticks_or, length_or, kind_of_numbers, row_of, kind_of_message, numbers_or, bytes_in};
 ghost use Rattle.definitions.specs.Warnings.{Counts};
 
+use boundary::checked::told;
 use boundary_states::checked::{load_receiver, load_ticks, write_receiver, write_ticks};
-use delta_chunks::{Chunk, NumChunks};
-use format::{WARNING_KINDS, row};
+use format::{Error, WARNING_KINDS, row};
 use gamenet_snap::SnapMsg;
 use receiver::checked::{Part, Ticks, receive};
 use receiver::whole::{receive_empty, receive_single};
@@ -23,58 +23,59 @@ use receiver::{DeltaReceiver, Received};
 use ticks::{Distance, Tick};
 
 // Sets what a message brought, if it was taken; returns the number of the answer.
-fn tell(a: Received, kind: &mut u32, numbers: &mut [i32; 3], len: &mut usize) -> u32
+fn tell(
+    a: Result<Option<Received>, Error>,
+    kind: &mut u32,
+    numbers: &mut [i32; 3],
+    len: &mut usize,
+) -> u32
     ensures value { (w : Counts) → result ≡ status (received_with a w) }
     ensures kind_after { (w : Counts) → kind.new ≡ output kind_of kind.old (received_with a w) }
     ensures numbers_after { (w : Counts) → numbers.new ≡ output (ticks_or numbers.old) numbers.old (received_with a w) }
     ensures len_after { (w : Counts) → len.new ≡ output (length_or len.old) len.old (received_with a w) }
 {
     match a {
-        Received::NotYet => {
+        Ok(None) => {
             *kind = 0;
             0
         }
-        Received::Delta {
-            tick,
-            delta_tick,
-            len: n,
-            crc,
-        } => {
+        Ok(
+            Some(
+                Received::Delta {
+                    tick,
+                    delta_tick,
+                    len: n,
+                    crc,
+                },
+            ),
+        ) => {
             *kind = 1;
             *numbers = [tick.0, delta_tick.0, crc];
             *len = n;
             0
         }
-        Received::Empty { tick, delta_tick } => {
+        Ok(Some(Received::Empty { tick, delta_tick })) => {
             *kind = 2;
             *numbers = [tick.0, delta_tick.0, 0];
             *len = 0;
             0
         }
-        Received::Refused(e) => format::error_number(e),
-    }
-}
-
-// Whether a message is refused.
-fn is_refused(a: Received) -> bool
-    ensures { result ≡ is_refused a }
-{
-    match a {
-        Received::NotYet => false,
-        Received::Delta { .. } => false,
-        Received::Empty { .. } => false,
-        Received::Refused(_) => true,
+        Err(e) => u32::from(e),
     }
 }
 
 // Writes the ticks that a message left, if it was taken.
-fn put_ticks(a: Received, t: Ticks, ticks: &mut [i32; 4], counts: &mut [u32; 3])
+fn put_ticks(
+    a: Result<Option<Received>, Error>,
+    t: Ticks,
+    ticks: &mut [i32; 4],
+    counts: &mut [u32; 3],
+)
     ensures { Rows t a ticks.old counts.old ticks.new counts.new }
 {
-    if is_refused(a) {
-        return;
+    if a.is_ok() {
+        write_ticks(t, ticks, counts);
     }
-    write_ticks(t, ticks, counts);
 }
 
 // How many messages the bytes of a delta make.
@@ -83,14 +84,7 @@ pub extern "C" fn cef_num_chunks(data: &[u8], count: &mut usize) -> u32
     ensures value { result ≡ status (num_chunks_call (pos 0) (pos 0) «data».now (pos 0)) }
     ensures count_after { count.new ≡ output (λ n. n) count.old (num_chunks_call (pos 0) (pos 0) «data».now (pos 0)) }
 {
-    let n = delta_chunks::num_chunks(data);
-    match n {
-        NumChunks::Messages(k) => {
-            *count = k;
-            0
-        }
-        NumChunks::Refused(e) => format::error_number(e),
-    }
+    told(delta_chunks::num_chunks(data), count)
 }
 
 // Writes the numbers of a message in a row; returns its kind.
@@ -142,19 +136,18 @@ pub extern "C" fn cef_chunk(
     ensures len_after { len.new ≡ output bytes_in len.old (chunk_call tick delta_tick «data».now crc i) }
 {
     let part = delta_chunks::chunk_data(data, i);
-    let c = delta_chunks::chunk_numbers(Tick(tick), Tick(delta_tick), data, crc, i);
-    match c {
-        Chunk::Message(m) => {
+    match delta_chunks::chunk_numbers(Tick(tick), Tick(delta_tick), data, crc, i) {
+        Ok(Some(m)) => {
             *kind = row_of(m, numbers);
             *len = part.len();
             0
         }
-        Chunk::End => {
+        Ok(None) => {
             *kind = 0;
             *len = 0;
             0
         }
-        Chunk::Refused(e) => format::error_number(e),
+        Err(e) => u32::from(e),
     }
 }
 
@@ -227,9 +220,8 @@ pub extern "C" fn cef_receiver_snap(
     let r = load_ticks(ticks, counts);
     let s = receive(r, m, lengths, data, parts, joined);
     *warnings = row(s.warnings);
-    let answer = s.answer;
-    put_ticks(answer, s.ticks, ticks, counts);
-    tell(answer, kind, received, len)
+    put_ticks(s.answer, s.ticks, ticks, counts);
+    tell(s.answer, kind, received, len)
 }
 
 // Takes a whole delta, into joined.
@@ -269,9 +261,8 @@ pub extern "C" fn cef_receiver_snap_single(
         joined,
     );
     *warnings = row(s.warnings);
-    let answer = s.answer;
-    put_ticks(answer, s.ticks, ticks, counts);
-    tell(answer, kind, received, len)
+    put_ticks(s.answer, s.ticks, ticks, counts);
+    tell(s.answer, kind, received, len)
 }
 
 // Takes an empty delta.
@@ -299,7 +290,6 @@ pub extern "C" fn cef_receiver_snap_empty(
     let r = load_ticks(ticks, counts);
     let s = receive_empty(r, Tick(tick), Distance(distance), lengths);
     *warnings = row(s.warnings);
-    let answer = s.answer;
-    put_ticks(answer, s.ticks, ticks, counts);
-    tell(answer, kind, received, len)
+    put_ticks(s.answer, s.ticks, ticks, counts);
+    tell(s.answer, kind, received, len)
 }

@@ -6,8 +6,6 @@ ghost use Rattle.definitions.specs.Rules.{winner_call};
 ghost use Rattle.boundary.specs.Boundary.{status};
 ghost use Rattle.capi_rules.specs.Winners.{found_after, key_after, action_after};
 
-use rules::Won;
-
 // The key and the action of the rule that wins for an ingredient, among the items of the named types.
 #[unsafe(no_mangle)]
 pub extern "C" fn cef_rule_winner(
@@ -23,18 +21,17 @@ pub extern "C" fn cef_rule_winner(
     ensures key_after { key.new ≡ key_after key.old (winner_call area.now types.now ingredient) }
     ensures action_after { action.new ≡ action_after action.old (winner_call area.now types.now ingredient) }
 {
-    let w = rules::winner(area, types, ingredient);
-    match w {
-        Won::Rule { key: k, action: a } => {
+    match rules::winner(area, types, ingredient) {
+        Ok(Some(won)) => {
             *found = 1;
-            *key = k;
-            *action = a;
+            *key = won.key;
+            *action = won.action;
             0
         }
-        Won::Nothing => {
+        Ok(None) => {
             *found = 0;
             0
         }
-        Won::Refused(e) => format::error_number(e),
+        Err(e) => u32::from(e),
     }
 }

@@ -8,22 +8,23 @@ ghost use Rattle.definitions.specs.Types.{typed_read_call, typed_read_from_ints_
 ghost use Rattle.definitions.specs.Builder.{new_call, builder_add_item_call, finish_call};
 ghost use Rattle.snap.specs.Answers.{type_of};
 ghost use Rattle.format.specs.Totals as Totals;
-ghost use Rattle.boundary.specs.Boundary.{status, warnings_of, output, flag, item_into};
+ghost use Rattle.boundary.specs.Boundary as Boundary;
+ghost use Rattle.boundary.specs.Boundary.{status, warnings_of, output, item_into};
 ghost use Rattle.capi_snaps.specs.Types.{type_in, is_known, raw_or, kind_of, ordinal_or, uuid_or};
 
-use boundary::checked::{part_into, told};
-use format::{WARNING_KINDS, row};
-use raw_snap::Has;
-use snap::{RawTypeId, TypeFound, TypeId};
+use boundary::checked::{flag, part_into, told, told_reading};
+use format::WARNING_KINDS;
+use snap::TypeId;
 
 // The type that three parameters give: the number if the first is 0, else the kind.
 fn type_in(is_uuid: u32, ordinal: u16, uuid: &[i32; 4]) -> TypeId
     ensures { type_of result ≡ type_in is_uuid ordinal uuid.now }
 {
     if is_uuid == 0 {
-        return TypeId::Ordinal(ordinal);
+        TypeId::Ordinal(ordinal)
+    } else {
+        TypeId::Uuid(uuid[0], uuid[1], uuid[2], uuid[3])
     }
-    TypeId::Uuid(uuid[0], uuid[1], uuid[2], uuid[3])
 }
 
 // Applies a delta to its base and writes the table into the front of out.
@@ -42,10 +43,11 @@ pub extern "C" fn cef_table_read_with_delta(
     ensures count_after { count.new ≡ output (λ n. n) count.old (raw_read_with_delta_call base.now delta.now out.old (length scratch.old)).answer }
     ensures warnings_after { warnings.new ≡ Totals.row (warnings_of (raw_read_with_delta_call base.now delta.now out.old (length scratch.old)).answer) }
 {
-    let read = raw_snap::read_with_delta(base, delta, out, scratch);
-    *warnings = row(read.warnings);
-    let answer = read.answer;
-    told(answer, count)
+    told_reading(
+        raw_snap::read_with_delta(base, delta, out, scratch),
+        count,
+        warnings,
+    )
 }
 
 // Applies a delta to its base and writes the table, with sound types, into the front of out.
@@ -64,10 +66,11 @@ pub extern "C" fn cef_snap_read_with_delta(
     ensures count_after { count.new ≡ output (λ n. n) count.old (typed_read_with_delta_call base.now delta.now out.old (length scratch.old)).answer }
     ensures warnings_after { warnings.new ≡ Totals.row (warnings_of (typed_read_with_delta_call base.now delta.now out.old (length scratch.old)).answer) }
 {
-    let read = snap::read_with_delta(base, delta, out, scratch);
-    *warnings = row(read.warnings);
-    let answer = read.answer;
-    told(answer, count)
+    told_reading(
+        snap::read_with_delta(base, delta, out, scratch),
+        count,
+        warnings,
+    )
 }
 
 // Reads a packed table with sound types into the front of out.
@@ -85,10 +88,7 @@ pub extern "C" fn cef_snap_read(
     ensures count_after { count.new ≡ output (λ n. n) count.old (typed_read_call src.now out.old (length scratch.old)).answer }
     ensures warnings_after { warnings.new ≡ Totals.row (warnings_of (typed_read_call src.now out.old (length scratch.old)).answer) }
 {
-    let read = snap::read(src, out, scratch);
-    *warnings = row(read.warnings);
-    let answer = read.answer;
-    told(answer, count)
+    told_reading(snap::read(src, out, scratch), count, warnings)
 }
 
 // Reads a table from ints, with sound types, into the front of out.
@@ -106,10 +106,7 @@ pub extern "C" fn cef_snap_read_from_ints(
     ensures count_after { count.new ≡ output (λ n. n) count.old (typed_read_from_ints_call src.now out.old (length scratch.old)).answer }
     ensures warnings_after { warnings.new ≡ Totals.row (warnings_of (typed_read_from_ints_call src.now out.old (length scratch.old)).answer) }
 {
-    let read = snap::read_from_ints(src, out, scratch);
-    *warnings = row(read.warnings);
-    let answer = read.answer;
-    told(answer, count)
+    told_reading(snap::read_from_ints(src, out, scratch), count, warnings)
 }
 
 // The raw type of a type, if the table has one.
@@ -126,18 +123,17 @@ pub extern "C" fn cef_snap_raw_type_id(
     ensures known_after { known.new ≡ output is_known known.old (raw_type_id_call area.now (type_in is_uuid ordinal uuid.now)) }
     ensures raw_type_id_after { raw_type_id.new ≡ output (raw_or raw_type_id.old) raw_type_id.old (raw_type_id_call area.now (type_in is_uuid ordinal uuid.now)) }
 {
-    let found = snap::raw_type_id(area, type_in(is_uuid, ordinal, uuid));
-    match found {
-        RawTypeId::Raw(n) => {
+    match snap::raw_type_id(area, type_in(is_uuid, ordinal, uuid)) {
+        Ok(Some(n)) => {
             *known = 1;
             *raw_type_id = n;
             0
         }
-        RawTypeId::Unknown => {
+        Ok(None) => {
             *known = 0;
             0
         }
-        RawTypeId::Refused(e) => format::error_number(e),
+        Err(e) => u32::from(e),
     }
 }
 
@@ -155,23 +151,22 @@ pub extern "C" fn cef_snap_type_id(
     ensures ordinal_after { ordinal.new ≡ output (ordinal_or ordinal.old) ordinal.old (type_id_call area.now raw_type_id) }
     ensures uuid_after { uuid.new ≡ output (uuid_or uuid.old) uuid.old (type_id_call area.now raw_type_id) }
 {
-    let found = snap::type_id(area, raw_type_id);
-    match found {
-        TypeFound::Ordinal(n) => {
+    match snap::type_id(area, raw_type_id) {
+        Ok(Some(TypeId::Ordinal(n))) => {
             *kind = 1;
             *ordinal = n;
             0
         }
-        TypeFound::Uuid(a, b, c, d) => {
+        Ok(Some(TypeId::Uuid(a, b, c, d))) => {
             *kind = 2;
             *uuid = [a, b, c, d];
             0
         }
-        TypeFound::Unknown => {
+        Ok(None) => {
             *kind = 0;
             0
         }
-        TypeFound::Refused(e) => format::error_number(e),
+        Err(e) => u32::from(e),
     }
 }
 
@@ -186,23 +181,16 @@ pub extern "C" fn cef_snap_has_item(
     has: &mut u32,
 ) -> u32
     ensures value { result ≡ status (typed_has_item_call area.now (type_in is_uuid ordinal uuid.now) id) }
-    ensures has_after { has.new ≡ output flag has.old (typed_has_item_call area.now (type_in is_uuid ordinal uuid.now) id) }
+    ensures has_after { has.new ≡ output Boundary.flag has.old (typed_has_item_call area.now (type_in is_uuid ordinal uuid.now) id) }
 {
-    let h = snap::has_item(area, type_in(is_uuid, ordinal, uuid), id);
-    match h {
-        Has::Yes => {
-            *has = 1;
-            0
-        }
-        Has::No => {
-            *has = 0;
-            0
-        }
-        Has::Refused(e) => format::error_number(e),
-    }
+    told(
+        snap::has_item(area, type_in(is_uuid, ordinal, uuid), id).map(flag),
+        has,
+    )
 }
 
 // Copies the data of an item of a type into the front of out; nothing if there is no such item. An empty part may mean a refusal: `has_item` tells.
+#[tactic(auto, unfolding(boundary::specs::Boundary::item_into, boundary::specs::Boundary::part_into, definitions::specs::Stored::stored, definitions::specs::Types::typed_item_call))]
 #[unsafe(no_mangle)]
 pub extern "C" fn cef_snap_item(
     area: &[i32],
@@ -219,14 +207,12 @@ pub extern "C" fn cef_snap_item(
 {
     let type_id = type_in(is_uuid, ordinal, uuid);
     let part = snap::item(area, type_id, id);
-    if part.len() != 0 {
+    if !part.is_empty() {
         return part_into(part, out, count);
     }
-    let h = snap::has_item(area, type_id, id);
-    match h {
-        Has::Yes => part_into(part, out, count),
-        Has::No => part_into(part, out, count),
-        Has::Refused(e) => format::error_number(e),
+    match snap::has_item(area, type_id, id) {
+        Ok(_) => part_into(part, out, count),
+        Err(e) => u32::from(e),
     }
 }
 

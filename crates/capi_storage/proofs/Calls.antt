@@ -1,29 +1,20 @@
 -- What C sees, given a known call. Assumes nothing.
-use mathlib.Core.Path.{◌≡◌, refl}
-use mathlib.Core.List.{List}
-use mathlib.Core.Option.{Option}
-use Prim.Native.Nat.{ℕ}
-use lib.IntN.{ℤ}
-use Rattle.definitions.specs.Refusals.{delta_differing_sizes}
+use Rattle.std.specs.Prelude.{◌≡◌, refl, List, ℕ, ℤ, Result, Ok, Err}
+use Rattle.std.proofs.Math.Option.{Option}
 use Rattle.definitions.specs.Warnings.{Counts}
 use Rattle.definitions.specs.Outcome.{Outcome}
 use Rattle.definitions.specs.Storage.{Store}
-use Rattle.definitions.specs.StorageCalls.{StoreStep, AddStep, set_delta_tick_call, add_delta_call, add_snap_call, add_snap_clash, tick_call}
-use Rattle.format.specs.Numbers.{number}
+use Rattle.definitions.specs.StorageCalls.{StoreStep, AddStep, set_delta_tick_call, add_delta_call, add_snap_call, add_snap_clash}
+use Rattle.delta_making.specs.declared.MakeError.{MakeError}
 use Rattle.format.specs.declared.Error.{Error}
 use Rattle.format.specs.Totals.{row}
-use Rattle.boundary.specs.Boundary.{status, warnings_of, output, key_or}
+use Rattle.boundary.specs.Boundary.{status, warnings_of, output, refusal, key_or}
 use Rattle.boundary_states.specs.Rows.{SavedStore}
 use Rattle.boundary_states.specs.Few.{Fits}
 use Rattle.ticks.specs.declared.Tick.{Tick}
 use Rattle.storage.specs.Answers.{set_with, added_in, added_clash}
 use Rattle.storage.specs.Taking.{taken_with}
-use Rattle.storage.specs.declared.Set.{Set}
-use Rattle.storage.specs.declared.Set.TheVariants as set
-use Rattle.storage.specs.declared.Taken.{Taken}
-use Rattle.storage.specs.declared.Taken.TheVariants as taken
 use Rattle.storage.specs.declared.Added.{Added}
-use Rattle.storage.specs.declared.Added.TheVariants as added
 use Rattle.capi_storage.specs.Told.{Told, ToldAdded, Beside}
 
 -- ---- calls with an equal store and equal numbers
@@ -41,9 +32,6 @@ pub clash-moved : {s h : Store} {t' t : ℤ} (area table delta : List ℤ) {k : 
     → k ≡ add_snap_clash s area t' table delta → k ≡ add_snap_clash h area t table delta
 clash-moved area table delta p q e = rw (p, q) at e
 
-pub tick-moved : {s h : Store} (area : List ℤ) (i : ℕ) {o : Outcome (Option ℤ)} → s ≡ h → tick_call s area i ≡ o → tick_call h area i ≡ o
-tick-moved area i p e = rw p at e
-
 -- ---- the store fits into its rows
 
 module _ {A : Type 0} (o : StoreStep A) {a : Outcome A} {s : Store} {area : List ℤ} (e : o ≡ record { answer = a; store = s; area = area }) where
@@ -56,34 +44,32 @@ module _ {A : Type 0} (o : StoreStep A) {a : Outcome A} {s : Store} {area : List
 
 -- ---- the answers
 
-pub set-warned : (a : Set) (w : Counts) → warnings_of (set_with a w) ≡ w
-set-warned set.Done w = refl
-set-warned (set.Refused x) w = refl
+pub set-warned : (a : Result (Unit {0}) Error) (w : Counts) → warnings_of (set_with a w) ≡ w
+set-warned (Ok _) w = refl
+set-warned (Err x) w = refl
 
-pub taken-warned : (a : Taken) (w : Counts) → warnings_of (taken_with a w) ≡ w
-taken-warned (taken.Tick t) w = refl
-taken-warned (taken.Refused x) w = refl
+pub set-number : (a : Result (Unit {0}) Error) (w : Counts) → refusal a ≡ status (set_with a w)
+set-number (Ok _) w = refl
+set-number (Err x) w = refl
+
+pub taken-warned : (a : Result Tick Error) (w : Counts) → warnings_of (taken_with a w) ≡ w
+taken-warned (Ok t) w = refl
+taken-warned (Err x) w = refl
+
+pub taken-number : (a : Result Tick Error) (w : Counts) → refusal a ≡ status (taken_with a w)
+taken-number (Ok t) w = refl
+taken-number (Err x) w = refl
 
 -- ---- adding a table
 
-module _ (a : Added) where
-  -- the values of the outputs
-  abbrev pub Tells : (r : ℕ) (base₀ base : ℤ) (count₀ count : ℕ) (clash₀ clash : ℤ) → Type 0
-  Tells r base₀ base count₀ count clash₀ clash =
-      (r ≡ status (added_in a))
-      × ((base ≡ output (λ x. x.base) base₀ (added_in a))
-      × ((count ≡ output (λ x. x.ints) count₀ (added_in a)) × (clash ≡ key_or clash₀ (added_clash a))))
+-- the values of the outputs
+abbrev pub Tells : (a : Result Added MakeError) (r : ℕ) (base₀ base : ℤ) (count₀ count : ℕ) (clash₀ clash : ℤ) → Type 0
+Tells a r base₀ base count₀ count clash₀ clash =
+    (r ≡ status (added_in a))
+    × ((base ≡ output (λ x. x.base) base₀ (added_in a))
+    × ((count ≡ output (λ x. x.ints) count₀ (added_in a)) × (clash ≡ key_or clash₀ (added_clash a))))
 
-  pub tells-delta : {b : Tick} {b' : ℤ} {n : ℕ} → a ≡ added.Delta b n → b' ≡ b.0 → (base₀ : ℤ) (count₀ : ℕ) (clash₀ : ℤ) → Tells 0 base₀ b' count₀ n clash₀ clash₀
-  tells-delta e p base₀ count₀ clash₀ = rw (e, p) (refl, (refl, (refl, refl)))
-
-  pub tells-clash : {k k' : ℤ} → a ≡ added.DifferingSizes k → k' ≡ k → (r : ℕ) (base₀ : ℤ) (count₀ : ℕ) (clash₀ : ℤ) → r ≡ delta_differing_sizes → Tells r base₀ base₀ count₀ count₀ clash₀ k'
-  tells-clash e q r base₀ count₀ clash₀ p = rw (e, q, p) (refl, (refl, (refl, refl)))
-
-  pub tells-refused : {x : Error} → a ≡ added.Refused x → (r : ℕ) (base₀ : ℤ) (count₀ : ℕ) (clash₀ : ℤ) → r ≡ number x → Tells r base₀ base₀ count₀ count₀ clash₀ clash₀
-  tells-refused e r base₀ count₀ clash₀ p = rw (e, p) (refl, (refl, (refl, refl)))
-
-module _ (o : AddStep) (a : Added) {s : Store} {area delta : List ℤ} (e : o ≡ record { answer = added_in a; store = s; area = area; delta = delta }) where
+module _ (o : AddStep) (a : Result Added MakeError) {s : Store} {area delta : List ℤ} (e : o ≡ record { answer = added_in a; store = s; area = area; delta = delta }) where
   pub fits-added : Fits o.store → Fits s
   fits-added f = rw e at f
 

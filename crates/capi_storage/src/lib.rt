@@ -3,19 +3,18 @@
 
 ghost use Rattle.std.specs.Prelude.{◌≡◌, length};
 ghost use Rattle.definitions.specs.Areas.{cleared};
-ghost use Rattle.definitions.specs.Warnings.{Counts};
 ghost use Rattle.definitions.specs.Storage.{beside, fresh_storage};
 ghost use Rattle.definitions.specs.StorageCalls.{add_delta_call, reset_call, set_delta_tick_call, add_snap_call, add_snap_clash, tick_call, table_call};
 ghost use Rattle.boundary.specs.Boundary.{status, output, part_into, key_or, ended, given};
 ghost use Rattle.boundary_states.specs.Rows.{store_ticks, store_counts, held_store};
-ghost use Rattle.storage.specs.Answers.{set_with, added_in, added_clash};
-ghost use Rattle.storage.specs.Taking.{taken_with};
+ghost use Rattle.storage.specs.Answers.{added_in, added_clash};
 ghost use Rattle.capi_storage.specs.Told.{Told, ToldAdded};
 
-use boundary::checked::part_into;
+use boundary::checked::{number, part_into};
 use boundary_states::checked::{load_storage, save_storage, write_storage};
+use delta_making::MakeError;
 use format::{Error, WARNING_KINDS, row};
-use storage::{Added, HeldTick, Set, Storage, Taken};
+use storage::{Added, Storage};
 use ticks::Tick;
 
 // A store without tables.
@@ -54,19 +53,17 @@ pub extern "C" fn cef_storage_snap_tick(
     ensures end_after { end.new ≡ output ended end.old (tick_call (held_store ticks.now counts.now) area.now i) }
 {
     let s = load_storage(ticks, counts);
-    let t = s.snap_tick(area, i);
-    match t {
-        HeldTick::At(at) => {
-            let number = at.0;
-            *tick = number;
+    match s.snap_tick(area, i) {
+        Ok(Some(at)) => {
+            *tick = at.0;
             *end = 0;
             0
         }
-        HeldTick::End => {
+        Ok(None) => {
             *end = 1;
             0
         }
-        HeldTick::Refused(e) => format::error_number(e),
+        Err(e) => u32::from(e),
     }
 }
 
@@ -88,16 +85,6 @@ pub extern "C" fn cef_storage_snap(
     part_into(s.snap(area, i), out, count)
 }
 
-// The number of an answer.
-fn set_number(a: Set) -> u32
-    ensures { (w : Counts) → result ≡ status (set_with a w) }
-{
-    match a {
-        Set::Done => 0,
-        Set::Refused(e) => format::error_number(e),
-    }
-}
-
 // Sets the base of the tables that are added; a negative tick sets none.
 #[unsafe(no_mangle)]
 pub extern "C" fn cef_storage_set_delta_tick(
@@ -113,29 +100,27 @@ pub extern "C" fn cef_storage_set_delta_tick(
     let set = s.set_delta_tick(Tick(tick), area);
     *warnings = row(set.warnings);
     save_storage(set.storage, ticks, counts);
-    let answer = set.answer;
-    set_number(answer)
+    number(set.answer)
 }
 
 // Sets the outputs for an added table; returns the number of the answer.
-fn tell(a: Added, base: &mut i32, count: &mut usize, clash: &mut i32) -> u32
+fn tell(a: Result<Added, MakeError>, base: &mut i32, count: &mut usize, clash: &mut i32) -> u32
     ensures value { result ≡ status (added_in a) }
     ensures base_after { base.new ≡ output (λ x. x.base) base.old (added_in a) }
     ensures count_after { count.new ≡ output (λ x. x.ints) count.old (added_in a) }
     ensures clash_after { clash.new ≡ key_or clash.old (added_clash a) }
 {
     match a {
-        Added::Delta { base: b, ints } => {
-            let number = b.0;
-            *base = number;
-            *count = ints;
+        Ok(added) => {
+            *base = added.base.0;
+            *count = added.ints;
             0
         }
-        Added::DifferingSizes(key) => {
+        Err(MakeError::DifferingSizes(key)) => {
             *clash = key;
-            format::error_number(Error::DeltaDifferingSizes)
+            u32::from(Error::DeltaDifferingSizes)
         }
-        Added::Refused(e) => format::error_number(e),
+        Err(MakeError::Refused(e)) => u32::from(e),
     }
 }
 
@@ -160,18 +145,7 @@ pub extern "C" fn cef_storage_add_snap(
     let s = load_storage(ticks, counts);
     let added = s.add_snap(Tick(tick), table, delta, area);
     save_storage(added.storage, ticks, counts);
-    let answer = added.answer;
-    tell(answer, base, count, clash)
-}
-
-// The number of an answer.
-fn taken_number(a: Taken) -> u32
-    ensures { (w : Counts) → result ≡ status (taken_with a w) }
-{
-    match a {
-        Taken::Tick(_) => 0,
-        Taken::Refused(e) => format::error_number(e),
-    }
+    tell(added.answer, base, count, clash)
 }
 
 // Takes a delta for a tick and applies it to its base; the resulting table is held and acknowledged.
@@ -196,6 +170,5 @@ pub extern "C" fn cef_storage_add_delta(
     let taking = s.add_delta(has_crc != 0, crc, base, Tick(tick), delta, area, scratch);
     *warnings = row(taking.warnings);
     save_storage(taking.storage, ticks, counts);
-    let answer = taking.answer;
-    taken_number(answer)
+    number(taking.answer)
 }

@@ -6,13 +6,12 @@ ghost use Rattle.definitions.specs.Areas.{cleared};
 ghost use Rattle.definitions.specs.Tables.{key_of};
 ghost use Rattle.definitions.specs.TableCalls.{empty_call, read_call, read_from_ints_call, write_to_ints_call, write_call, num_items_call, has_item_call, crc_call, walk_key_call, add_item_call};
 ghost use Rattle.format.specs.Totals as Totals;
-ghost use Rattle.boundary.specs.Boundary.{status, warnings_of, output, flag, item_into, key_or, ended};
+ghost use Rattle.boundary.specs.Boundary as Boundary;
+ghost use Rattle.boundary.specs.Boundary.{status, warnings_of, output, item_into, key_or, ended};
 ghost use Rattle.capi_tables.specs.Items.{item_in, walk_item_in};
 
-use boundary::checked::{part_into, told};
-use format::{WARNING_KINDS, row};
-use packer::IntWrite;
-use raw_snap::{Checksum, Count, Has, Walked};
+use boundary::checked::{flag, part_into, told, told_reading};
+use format::WARNING_KINDS;
 
 // Writes the empty table into the front of out.
 #[unsafe(no_mangle)]
@@ -39,10 +38,7 @@ pub extern "C" fn cef_table_read(
     ensures count_after { count.new ≡ output (λ n. n) count.old (read_call src.now out.old (length scratch.old)).answer }
     ensures warnings_after { warnings.new ≡ Totals.row (warnings_of (read_call src.now out.old (length scratch.old)).answer) }
 {
-    let read = raw_snap::read(src, out, scratch);
-    *warnings = row(read.warnings);
-    let answer = read.answer;
-    told(answer, count)
+    told_reading(raw_snap::read(src, out, scratch), count, warnings)
 }
 
 // Reads a table from ints into the front of out.
@@ -58,10 +54,7 @@ pub extern "C" fn cef_table_read_from_ints(
     ensures count_after { count.new ≡ output (λ n. n) count.old (read_from_ints_call src.now out.old).answer }
     ensures warnings_after { warnings.new ≡ Totals.row (warnings_of (read_from_ints_call src.now out.old).answer) }
 {
-    let read = raw_snap::read_from_ints(src, out);
-    *warnings = row(read.warnings);
-    let answer = read.answer;
-    told(answer, count)
+    told_reading(raw_snap::read_from_ints(src, out), count, warnings)
 }
 
 // Packs a table into the front of out.
@@ -71,14 +64,7 @@ pub extern "C" fn cef_table_write(area: &[i32], out: &mut [u8], count: &mut usiz
     ensures out_after { out.new ≡ (write_call area.now out.old).out }
     ensures count_after { count.new ≡ output (λ n. n) count.old (write_call area.now out.old).answer }
 {
-    let w = raw_snap::write(area, out);
-    match w {
-        IntWrite::Next(n) => {
-            *count = n;
-            0
-        }
-        IntWrite::Refused(e) => format::error_number(e),
-    }
+    told(raw_snap::write(area, out), count)
 }
 
 // Writes a table's written form into the front of out.
@@ -97,37 +83,20 @@ pub extern "C" fn cef_table_num_items(area: &[i32], count: &mut usize) -> u32
     ensures value { result ≡ status (num_items_call area.now) }
     ensures count_after { count.new ≡ output (λ n. n) count.old (num_items_call area.now) }
 {
-    let c = raw_snap::num_items(area);
-    match c {
-        Count::Items(n) => {
-            *count = n;
-            0
-        }
-        Count::Refused(e) => format::error_number(e),
-    }
+    told(raw_snap::num_items(area), count)
 }
 
 // Whether a table has an item.
 #[unsafe(no_mangle)]
 pub extern "C" fn cef_table_has_item(area: &[i32], raw_type_id: u16, id: u16, has: &mut u32) -> u32
     ensures value { result ≡ status (has_item_call area.now (key_of raw_type_id id)) }
-    ensures has_after { has.new ≡ output flag has.old (has_item_call area.now (key_of raw_type_id id)) }
+    ensures has_after { has.new ≡ output Boundary.flag has.old (has_item_call area.now (key_of raw_type_id id)) }
 {
-    let h = raw_snap::has_item(area, raw_type_id, id);
-    match h {
-        Has::Yes => {
-            *has = 1;
-            0
-        }
-        Has::No => {
-            *has = 0;
-            0
-        }
-        Has::Refused(e) => format::error_number(e),
-    }
+    told(raw_snap::has_item(area, raw_type_id, id).map(flag), has)
 }
 
 // Copies the data of an item into the front of out; nothing if there is no such item. An empty part may mean a refusal: `has_item` tells.
+#[tactic(auto, unfolding(boundary::specs::Boundary::item_into, boundary::specs::Boundary::part_into, definitions::specs::Stored::stored, definitions::specs::TableCalls::item_call))]
 #[unsafe(no_mangle)]
 pub extern "C" fn cef_table_item(
     area: &[i32],
@@ -141,14 +110,12 @@ pub extern "C" fn cef_table_item(
     ensures count_after { count.new ≡ output (λ n. n) count.old (item_into (item_in area.now (key_of raw_type_id id)) out.old).answer }
 {
     let part = raw_snap::item(area, raw_type_id, id);
-    if part.len() != 0 {
+    if !part.is_empty() {
         return part_into(part, out, count);
     }
-    let h = raw_snap::has_item(area, raw_type_id, id);
-    match h {
-        Has::Yes => part_into(part, out, count),
-        Has::No => part_into(part, out, count),
-        Has::Refused(e) => format::error_number(e),
+    match raw_snap::has_item(area, raw_type_id, id) {
+        Ok(_) => part_into(part, out, count),
+        Err(e) => u32::from(e),
     }
 }
 
@@ -158,14 +125,7 @@ pub extern "C" fn cef_table_crc(area: &[i32], crc: &mut i32) -> u32
     ensures value { result ≡ status (crc_call area.now) }
     ensures crc_after { crc.new ≡ output (λ s. s) crc.old (crc_call area.now) }
 {
-    let c = raw_snap::crc(area);
-    match c {
-        Checksum::Sum(s) => {
-            *crc = s;
-            0
-        }
-        Checksum::Refused(e) => format::error_number(e),
-    }
+    told(raw_snap::crc(area), crc)
 }
 
 // The key of the i-th item in signed key order.
@@ -175,22 +135,22 @@ pub extern "C" fn cef_table_walk_key(area: &[i32], i: usize, key: &mut i32, end:
     ensures key_after { key.new ≡ output (key_or key.old) key.old (walk_key_call area.now i) }
     ensures end_after { end.new ≡ output ended end.old (walk_key_call area.now i) }
 {
-    let w = raw_snap::walk_key(area, i);
-    match w {
-        Walked::Key(k) => {
+    match raw_snap::walk_key(area, i) {
+        Ok(Some(k)) => {
             *key = k;
             *end = 0;
             0
         }
-        Walked::End => {
+        Ok(None) => {
             *end = 1;
             0
         }
-        Walked::Refused(e) => format::error_number(e),
+        Err(e) => u32::from(e),
     }
 }
 
 // Copies the data of the i-th item in that order into the front of out; nothing past the end. An empty part may mean a refusal: `walk_key` tells.
+#[tactic(auto, unfolding(boundary::specs::Boundary::item_into, boundary::specs::Boundary::part_into, definitions::specs::Stored::stored, definitions::specs::TableCalls::walk_item_call))]
 #[unsafe(no_mangle)]
 pub extern "C" fn cef_table_walk_item(
     area: &[i32],
@@ -203,14 +163,12 @@ pub extern "C" fn cef_table_walk_item(
     ensures count_after { count.new ≡ output (λ n. n) count.old (item_into (walk_item_in area.now i) out.old).answer }
 {
     let values = raw_snap::walk_item(area, i);
-    if values.len() != 0 {
+    if !values.is_empty() {
         return part_into(values, out, count);
     }
-    let w = raw_snap::walk_key(area, i);
-    match w {
-        Walked::Key(_) => part_into(values, out, count),
-        Walked::End => part_into(values, out, count),
-        Walked::Refused(e) => format::error_number(e),
+    match raw_snap::walk_key(area, i) {
+        Ok(_) => part_into(values, out, count),
+        Err(e) => u32::from(e),
     }
 }
 

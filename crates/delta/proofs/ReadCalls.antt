@@ -1,6 +1,6 @@
 -- The results of the calls that read a delta, with all their warnings. Assumes nothing.
 use mathlib.Core.Path.{◌≡◌, refl, sym, ap, ap₂, ◌∙◌}
-use mathlib.Core.Bool.{Bool, true, false, ◌||◌, true≢false}
+use mathlib.Core.Bool.{true, false}
 use mathlib.Core.List.{List, [], ◌∷◌}
 use Prim.Native.Nat.{ℕ, ◌≤◌, ◌<◌}
 use native.Mathlib.Nat.{add-zero, zero-add}
@@ -9,25 +9,24 @@ use borrow.Author.Tests.{le-leb, lt-leb}
 use lib.IntN.{ℤ}
 use lib.ListN.{length, take, drop}
 use lib.Seq.{take_at}
+use Rattle.std.specs.Prelude.{Some}
 use Rattle.definitions.specs.Refusals.{scratch_too_short, input_too_long}
 use Rattle.definitions.specs.Warnings.{Counts, none, plus}
-use Rattle.definitions.specs.Outcome.{Outcome, refuse, after, Wrote}
+use Rattle.definitions.specs.Outcome.{Outcome, refuse, Wrote}
 use Rattle.definitions.specs.Stored.{stored}
 use Rattle.definitions.specs.Stream.{Stream, stream, ints, warnings}
 use Rattle.definitions.specs.DeltaReading.{int_stream, read_delta}
 use Rattle.definitions.specs.DeltaCalls.{stored_delta, read_from_ints_call, read_call}
 use Rattle.laws.specs.WarningLaws.{packed}
-use Rattle.laws.specs.OutcomeLaws.{after_none}
 use Rattle.laws.specs.AreaLaws.{lay-append}
 use Rattle.laws.specs.StreamLaws.{few-ints, is_whole, whole_is}
 use Rattle.laws.specs.DeltaReadBack.{ints-int_stream}
 use Rattle.packer.specs.Scans.{Scanned}
 use Rattle.packer.specs.declared.checked.Totals.{Totals}
 use Rattle.format.specs.Answers.{stored_with}
-use Rattle.format.specs.declared.Stored.{Stored}
 use Rattle.format.specs.Sources.{deleted_counts, delta_counts}
 use Rattle.delta_reading.specs.Answers.{OrderedRead}
-use Rattle.delta_reading.specs.declared.checked.Ordered.TheVariants as ordered
+use Rattle.delta_reading.specs.declared.checked.Ordered.{Ordered}
 use Rattle.delta_source.specs.Source.{source, from}
 
 -- one answer for another
@@ -48,12 +47,6 @@ module _ (src sizes out : List ℤ) (scratch : ℕ) where
     unfolding stored_delta stored
     ints-too-many m = rw (le-leb 16384 scratch h, lt-leb (length src) 1048576 m)
 
-    -- within the limits
-    pub ints-judged : length src ≤ 1048576 → read_from_ints_call src sizes out scratch ≡ stored_delta out (read_delta sizes (int_stream src))
-    ints-judged m =
-        let o = read_delta sizes (int_stream src) in
-        rw (le-leb 16384 scratch h, le-leb (length src) 1048576 m) (ap (stored_delta out) (after_none (after none o) ∙ after_none o))
-
 module _ (src : List ℕ) (sizes out : List ℤ) (scratch : ℕ) where
   -- scratch is too short
   pub bytes-too-short : scratch < 16384 → read_call src sizes out scratch ≡ record { answer = refuse scratch_too_short; out = out }
@@ -70,12 +63,6 @@ module _ (src : List ℕ) (sizes out : List ℤ) (scratch : ℕ) where
     pub bytes-too-many : 1048576 < length src → read_call src sizes out scratch ≡ record { answer = refuse input_too_long; out = out }
     unfolding stored_delta stored
     bytes-too-many m = rw (le-leb 16384 scratch h, le-leb (length src) scratch k, lt-leb (length src) 1048576 m)
-
-    -- within the limits
-    pub bytes-judged : length src ≤ 1048576 → read_call src sizes out scratch ≡ stored_delta out (read_delta sizes (stream src))
-    bytes-judged m =
-        let o = read_delta sizes (stream src) in
-        rw (le-leb 16384 scratch h, le-leb (length src) scratch k, le-leb (length src) 1048576 m) (ap (stored_delta out) (after_none (after none o) ∙ after_none o))
 
 -- ---- in any order
 
@@ -113,16 +100,16 @@ no-warnings : (xs : List ℤ) → packed 0 ≡ warnings (int_stream xs)
 no-warnings [] = refl
 no-warnings (x ∷ xs) = ap (plus none) (no-warnings xs)
 
-module _ (sizes src out last : List ℤ) (a : Stored) (n : ℕ) (r : OrderedRead sizes src out last (ordered.Read a n)) where
+module _ (sizes src out last : List ℤ) (x : Ordered) (r : OrderedRead sizes src out last (Some x)) where
   -- of any whole stream of these ints with so many warnings
-  one-pass : (s : Stream) (o : ℕ) (w : Counts) → ints s ≡ src → is_whole s ≡ true → packed o ≡ warnings s → w ≡ delta_counts o false false 0 n false → stored_delta out (read_delta sizes s) ≡ record { answer = stored_with a w; out = last }
+  one-pass : (s : Stream) (o : ℕ) (w : Counts) → ints s ≡ src → is_whole s ≡ true → packed o ≡ warnings s → w ≡ delta_counts o false false 0 x.delete_updates false → stored_delta out (read_delta sizes s) ≡ record { answer = stored_with x.answer w; out = last }
   one-pass s o w i c v q =
       r s i c
-      ∙ ap (λ (u : Counts). record { answer = stored_with a u; out = last })
-      (ap (λ (u : Counts). plus u (deleted_counts n)) (sym v) ∙ (sym (ordered-counts o n) ∙ sym q))
+      ∙ ap (λ (u : Counts). record { answer = stored_with x.answer u; out = last })
+      (ap (λ (u : Counts). plus u (deleted_counts x.delete_updates)) (sym v) ∙ (sym (ordered-counts o x.delete_updates) ∙ sym q))
 
   -- of ints
-  pub ordered-ints : (w : Counts) → w ≡ delta_counts 0 false false 0 n false → stored_delta out (read_delta sizes (int_stream src)) ≡ record { answer = stored_with a w; out = last }
+  pub ordered-ints : (w : Counts) → w ≡ delta_counts 0 false false 0 x.delete_updates false → stored_delta out (read_delta sizes (int_stream src)) ≡ record { answer = stored_with x.answer w; out = last }
   ordered-ints w q = one-pass (int_stream src) 0 w (ints-int_stream src) (whole-ints src) (no-warnings src) q
 
 module _ (src : List ℕ) (before after : List ℤ) (t : Totals) (s : Scanned (stream src) before t after) where
@@ -132,17 +119,11 @@ module _ (src : List ℕ) (before after : List ℤ) (t : Totals) (s : Scanned (s
       let all = ints (stream src) in
       ap₂ take s.count-is (s.out-is ∙ lay-append all before (omega (arith, few-ints src))) ∙ take_at all (drop (length all) before) (length all) refl
 
-  -- and whether it came to their end
-  scanned-whole : (t.cut || t.padded) ≡ false → is_whole (stream src) ≡ true
-  scanned-whole e =
-      let n = neither t.cut t.padded e in
-      whole_is (stream src) (sym s.cut-is ∙ n.0) (sym s.padded-is ∙ n.1)
-    where
-      neither : (a b : Bool) → (a || b) ≡ false → (a ≡ false) × (b ≡ false)
-      neither false b e = (refl, e)
-      neither true b e = (e, absurd (true≢false e))
-
   -- of packed bytes that are whole
-  pub ordered-bytes : (sizes out last : List ℤ) (a : Stored) (n : ℕ) (w : Counts) → length src ≤ length before → (t.cut || t.padded) ≡ false → OrderedRead sizes (take t.count after) out last (ordered.Read a n) → w ≡ delta_counts t.overlong false false 0 n false → stored_delta out (read_delta sizes (stream src)) ≡ record { answer = stored_with a w; out = last }
-  ordered-bytes sizes out last a n w h c r q =
-      one-pass sizes (take t.count after) out last a n r (stream src) t.overlong w (sym (scanned-ints h)) (scanned-whole c) s.warnings-are q
+  pub ordered-bytes :
+      (sizes out last : List ℤ) (x : Ordered) (w : Counts) → length src ≤ length before → t.cut ≡ false → t.padded ≡ false →
+      OrderedRead sizes (take t.count after) out last (Some x) → w ≡ delta_counts t.overlong false false 0 x.delete_updates false →
+      stored_delta out (read_delta sizes (stream src)) ≡ record { answer = stored_with x.answer w; out = last }
+  ordered-bytes sizes out last x w h c p r q =
+      let whole = whole_is (stream src) (sym s.cut-is ∙ c) (sym s.padded-is ∙ p) in
+      one-pass sizes (take t.count after) out last x r (stream src) t.overlong w (sym (scanned-ints h)) whole s.warnings-are q

@@ -1,5 +1,5 @@
 // The steps of reading a delta: in one pass if its keys rise already, else in any order. They leave scratch in any state.
-ghost use Rattle.std.specs.Prelude.{◌≡◌, ◌||◌, ◌≤◌, length};
+ghost use Rattle.std.specs.Prelude.{◌≡◌, ◌≤◌, length};
 ghost use Rattle.definitions.specs.Outcome.{refuse};
 ghost use Rattle.definitions.specs.Stream.{stream};
 ghost use Rattle.definitions.specs.DeltaReading.{int_stream, read_delta};
@@ -9,16 +9,15 @@ ghost use Rattle.format.specs.Totals.{counts};
 ghost use Rattle.format.specs.Answers.{stored_with};
 
 use delta_any_order::checked::read_any;
-use delta_reading::checked::{Ordered, read_ordered};
-use format::{Error, Reading, Stored, Warnings};
-use packer::checked::Totals;
+use delta_reading::checked::read_ordered;
+use format::{Error, Reading, Warnings};
 
 // The refusal of a call before anything is read.
 pub fn refused(error: Error) -> Reading
     ensures { refuse (number error) ≡ stored_with result.answer (counts result.warnings) }
 {
     Reading {
-        answer: Stored::Refused(error),
+        answer: Err(error),
         warnings: Warnings::none(),
     }
 }
@@ -28,27 +27,13 @@ pub fn read_ints(src: &[i32], sizes: &[i32], out: &mut [i32], scratch: &mut [i32
     requires { length src.now ≤ 1048576 }
     ensures { stored_delta out.old (read_delta sizes.now (int_stream src.now)) ≡ record { answer = stored_with result.answer (counts result.warnings); out = out.new } }
 {
-    let Ordered::Read {
-        answer,
-        delete_updates,
-    } = read_ordered(src, sizes, out)
-    else {
+    let Some(ordered) = read_ordered(src, sizes, out) else {
         return read_any(b"", src, false, sizes, out, scratch);
     };
     Reading {
-        answer,
-        warnings: Warnings::delta(0, false, false, 0, delete_updates, false),
+        answer: ordered.answer,
+        warnings: Warnings::delta(0, false, false, 0, ordered.delete_updates, false),
     }
-}
-
-// Whether a pass over packed integers came to one that is cut or has padding bits set.
-fn is_stopped(all: Totals) -> bool
-    ensures { result ≡ (all.cut || all.padded) }
-{
-    if all.cut {
-        return true;
-    }
-    all.padded
 }
 
 // Reads a packed delta into the front of out.
@@ -57,19 +42,15 @@ pub fn read_packed(src: &[u8], sizes: &[i32], out: &mut [i32], scratch: &mut [i3
     ensures { stored_delta out.old (read_delta sizes.now (stream src.now)) ≡ record { answer = stored_with result.answer (counts result.warnings); out = out.new } }
 {
     let all = packer::checked::scan_all(src, scratch);
-    if is_stopped(all) {
+    if all.cut || all.padded {
         return read_any(src, &sizes[..0], true, sizes, out, scratch);
     }
-    let Ordered::Read {
-        answer,
-        delete_updates,
-    } = read_ordered(&scratch[..all.count], sizes, out)
-    else {
+    let Some(ordered) = read_ordered(&scratch[..all.count], sizes, out) else {
         return read_any(src, &sizes[..0], true, sizes, out, scratch);
     };
     Reading {
-        answer,
-        warnings: Warnings::delta(all.overlong, false, false, 0, delete_updates, false),
+        answer: ordered.answer,
+        warnings: Warnings::delta(all.overlong, false, false, 0, ordered.delete_updates, false),
     }
 }
 

@@ -7,79 +7,67 @@ ghost use Rattle.definitions.specs.DeltaCalls.{clear_call, create_call, create_c
 ghost use Rattle.delta_making.specs.Answers.{made_ints, made_clash};
 ghost use Rattle.format.specs.Totals.{counts};
 ghost use Rattle.format.specs.Answers.{stored_ints, stored_with};
-ghost use Rattle.packer.specs.Answers.{int_write};
 
-use delta_form::checked::{DeltaForm, form};
-use delta_making::Made;
+use delta_form::checked::form;
+use delta_making::MakeError;
 use delta_writing::checked::{sizes_match, write_ints, write_packed};
-use format::{Error, Reading, Stored};
-use packer::IntWrite;
-use table::checked::TableForm;
+use format::{Error, Reading};
 
 pub mod checked;
 
 // Writes the empty delta.
-pub fn clear(out: &mut [i32]) -> Stored
+pub fn clear(out: &mut [i32]) -> Result<usize, Error>
     ensures { clear_call out.old ≡ record { answer = stored_ints result; out = out.new } }
 {
     if out.len() < 3 {
-        return Stored::Refused(Error::CapacityError);
+        return Err(Error::CapacityError);
     }
     out[0] = 0;
     out[1] = 0;
     out[2] = 0;
-    Stored::Ints(3)
+    Ok(3)
 }
 
 // Writes the delta from a base table to a target table into the front of out; if items of one key differ in length, returns the least such
 // key, read as unsigned. A refused call leaves out unchanged.
-pub fn create(base: &[i32], target: &[i32], out: &mut [i32]) -> Made
+pub fn create(base: &[i32], target: &[i32], out: &mut [i32]) -> Result<usize, MakeError>
     ensures out_value { create_call base.now target.now out.old ≡ record { answer = made_ints result; out = out.new } }
     ensures result_value { made_clash result ≡ create_clash base.now target.now out.old }
 {
-    let TableForm::Table { items: nb, ints: _ } = table::checked::form(base) else {
-        return Made::Refused(Error::NotInForm);
+    let Some(b) = table::checked::form(base) else {
+        return Err(MakeError::Refused(Error::NotInForm));
     };
-    let TableForm::Table { items: nt, ints: _ } = table::checked::form(target) else {
-        return Made::Refused(Error::NotInForm);
+    let Some(t) = table::checked::form(target) else {
+        return Err(MakeError::Refused(Error::NotInForm));
     };
-    delta_making::checked::create(base, nb, target, nt, out)
+    delta_making::checked::create(base, b.items, target, t.items, out)
 }
 
 // Writes a delta's ints under known sizes into the front of out; returns the number of ints. A refused call leaves out unchanged.
-pub fn write_to_ints(area: &[i32], sizes: &[i32], out: &mut [i32]) -> Stored
+pub fn write_to_ints(area: &[i32], sizes: &[i32], out: &mut [i32]) -> Result<usize, Error>
     ensures { write_to_ints_call area.now sizes.now out.old ≡ record { answer = stored_ints result; out = out.new } }
 {
-    let DeltaForm::Delta {
-        deleted,
-        updated,
-        ints: _,
-    } = form(area, &area[..0])
-    else {
-        return Stored::Refused(Error::NotInForm);
+    let Some(delta) = form(area, &area[..0]) else {
+        return Err(Error::NotInForm);
     };
-    if !sizes_match(area, deleted, updated, sizes) {
-        return Stored::Refused(Error::KnownSizeDiffers);
+    if !sizes_match(area, delta.deleted, delta.updated, sizes) {
+        return Err(Error::KnownSizeDiffers);
     }
-    write_ints(area, deleted, updated, sizes, out)
+    write_ints(area, delta.deleted, delta.updated, sizes, out)
 }
 
 // Packs a delta under known sizes into the front of out; returns the number of bytes. A refused call leaves out unchanged.
-pub fn write(area: &[i32], sizes: &[i32], out: &mut [u8]) -> IntWrite
-    ensures { write_call area.now sizes.now out.old ≡ record { answer = int_write result; out = out.new } }
+pub fn write(area: &[i32], sizes: &[i32], out: &mut [u8]) -> Result<usize, Error>
+    ensures { write_call area.now sizes.now out.old ≡ record { answer = stored_ints result; out = out.new } }
 {
-    let DeltaForm::Delta {
-        deleted,
-        updated,
-        ints: _,
-    } = form(area, &area[..0])
-    else {
-        return IntWrite::Refused(Error::NotInForm);
+    let Some(delta) = form(area, &area[..0]) else {
+        return Err(Error::NotInForm);
     };
-    if !sizes_match(area, deleted, updated, sizes) {
-        return IntWrite::Refused(Error::KnownSizeDiffers);
+    if sizes_match(area, delta.deleted, delta.updated, sizes) {
+        write_packed(area, delta.deleted, delta.updated, sizes, out)
+    } else {
+        Err(Error::KnownSizeDiffers)
     }
-    write_packed(area, deleted, updated, sizes, out)
 }
 
 // Reads a delta from ints under known sizes into the front of out; returns how many ints it takes there. A refused call leaves out unchanged.

@@ -1,7 +1,7 @@
 -- Updates in an area, one after the other. Assumes nothing.
 use mathlib.Core.Path.{◌≡◌, sym, ap, ◌∙◌}
 use mathlib.Core.List.{List, [], ◌∷◌, ◌++◌, append_assoc}
-use Prim.Native.Nat.{ℕ, ◌+◌, ◌-◌, ◌/◌, ◌%◌, ◌≤◌, ◌<◌}
+use Prim.Native.Nat.{ℕ, ◌+◌, ◌/◌, ◌%◌, ◌≤◌, ◌<◌}
 use native.Mathlib.Omega.{arith}
 use lib.IntN.{ℤ, pos}
 use lib.ListN.{length, drop, get_or, length-append, length-drop}
@@ -35,11 +35,11 @@ module _ {area : List ℤ} {at n end : ℕ} where
       go (x ∷ items) rest s m = omega (arith, ap length (first area at x items rest s), length-drop at area)
 
   -- the others
-  pub laid-turn : Laid area at n end → 0 < n → Laid area (at + (3 + nat area (at + 2))) (n - 1) end
+  pub laid-turn : (m : ℕ) → n ≡ m + 1 → Laid area at n end → Laid area (at + (3 + nat area (at + 2))) m end
   unfolding updates_ints num nat
-  laid-turn h l = go h.items h.rest h.stands h.count h.ends
+  laid-turn m l h = go h.items h.rest h.stands h.count h.ends
     where
-      go : (items : List Item) (rest : List ℤ) → drop at area ≡ updates_ints [] items ++ rest → length items ≡ n → at + length (updates_ints [] items) ≡ end → Laid area (at + (3 + nat area (at + 2))) (n - 1) end
+      go : (items : List Item) (rest : List ℤ) → drop at area ≡ updates_ints [] items ++ rest → length items ≡ n → at + length (updates_ints [] items) ≡ end → Laid area (at + (3 + nat area (at + 2))) m end
       go [] rest s c e = absurd (omega arith)
       go (x ∷ items) rest s c e =
           let f = first area at x items rest s in

@@ -1,6 +1,5 @@
 -- What header and keys say of the front of a delta, and its keys and updates. Assumes nothing.
 use mathlib.Core.Path.{◌≡◌, refl, sym, ap, ap₂, ◌∙◌}
-use mathlib.Core.Bool.{Bool}
 use mathlib.Core.List.{List, ◌∷◌}
 use Prim.Native.Nat.{ℕ, zero, suc, ◌+◌, ◌*◌, ◌≤◌, ◌<◌, ◌^◌}
 use native.Mathlib.Omega.{arith}
@@ -14,13 +13,14 @@ use Rattle.definitions.specs.Tables.{Item}
 use Rattle.definitions.specs.DeltaReading.{Got, read_update}
 use Rattle.laws.specs.WarningLaws.{packed}
 use Rattle.laws.specs.OutcomeLaws.{ok-value}
-use Rattle.format.specs.declared.Error.{Error}
 use Rattle.delta_index.specs.declared.checked.Tally.{Tally}
 use Rattle.delta_source.specs.Source.{Source, size, from, behind_update, Headers, Skips, Items, walked, Judges}
 use Rattle.delta_source.specs.Source as Source
 use Rattle.delta_source.specs.SourceBounds.{Counted, counted-most, header-counted, skip-counted, skip-most, judged-most}
-use Rattle.delta_source.specs.declared.checked.Skip.TheVariants as skip
-use Rattle.delta_source.specs.declared.checked.Header.TheVariants as header
+use Rattle.std.specs.Prelude.{Ok, Err}
+use Rattle.delta_source.specs.declared.checked.Refusal.{Refusal}
+use Rattle.delta_source.specs.declared.checked.Skip.{Skip}
+use Rattle.delta_source.specs.declared.checked.Header.{Header}
 use Rattle.delta_source.specs.declared.checked.Judged.{Judged}
 use Rattle.delta_entries.specs.Told.{Told, Tallies}
 use Rattle.delta_any_order.specs.KeyLaws.{walk-keys}
@@ -36,19 +36,20 @@ behind-header s (suc n) o c = omega arith
 
 -- header and keys make the front
 pub fronting :
-    {s : Source} {k u keys first refusal o o2 : ℕ} {odd : Bool} → Headers s (header.Delta k u odd keys o) → Skips s keys k refusal (skip.Past first o2) →
-    Fronts s (record { deleted = k; updated = u; odd = odd; keys = keys; first = first; overlong = o + o2 })
-fronting {s} {k} {u} {keys} {first} {refusal} {o} {o2} {odd} (Source.delta e b) (Source.past xs l g q a i) =
-    let h : Headers s (header.Delta k u odd keys o) = Source.delta e b in
-    let m : Skips s keys k refusal (skip.Past first o2) = Source.past xs l g q a i in
-    let ch = header-counted h in
+    {s : Source} {h : Header} {k : Skip} {refusal : ℕ} → Headers s (Ok h) → Skips s h.next h.deleted refusal (Ok k) →
+    Fronts s
+    (record { deleted = h.deleted; updated = h.updated; odd = h.odd; keys = h.next; first = k.next; overlong = h.overlong + k.overlong })
+fronting {s} {h} {k} {refusal} (Source.delta e b) (Source.past xs l g q a i) =
+    let told : Headers s (Ok h) = Source.delta e b in
+    let m : Skips s h.next h.deleted refusal (Ok k) = Source.past xs l g q a i in
+    let ch = header-counted told in
     let bh = counted-most ch in
     let bm = counted-most (skip-counted m) in
-    let one : 1 ≤ keys = behind-header s keys o ch in
+    let one : 1 ≤ h.next = behind-header s h.next h.overlong ch in
     record {
       values = xs;
-      overlong-header = o;
-      overlong-keys = o2;
+      overlong-header = h.overlong;
+      overlong-keys = k.overlong;
       header_is = e;
       keys-are = g deleted_items_unpacking;
       overlong-is = refl;
@@ -60,14 +61,9 @@ fronting {s} {k} {u} {keys} {first} {refusal} {o} {o2} {odd} (Source.delta e b) 
       first-inside = i;
     }
 
--- the keys begin inside the source
-pub header-inside : {s : Source} {k u keys o : ℕ} {odd : Bool} → Headers s (header.Delta k u odd keys o) → keys ≤ size s
-header-inside (Source.delta e b) = b
-
 -- if they are not all there, sums stay small
 pub refused-most :
-    {s : Source} {k u keys refusal o o2 : ℕ} {odd : Bool} {e : Error} → Headers s (header.Delta k u odd keys o) →
-    Skips s keys k refusal (skip.Refused e o2) → o + o2 ≤ 2 * size s
+    {s : Source} {h : Header} {r : Refusal} {refusal : ℕ} → Headers s (Ok h) → Skips s h.next h.deleted refusal (Err r) → h.overlong + r.overlong ≤ 2 * size s
 refused-most h m = omega (arith, (counted-most (header-counted h)).0, skip-most m)
 
 -- ---- the same keys and updates

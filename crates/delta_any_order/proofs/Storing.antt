@@ -5,7 +5,7 @@ use Prim.Native.Nat.{ℕ, ◌+◌, ◌≤◌, ◌<◌}
 use native.Mathlib.Omega.{arith}
 use borrow.Author.Tests.{le-leb, lt-leb}
 use lib.IntN.{ℤ, pos}
-use lib.ListN.{length, drop, set}
+use lib.ListN.{length, drop}
 use lib.Seq.{drop_at}
 use Rattle.definitions.specs.Ints.{bits, from_bits}
 use Rattle.definitions.specs.Areas.{lay_at, lay}
@@ -23,18 +23,6 @@ use Rattle.laws.specs.PackLaws.{stored-fits}
 use Rattle.laws.specs.DeltaReadBack.{length-keys, length-delta_ints}
 use Rattle.delta_any_order.specs.Fronts.{Laid}
 use Rattle.delta_any_order.specs.OrderLaws.{length-ordered_updates, length-bits, few-deleted}
-
--- ---- the header
-
--- three entries, one after the other
-pub header-laid : (out o1 o2 o3 : List ℤ) (a b c : ℤ) → 3 ≤ length out → o1 ≡ set out 0 a → o2 ≡ set o1 1 b → o3 ≡ set o2 2 c → o3 ≡ lay (a ∷ b ∷ c ∷ []) out
-header-laid out o1 o2 o3 a b c h e1 e2 e3 = e3 ∙ rw (e2, e1) (go out h)
-  where
-    go : (l : List ℤ) → 3 ≤ length l → set (set (set l 0 a) 1 b) 2 c ≡ lay (a ∷ b ∷ c ∷ []) l
-    go [] h = absurd (omega arith)
-    go (x ∷ []) h = absurd (omega arith)
-    go (x ∷ y ∷ []) h = absurd (omega arith)
-    go (x ∷ y ∷ z ∷ l) h = refl
 
 -- ---- stored, or refused for lack of room
 

@@ -16,17 +16,15 @@ use Rattle.definitions.specs.DeltaCalls.{stored_delta}
 use Rattle.format.specs.Numbers.{number}
 use Rattle.format.specs.Answers.{stored_with}
 use Rattle.format.specs.declared.Error.{Error}
-use Rattle.format.specs.declared.Stored.{Stored}
 use Rattle.format.specs.Sources.{delta_counts}
 use Rattle.delta_index.specs.Entries.{count_items}
 use Rattle.delta_index.specs.RepeatLaws.{repeated}
 use Rattle.delta_index.specs.declared.checked.Tally.{Tally}
 use Rattle.delta_source.specs.Source.{Source, from, refusal_of, Headers, Skips, Judges}
 use Rattle.delta_source.specs.Source as Source
-use Rattle.delta_source.specs.declared.checked.Skip.TheVariants as skip
-use Rattle.delta_source.specs.declared.checked.Header.TheVariants as header
-use Rattle.delta_source.specs.declared.checked.Ended.{Ended}
-use Rattle.delta_source.specs.declared.checked.Ended.TheVariants as ended
+use Rattle.std.specs.Prelude.{Result, Ok, Err}
+use Rattle.delta_source.specs.declared.checked.Refusal.{Refusal}
+use Rattle.delta_source.specs.declared.checked.Header.{Header}
 use Rattle.delta_source.specs.declared.checked.Judged.{Judged}
 use Rattle.delta_entries.specs.Told.{Told, Tallies}
 use Rattle.delta_any_order.specs.KeyLaws.{walk-repeats}
@@ -43,7 +41,7 @@ refused-stored out n w = refl
 
 module _ {s : Source} {sizes : List ℤ} {f : Front} {j : Judged} (F : Fronts s f) (J : Judges s sizes f.first j) (t : Tally) (T : Tallies F.values J.items t) where
   -- what it is read as, if its updates end so
-  abbrev reading : Ended → Outcome DeltaRead
+  abbrev reading : Result (Unit {0}) Error → Outcome DeltaRead
   reading x = read_ending (refusal_of x) (f.overlong + j.overlong) f.odd f.updated (map bits F.values) J.items
 
   read_is : read_delta sizes (from s 0) ≡ reading j.ended
@@ -66,13 +64,13 @@ module _ {s : Source} {sizes : List ℤ} {f : Front} {j : Judged} (F : Fronts s 
       rw (length-bits F.values, F.count, walk-repeats J.walks, T.deleted-is, T.updated-is, T.crossing_is, J.count-is)
 
   -- an update is refused
-  pub refused-behind : (out : List ℤ) (e : Error) (w : Counts) → j.ended ≡ ended.Refused e → w ≡ counted false → stored_delta out (read_delta sizes (from s 0)) ≡ record { answer = err (number e) w; out = out }
+  pub refused-behind : (out : List ℤ) (e : Error) (w : Counts) → j.ended ≡ Err e → w ≡ counted false → stored_delta out (read_delta sizes (from s 0)) ≡ record { answer = err (number e) w; out = out }
   refused-behind out e w q c =
       let r : read_delta sizes (from s 0) ≡ err (number e) w = read_is ∙ (ap reading q ∙ ap (err (number e)) (counts-are false ∙ sym c)) in
       ap (stored_delta out) r ∙ refused-stored out (number e) w
 
   -- all updates are there
-  pub stored-behind : (out last : List ℤ) (r : Stored) (w : Counts) → j.ended ≡ ended.Whole → w ≡ counted (not (eqb j.updates f.updated)) → ((values : List ℤ) (items : List Item) (v : Counts) → Told s sizes f.keys f.deleted f.first j.updates values items → stored_delta out (ok (delta_read (map bits values) items) v) ≡ record { answer = stored_with r v; out = last }) → stored_delta out (read_delta sizes (from s 0)) ≡ record { answer = stored_with r w; out = last }
+  pub stored-behind : (out last : List ℤ) (r : Result ℕ Error) (w : Counts) → j.ended ≡ Ok tt → w ≡ counted (not (eqb j.updates f.updated)) → ((values : List ℤ) (items : List Item) (v : Counts) → Told s sizes f.keys f.deleted f.first j.updates values items → stored_delta out (ok (delta_read (map bits values) items) v) ≡ record { answer = stored_with r v; out = last }) → stored_delta out (read_delta sizes (from s 0)) ≡ record { answer = stored_with r w; out = last }
   stored-behind out last r w q c g =
       let d : DeltaRead = delta_read (map bits F.values) J.items in
       let other : other_count J.items f.updated ≡ not (eqb j.updates f.updated) = ap (λ (n : ℕ). not (eqb n f.updated)) (sym J.count-is) in
@@ -85,17 +83,17 @@ module _ {s : Source} {sizes : List ℤ} {f : Front} {j : Judged} (F : Fronts s 
 module _ (s : Source) (sizes out : List ℤ) where
   -- the header is refused
   pub any-header :
-      {e : Error} {o : ℕ} {a : Outcome ℕ} → Headers s (header.Refused e o) → err (number e) (delta_counts o false false 0 0 false) ≡ a →
+      {r : Refusal} {a : Outcome ℕ} → Headers s (Err r) → err (number r.error) (delta_counts r.overlong false false 0 0 false) ≡ a →
       stored_delta out (read_delta sizes (from s 0)) ≡ record { answer = a; out = out }
-  any-header {e} {o} (Source.refused h) q =
-      ap (stored_delta out) (header_refused s sizes (number e) o h)
-      ∙ (refused-stored out (number e) (delta_counts o false false 0 0 false) ∙ ap (λ (x : Outcome ℕ). record { answer = x; out = out }) q)
+  any-header {r} (Source.refused h) q =
+      ap (stored_delta out) (header_refused s sizes (number r.error) r.overlong h)
+      ∙ (refused-stored out (number r.error) (delta_counts r.overlong false false 0 0 false) ∙ ap (λ (x : Outcome ℕ). record { answer = x; out = out }) q)
 
   -- the keys are not all there
   pub any-keys :
-      {k u keys o o2 : ℕ} {odd : Bool} {e : Error} {a : Outcome ℕ} → Headers s (header.Delta k u odd keys o) →
-      Skips s keys k deleted_items_unpacking (skip.Refused e o2) → err (number e) (delta_counts (o + o2) odd false 0 0 false) ≡ a →
+      {h : Header} {r : Refusal} {a : Outcome ℕ} → Headers s (Ok h) → Skips s h.next h.deleted deleted_items_unpacking (Err r) →
+      err (number r.error) (delta_counts (h.overlong + r.overlong) h.odd false 0 0 false) ≡ a →
       stored_delta out (read_delta sizes (from s 0)) ≡ record { answer = a; out = out }
-  any-keys {k} {u} {keys} {o} {o2} {odd} {e} (Source.delta h b) (Source.refused l) q =
-      ap (stored_delta out) (keys-refused s sizes k u keys o odd h (number e) o2 l)
-      ∙ (refused-stored out (number e) (delta_counts (o + o2) odd false 0 0 false) ∙ ap (λ (x : Outcome ℕ). record { answer = x; out = out }) q)
+  any-keys {h} {r} (Source.delta e b) (Source.refused l) q =
+      ap (stored_delta out) (keys-refused s sizes h.deleted h.updated h.next h.overlong h.odd e (number r.error) r.overlong l)
+      ∙ (refused-stored out (number r.error) (delta_counts (h.overlong + r.overlong) h.odd false 0 0 false) ∙ ap (λ (x : Outcome ℕ). record { answer = x; out = out }) q)

@@ -17,8 +17,8 @@ ghost use Rattle.delta_any_order.specs.Fronts.{Fronts, Weighs, Laid};
 
 use delta_entries::checked::{emit, tally};
 use delta_index::checked::Tally;
-use delta_source::checked::{Ended, Header, Judged, Skip, judge_updates, read_header, skip_ints};
-use format::{Error, Reading, Stored, Warnings};
+use delta_source::checked::{Judged, judge_updates, read_header, skip_ints};
+use format::{Error, Reading, Warnings};
 use table::checked::{nat_at, put};
 
 // The refusal of a delta before its updates, with the warnings up to there.
@@ -26,7 +26,7 @@ pub fn refused(error: Error, overlong: usize, odd: bool) -> Reading
     ensures { err (number error) (delta_counts overlong odd false 0 0 false) ≡ stored_with result.answer (counts result.warnings) }
 {
     Reading {
-        answer: Stored::Refused(error),
+        answer: Err(error),
         warnings: Warnings::delta(overlong, odd, false, 0, 0, false),
     }
 }
@@ -58,14 +58,12 @@ fn updates_end(area: &[i32], start: usize, n: usize) -> usize
     ensures { (end : ℕ) → Laid area.now start n end → result ≡ end }
 {
     let mut at = start;
-    let mut left = n;
-    while 0 < left {
+    for _ in 0..n {
         let size_place = at + 2;
         if area.len() <= size_place {
             return at;
         }
         at += 3 + nat_at(area, size_place);
-        left -= 1;
     }
     at
 }
@@ -96,12 +94,12 @@ fn store(
     t: Tally,
     index: &mut [i32],
     out: &mut [i32],
-) -> Stored
+) -> Result<usize, Error>
     requires { (size (source packed bytes.now ints.now) ≤ 1048576) × Fronts (source packed bytes.now ints.now) front × Weighs (source packed bytes.now ints.now) sizes.now front judged.updates judged.room t }
     ensures { (values : List ℤ) (items : List Item) (w : Counts) → Told (source packed bytes.now ints.now) sizes.now front.keys front.deleted front.first judged.updates values items → stored_delta out.old (ok (delta_read (map bits values) items) w) ≡ record { answer = stored_with result w; out = out.new } }
 {
     if out.len() < 3 + front.deleted + judged.room {
-        return Stored::Refused(Error::CapacityError);
+        return Err(Error::CapacityError);
     }
     write_header(out, t.deleted, t.updated);
     emit(
@@ -117,7 +115,7 @@ fn store(
         index,
         out,
     );
-    Stored::Ints(updates_end(out, 3 + t.deleted, t.updated))
+    Ok(updates_end(out, 3 + t.deleted, t.updated))
 }
 
 // Reads on after the front of a delta: judges and tallies its updates, and stores it unless one of them is refused.
@@ -145,37 +143,15 @@ fn read_behind(
         judged.updates,
         index,
     );
-    let ended = judged.ended;
-    match ended {
-        Ended::Refused(error) => Reading {
-            answer: Stored::Refused(error),
+    match judged.ended {
+        Err(error) => Reading {
+            answer: Err(error),
             warnings: counted(front, judged, t, false),
         },
-        Ended::Whole => Reading {
+        Ok(()) => Reading {
             answer: store(bytes, ints, packed, sizes, front, judged, t, index, out),
             warnings: counted(front, judged, t, judged.updates != front.updated),
         },
-    }
-}
-
-// What is known of a delta before its updates.
-fn front_of(
-    deleted: usize,
-    updated: usize,
-    odd: bool,
-    keys: usize,
-    first: usize,
-    overlong: usize,
-) -> Front
-    ensures { result ≡ record { deleted = deleted; updated = updated; odd = odd; keys = keys; first = first; overlong = overlong } }
-{
-    Front {
-        deleted,
-        updated,
-        odd,
-        keys,
-        first,
-        overlong,
     }
 }
 
@@ -191,30 +167,33 @@ pub fn read_any(
     requires { size (source packed bytes.now ints.now) ≤ 1048576 }
     ensures { stored_delta out.old (read_delta sizes.now (from (source packed bytes.now ints.now) 0)) ≡ record { answer = stored_with result.answer (counts result.warnings); out = out.new } }
 {
-    match read_header(bytes, ints, packed) {
-        Header::Refused { error, overlong } => refused(error, overlong, false),
-        Header::Delta {
-            deleted,
-            updated,
-            odd,
-            next: keys,
-            overlong,
-        } => match skip_ints(
-            bytes,
-            ints,
-            packed,
-            keys,
-            deleted,
-            Error::DeletedItemsUnpacking,
-        ) {
-            Skip::Refused { error, overlong: o } => refused(error, overlong + o, odd),
-            Skip::Past {
-                next: first,
-                overlong: o,
-            } => {
-                let known = front_of(deleted, updated, odd, keys, first, overlong + o);
-                read_behind(bytes, ints, packed, sizes, known, index, out)
-            }
-        },
+    let header = match read_header(bytes, ints, packed) {
+        Ok(header) => header,
+        Err(refusal) => return refused(refusal.error, refusal.overlong, false),
+    };
+    match skip_ints(
+        bytes,
+        ints,
+        packed,
+        header.next,
+        header.deleted,
+        Error::DeletedItemsUnpacking,
+    ) {
+        Err(refusal) => refused(
+            refusal.error,
+            header.overlong + refusal.overlong,
+            header.odd,
+        ),
+        Ok(skip) => {
+            let front = Front {
+                deleted: header.deleted,
+                updated: header.updated,
+                odd: header.odd,
+                keys: header.next,
+                first: skip.next,
+                overlong: header.overlong + skip.overlong,
+            };
+            read_behind(bytes, ints, packed, sizes, front, index, out)
+        }
     }
 }

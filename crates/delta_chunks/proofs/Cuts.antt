@@ -3,13 +3,14 @@ use mathlib.Core.Path.{◌≡◌, refl, sym, ap, ◌∙◌}
 use mathlib.Core.List.{List, [], ◌∷◌}
 use mathlib.Core.Option.{some, none}
 use mathlib.Core.Logic.{⊎_elim}
-use Prim.Native.Nat.{ℕ, ◌+◌, ◌-◌, ◌*◌, ◌/◌, ◌≤◌, ◌<◌}
+use Prim.Native.Nat.{ℕ, ◌+◌, ◌-◌, ◌*◌, ◌≤◌, ◌<◌}
 use native.Mathlib.Omega.{arith}
 use native.Mathlib.Nat.{mul_comm}
 use borrow.Author.Tests.{le-leb, lt-leb}
 use lib.IntN.{ℤ, pos}
 use lib.ListN.{length, take, drop, length-drop}
 use lib.Seq.{take_all}
+use Rattle.std.specs.Int.{div_ceil}
 use mir.Syntax.{w32}
 use mir.Val.{to_z}
 use mir.Facts.{to_z_pos}
@@ -24,6 +25,10 @@ use Rattle.delta_chunks.specs.Answers.{bytes_of}
 no_bytes : (x : List ℕ) → length x ≡ 0 → x ≡ []
 no_bytes [] e = refl
 no_bytes (b ∷ x) e = absurd (omega arith)
+
+-- how many parts there are
+parts : (x : List ℕ) → div_ceil (length x) 900 ≡ num_parts x
+parts x = let n = length x in omega arith
 
 module _ (tick base : ℤ) (x : List ℕ) (crc : ℤ) where
   -- ---- more bytes than a call takes
@@ -43,10 +48,8 @@ module _ (tick base : ℤ) (x : List ℕ) (crc : ℤ) where
     pub one-message : length x ≡ 0 → num_chunks_call tick base x crc ≡ return 1
     one-message e = rw (le-leb (length x) 1048576 h, one_chunk tick base x crc e)
 
-    pub messages : (length x ≡ 0 → ⊥) → num_chunks_call tick base x crc ≡ return ((length x + 900 - 1) / 900)
-    messages z =
-        let e : num_parts x ≡ (length x + 900 - 1) / 900 = omega arith in
-        rw (le-leb (length x) 1048576 h, length-chunks tick base x crc (omega arith), e)
+    pub messages : (n : ℕ) → n ≡ div_ceil (length x) 900 → (length x ≡ 0 → ⊥) → num_chunks_call tick base x crc ≡ return n
+    messages n e z = rw (le-leb (length x) 1048576 h, length-chunks tick base x crc (omega arith), e, parts x)
 
     -- ---- a message
 
@@ -80,10 +83,10 @@ module _ (tick base : ℤ) (x : List ℕ) (crc : ℤ) where
                 (below (length x) 1)
 
     -- after the last part
-    pub no_part : (i : ℕ) → 900 < length x → (length x + 900 - 1) / 900 ≤ i → chunk_call tick base x crc i ≡ return none
-    no_part i l k =
+    pub no_part : (n : ℕ) → n ≡ div_ceil (length x) 900 → (i : ℕ) → 900 < length x → n ≤ i → chunk_call tick base x crc i ≡ return none
+    no_part n e i l k =
         within i
-        ∙ ap return (nth_past (delta_chunks tick base x crc) i (omega (arith, length-chunks tick base x crc (omega arith))))
+        ∙ ap return (nth_past (delta_chunks tick base x crc) i (omega (arith, e ∙ parts x, length-chunks tick base x crc (omega arith))))
 
     -- ---- its numbers
 
@@ -94,12 +97,12 @@ module _ (tick base : ℤ) (x : List ℕ) (crc : ℤ) where
     single-told i d s e l z q r =
         rw z (told 0 (SnapSingle tick (distance tick base) crc) (SnapSingle tick d s) x (is-single (omega arith) l) (rw (q, r)))
 
-    pub part-told : (i : ℕ) (d : Distance) (s : ℤ) → 900 < length x → i < (length x + 900 - 1) / 900 → d ≡ distance tick base → s ≡ crc → chunk_call tick base x crc i ≡ return (some (record { numbers = Snap tick d (to_z w32 ((length x + 900 - 1) / 900)) (to_z w32 i) s; bytes = bytes_of (chunk_call tick base x crc i) }))
-    part-told i d s l k q r =
-        let e : (length x + 900 - 1) / 900 ≡ num_parts x = omega arith in
-        let n : to_z w32 ((length x + 900 - 1) / 900) ≡ pos (num_parts x) = ap (to_z w32) e ∙ to_z_pos w32 (omega arith) in
+    pub part-told : (n : ℕ) → n ≡ div_ceil (length x) 900 → (i : ℕ) (d : Distance) (s : ℤ) → 900 < length x → i < n → d ≡ distance tick base → s ≡ crc → chunk_call tick base x crc i ≡ return (some (record { numbers = Snap tick d (to_z w32 n) (to_z w32 i) s; bytes = bytes_of (chunk_call tick base x crc i) }))
+    part-told n is i d s l k q r =
+        let e : n ≡ num_parts x = is ∙ parts x in
+        let t : to_z w32 n ≡ pos (num_parts x) = ap (to_z w32) e ∙ to_z_pos w32 (omega arith) in
         let m : to_z w32 i ≡ pos i = to_z_pos w32 (omega arith) in
-        told i (Snap tick (distance tick base) (pos (num_parts x)) (pos i) crc) (Snap tick d (to_z w32 ((length x + 900 - 1) / 900)) (to_z w32 i) s) (part_bytes x i) (is-part i l (omega arith)) (rw (q, r, n, m))
+        told i (Snap tick (distance tick base) (pos (num_parts x)) (pos i) crc) (Snap tick d (to_z w32 n) (to_z w32 i) s) (part_bytes x i) (is-part i l (omega arith)) (rw (q, r, t, m))
 
     -- ---- its bytes
 
@@ -112,12 +115,12 @@ module _ (tick base : ℤ) (x : List ℕ) (crc : ℤ) where
     pub second : (i : ℕ) → length x ≤ 900 → (i ≡ 0 → ⊥) → [] ≡ bytes_of (chunk_call tick base x crc i)
     second i l z = sym (ap bytes_of (no_second i l z))
 
-    pub behind : (i : ℕ) → 900 < length x → (length x + 900 - 1) / 900 ≤ i → [] ≡ bytes_of (chunk_call tick base x crc i)
-    behind i l k = sym (ap bytes_of (no_part i l k))
+    pub behind : (n : ℕ) → n ≡ div_ceil (length x) 900 → (i : ℕ) → 900 < length x → n ≤ i → [] ≡ bytes_of (chunk_call tick base x crc i)
+    behind n e i l k = sym (ap bytes_of (no_part n e i l k))
 
-    module _ (i : ℕ) (l : 900 < length x) (k : i < (length x + 900 - 1) / 900) where
+    module _ (n : ℕ) (e : n ≡ div_ceil (length x) 900) (i : ℕ) (l : 900 < length x) (k : i < n) where
       part-is : part_bytes x i ≡ bytes_of (chunk_call tick base x crc i)
-      part-is = sym (ap bytes_of (is-part i l (omega arith)))
+      part-is = sym (ap bytes_of (is-part i l (omega (arith, e ∙ parts x))))
 
       -- the last part
       pub last : length x - i * 900 ≤ 900 → take (length x - i * 900) (drop (i * 900) x) ≡ bytes_of (chunk_call tick base x crc i)

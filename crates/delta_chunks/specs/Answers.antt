@@ -1,25 +1,24 @@
 -- What the answers of `delta_chunks` mean: the refusal's number and the values of each case. Assumes nothing.
-use Rattle.std.specs.Prelude.{List, [], ℕ}
+use Rattle.std.specs.Prelude.{List, [], ℕ, Result, Ok, Err, Some, None}
+use Rattle.std.specs.Prelude as Prelude
 use Rattle.std.proofs.Math.Option.{Option, some, none}
 use Rattle.definitions.specs.Outcome.{Outcome, ok, err, return, refuse}
 use Rattle.definitions.specs.Messages.{Message}
 use Rattle.format.specs.Numbers.{number}
+use Rattle.format.specs.declared.Error.{Error}
 use Rattle.gamenet_snap.specs.Numbers.{numbers}
-use Rattle.delta_chunks.specs.declared.NumChunks.{NumChunks}
-use Rattle.delta_chunks.specs.declared.NumChunks.TheVariants as count
-use Rattle.delta_chunks.specs.declared.Chunk.{Chunk}
-use Rattle.delta_chunks.specs.declared.Chunk.TheVariants as chunk
+use Rattle.gamenet_snap.specs.declared.SnapMsg.{SnapMsg}
 
 -- how many messages
-abbrev pub chunk_count : NumChunks → Outcome ℕ
-chunk_count (count.Messages n) = return n
-chunk_count (count.Refused e) = refuse (number e)
+abbrev pub chunk_count : Result ℕ Error → Outcome ℕ
+chunk_count (Ok n) = return n
+chunk_count (Err e) = refuse (number e)
 
 -- a message, from the answer with its numbers and the part with its bytes
-abbrev pub chunk_of : Chunk → List ℕ → Outcome (Option Message)
-chunk_of (chunk.Message m) bytes = return (some (record { numbers = numbers m; bytes = bytes }))
-chunk_of chunk.End bytes = return none
-chunk_of (chunk.Refused e) bytes = refuse (number e)
+abbrev pub chunk_of : Result (Prelude.Option SnapMsg) Error → List ℕ → Outcome (Option Message)
+chunk_of (Ok (Some m)) bytes = return (some (record { numbers = numbers m; bytes = bytes }))
+chunk_of (Ok None) bytes = return none
+chunk_of (Err e) bytes = refuse (number e)
 
 -- the bytes of a message
 abbrev pub bytes_in : Option Message → List ℕ

@@ -1,13 +1,13 @@
 -- The walk along the deleted keys, from a place on. Assumes nothing.
 use Prim.Native.Nat.{ℕ, ◌+◌, ◌<◌, ◌≤◌}
 use mathlib.Core.Path.{◌≡◌}
-use mathlib.Core.Bool.{false, ◌&&◌}
+use mathlib.Core.Bool.{◌&&◌}
 use mathlib.Core.List.{List}
 use mathlib.Core.Logic.{⊎_elim}
 use native.Mathlib.Omega.{arith}
 use lib.IntN.{ℤ}
 use lib.Dec.{ltb, eqb}
-use borrow.Author.Tests.{lt-ltb, le-ltb}
+use borrow.Author.Tests.{lt-ltb}
 use Rattle.definitions.specs.Deltas.{rank, deleted_at}
 use Rattle.laws.specs.Tests.{below}
 use Rattle.delta_form.specs.Reached.{Under}
@@ -27,6 +27,3 @@ module _ (a : List ℤ) where
   module _ (k i key : ℕ) where
     pub deleted-tested : (d : ℕ) → i < k → d ≡ deleted_at a i → eqb d key ≡ (ltb i k && eqb (deleted_at a i) key)
     deleted-tested d l e = rw (lt-ltb i k l, e)
-
-    pub deleted-untested : k ≤ i → false ≡ (ltb i k && eqb (deleted_at a i) key)
-    deleted-untested l = rw (le-ltb i k l)

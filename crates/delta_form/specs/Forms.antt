@@ -1,5 +1,5 @@
 -- What a known size as a count and the answer of the form test mean. Assumes nothing.
-use Rattle.std.specs.Prelude.{ℕ, ◌+◌, ◌<◌, ◌≤◌, ◌^◌, ◌≡◌, refl, Bool, true, false, ℤ}
+use Rattle.std.specs.Prelude.{ℕ, ◌+◌, ◌<◌, ◌≤◌, ◌^◌, ◌≡◌, refl, Bool, true, false, ℤ, Some, None}
 use Rattle.std.proofs.Common.{arith, sym, ap, ◌∙◌, lt-ltb, le-ltb}
 use mathlib.Core.List.{List, []}
 use Rattle.std.proofs.Math.Option.{some, none}
@@ -9,7 +9,7 @@ use Rattle.definitions.specs.Deltas.{known_size, num_deleted, num_updated, delta
 use Rattle.definitions.specs.DeltaCalls.{held_delta}
 use Rattle.laws.specs.DeltaShape.{updates_end, DeltaShape, shape-form, not-delta}
 use Rattle.delta_form.specs.Held.{size_from, form_of, HeldDelta, held}
-use Rattle.delta_form.specs.declared.checked.DeltaForm.TheVariants as form
+use Rattle.delta_form.specs.declared.checked.DeltaForm.{DeltaForm}
 
 -- ---- known sizes
 
@@ -23,34 +23,39 @@ module _ (sizes : List ℤ) {t type : ℕ} (r : ℕ) (e : t ≡ type) (k : known
 
 -- ---- the form test
 
+-- the numbers of a delta
+abbrev pub form_with : ℕ → ℕ → ℕ → DeltaForm
+form_with k u n = record { deleted = k; updated = u; ints = n }
+
 module _ (sizes a : List ℤ) where
-  pub bad : (DeltaShape sizes a → ⊥) → form.Bad ≡ form_of sizes a
+  pub bad : (DeltaShape sizes a → ⊥) → None ≡ form_of sizes a
   bad h = rw (not-delta sizes a h)
 
-  pub good : (k u n : ℕ) → DeltaShape sizes a → k ≡ num_deleted a → u ≡ num_updated a → n ≡ updates_end sizes a (3 + k) u → form.Delta k u n ≡ form_of sizes a
+  pub good : (k u n : ℕ) → DeltaShape sizes a → k ≡ num_deleted a → u ≡ num_updated a → n ≡ updates_end sizes a (3 + k) u → Some (form_with k u n) ≡ form_of sizes a
   good k u n h p q r = rw (shape-form sizes a h, r, p, q)
 
   -- what the answer of `form` means
-  pub formed : (k u n : ℕ) → form.Delta k u n ≡ form_of sizes a → HeldDelta sizes a k u × (n ≡ updates_end sizes a (3 + num_deleted a) (num_updated a))
+  pub formed : (k u n : ℕ) → Some (form_with k u n) ≡ form_of sizes a → HeldDelta sizes a k u × (n ≡ updates_end sizes a (3 + num_deleted a) (num_updated a))
   formed k u n e = go (delta_form sizes a) refl
     where
       go : (b : Bool) → delta_form sizes a ≡ b → HeldDelta sizes a k u × (n ≡ updates_end sizes a (3 + num_deleted a) (num_updated a))
       go true q =
-          let d : form.Delta k u n ≡ form.Delta (num_deleted a) (num_updated a) (updates_end sizes a (3 + num_deleted a) (num_updated a)) = rw q at e in
-          let dk : k ≡ num_deleted a = cc in
-          let du : u ≡ num_updated a = cc in
-          let dn : n ≡ updates_end sizes a (3 + num_deleted a) (num_updated a) = cc in
+          let s : Some (form_with k u n) ≡ Some (form_with (num_deleted a) (num_updated a) (updates_end sizes a (3 + num_deleted a) (num_updated a))) = rw q at e in
+          let d : form_with k u n ≡ form_with (num_deleted a) (num_updated a) (updates_end sizes a (3 + num_deleted a) (num_updated a)) = cc in
+          let dk : k ≡ num_deleted a = ap (λ (f : DeltaForm). f.deleted) d in
+          let du : u ≡ num_updated a = ap (λ (f : DeltaForm). f.updated) d in
+          let dn : n ≡ updates_end sizes a (3 + num_deleted a) (num_updated a) = ap (λ (f : DeltaForm). f.ints) d in
           (held sizes a k u dk du q, dn)
       go false q =
-          let d : form.Delta k u n ≡ form.Bad = rw q at e in
+          let d : Some (form_with k u n) ≡ None = rw q at e in
           let z : ◌≡◌ {A = ℕ} 0 1 = cc in absurd (omega arith)
 
-  pub unformed : form.Bad ≡ form_of sizes a → delta_form sizes a ≡ false
+  pub unformed : None ≡ form_of sizes a → delta_form sizes a ≡ false
   unformed e = go (delta_form sizes a) refl
     where
       go : (b : Bool) → delta_form sizes a ≡ b → delta_form sizes a ≡ false
       go true q =
-          let d : form.Bad ≡ form.Delta (num_deleted a) (num_updated a) (updates_end sizes a (3 + num_deleted a) (num_updated a)) = rw q at e in
+          let d : None ≡ Some (form_with (num_deleted a) (num_updated a) (updates_end sizes a (3 + num_deleted a) (num_updated a))) = rw q at e in
           let z : ◌≡◌ {A = ℕ} 0 1 = cc in absurd (omega arith)
       go false q = q
 
@@ -58,7 +63,7 @@ module _ (sizes a : List ℤ) where
 
 module _ (a : List ℤ) where
   -- it holds no delta
-  pub not-held : form.Bad ≡ form_of [] a → held_delta a ≡ refuse not_in_form
+  pub not-held : None ≡ form_of [] a → held_delta a ≡ refuse not_in_form
   unfolding held_delta delta_of
   not-held e = rw (unformed [] a e)
 

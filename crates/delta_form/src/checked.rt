@@ -11,22 +11,12 @@ ghost use Rattle.delta_form.specs.Held.{size_from, form_of, end_of, updates_form
 
 use table::checked::{bits_at, count_at, nat_at, put};
 
-// Whether some ints begin with a delta under known sizes; if so, its numbers of deleted keys, of updates and of ints.
+// The numbers of deleted keys, of updates and of ints of a delta.
 #[derive(Clone, Copy)]
-pub enum DeltaForm {
-    Delta {
-        deleted: usize,
-        updated: usize,
-        ints: usize,
-    },
-    Bad,
-}
-
-// Whether some updates follow one another; if so, the place after the last.
-#[derive(Clone, Copy)]
-pub enum UpdatesForm {
-    End(usize),
-    Bad,
+pub struct DeltaForm {
+    pub deleted: usize,
+    pub updated: usize,
+    pub ints: usize,
 }
 
 // The known size of a type, or 2^32 if none is known.
@@ -129,123 +119,111 @@ pub fn deleted_fit(area: &[i32], n: usize) -> bool
         return true;
     }
     let mut last = area[3];
-    let mut i: usize = 1;
-    while i < n {
+    for i in 1..n {
         let next = area[3 + i];
         if !ints::signed_less(last, next) {
             return false;
         }
         last = next;
-        i += 1;
     }
     true
 }
 
-// The place after the update at place p if the update is within the area and its type and id have 16 bits, else 0.
-pub fn update_fits(area: &[i32], sizes: &[i32], p: usize) -> usize
+// The place after the update at place p, if the update is within the area and its type and id have 16 bits.
+pub fn update_fits(area: &[i32], sizes: &[i32], p: usize) -> Option<usize>
     requires { p ≤ length area.now }
     ensures { result ≡ end_of sizes.now area.now p }
 {
     if area.len() - p < 2 {
-        return 0;
+        return None;
     }
     if 65535 < nat_at(area, p) {
-        return 0;
+        return None;
     }
     if 65535 < nat_at(area, p + 1) {
-        return 0;
+        return None;
     }
     let from = data_at(area, sizes, p);
     if area.len() < from {
-        return 0;
+        return None;
     }
     let size = size_at(area, sizes, p);
     if 4294967295 < size {
-        return 0;
+        return None;
     }
     if area.len() - from < size {
-        return 0;
+        return None;
     }
-    from + size
+    Some(from + size)
 }
 
-// Whether n updates follow one another from a place on, with keys that rise in signed order, all above the key of the update before.
+// If n updates follow one another from a place on, with keys that rise in signed order, all above the key of the update before: the place after them.
 fn updates_fit_above(
     area: &[i32],
     sizes: &[i32],
     start: usize,
     n: usize,
     before: i32,
-) -> UpdatesForm
+) -> Option<usize>
     requires { start ≤ length area.now }
     ensures { result ≡ updates_form_of sizes.now area.now start (Deltas.rank (bits before) + 1) n }
 {
     let mut p = start;
     let mut last = before;
-    let mut left = n;
-    while 0 < left {
-        let end = update_fits(area, sizes, p);
-        if end == 0 {
-            return UpdatesForm::Bad;
-        }
+    for _ in 0..n {
+        let end = update_fits(area, sizes, p)?;
         let key = update_key(area, p);
         if !ints::signed_less(last, key) {
-            return UpdatesForm::Bad;
+            return None;
         }
         last = key;
         p = end;
-        left -= 1;
     }
-    UpdatesForm::End(p)
+    Some(p)
 }
 
-// Whether n updates follow one another from a place on, with keys that rise in signed order.
-pub fn updates_fit(area: &[i32], sizes: &[i32], start: usize, n: usize) -> UpdatesForm
+// If n updates follow one another from a place on, with keys that rise in signed order: the place after them.
+pub fn updates_fit(area: &[i32], sizes: &[i32], start: usize, n: usize) -> Option<usize>
     requires { start ≤ length area.now }
     ensures { result ≡ updates_form_of sizes.now area.now start 0 n }
 {
     if n == 0 {
-        return UpdatesForm::End(start);
+        return Some(start);
     }
-    let end = update_fits(area, sizes, start);
-    if end == 0 {
-        return UpdatesForm::Bad;
-    }
+    let end = update_fits(area, sizes, start)?;
     updates_fit_above(area, sizes, end, n - 1, update_key(area, start))
 }
 
-// The form of some ints.
-pub fn form(area: &[i32], sizes: &[i32]) -> DeltaForm
+// The form of some ints, if they begin with a delta under known sizes.
+pub fn form(area: &[i32], sizes: &[i32]) -> Option<DeltaForm>
     ensures { result ≡ form_of sizes.now area.now }
 {
     if area.len() < 3 {
-        return DeltaForm::Bad;
+        return None;
     }
     if nat_at(area, 2) != 0 {
-        return DeltaForm::Bad;
+        return None;
     }
     let deleted = nat_at(area, 0);
     let updated = nat_at(area, 1);
     if 4294967295 < deleted {
-        return DeltaForm::Bad;
+        return None;
     }
     if 4294967295 < updated {
-        return DeltaForm::Bad;
+        return None;
     }
     if area.len() - 3 < deleted {
-        return DeltaForm::Bad;
+        return None;
     }
     if !deleted_fit(area, deleted) {
-        return DeltaForm::Bad;
+        return None;
     }
-    let UpdatesForm::End(ints) = updates_fit(area, sizes, 3 + deleted, updated) else {
-        return DeltaForm::Bad;
-    };
-    DeltaForm::Delta {
+    let ints = updates_fit(area, sizes, 3 + deleted, updated)?;
+    Some(DeltaForm {
         deleted,
         updated,
         ints,
-    }
+    })
 }
 
 // The place of the first deleted key not below key in signed order, from start on; all keys before start are below it.
@@ -253,14 +231,12 @@ pub fn deleted_from(src: &[i32], deleted: usize, start: usize, key: i32) -> usiz
     requires { (3 + deleted ≤ length src.now) × (start ≤ deleted) × Under src.now start (rank (bits key)) }
     ensures { Reached src.now deleted result (rank (bits key)) }
 {
-    let mut i = start;
-    while i < deleted {
+    for i in start..deleted {
         if !ints::signed_less(src[3 + i], key) {
             return i;
         }
-        i += 1;
     }
-    i
+    deleted
 }
 
 // Whether there is an i-th deleted key and it equals key.
@@ -268,10 +244,7 @@ pub fn has_deleted(src: &[i32], deleted: usize, i: usize, key: i32) -> bool
     requires { 3 + deleted ≤ length src.now }
     ensures { result ≡ (ltb i deleted && eqb (deleted_at src.now i) (bits key)) }
 {
-    if i < deleted {
-        return src[3 + i] == key;
-    }
-    false
+    i < deleted && src[3 + i] == key
 }
 
 // Writes three counts into out from place at on.

@@ -1,5 +1,5 @@
 -- The walk over sorted entries: results so far, and what remains. Assumes nothing.
-use mathlib.Core.Path.{◌≡◌, refl, sym, ap, ◌∙◌}
+use mathlib.Core.Path.{◌≡◌, sym, ap, ◌∙◌}
 use mathlib.Core.Bool.{Bool, true, false, cond, not}
 use mathlib.Core.List.{List, [], ◌∷◌, map}
 use Prim.Native.Nat.{ℕ, suc, ◌+◌, ◌≤◌, ◌<◌}
@@ -37,17 +37,6 @@ pub record Telling (l : List ℕ) (i deleted updated across d : ℕ) : Type 0 wh
   pub deleted-is : deleted + length (deleted_once d (drop i l)) ≡ length (deleted_once 0 l)
   pub updated-is : updated + length (last_updates (drop i l)) ≡ length (last_updates l)
   pub across-is : across + crossing d (drop i l) ≡ crossing 0 l
-
-pub telling-start : (l : List ℕ) → Telling l 0 0 0 0 0
-telling-start l =
-    record {
-      deleted-few = omega arith;
-      updated-few = omega arith;
-      across-few = omega arith;
-      deleted-is = omega arith;
-      updated-is = omega arith;
-      across-is = omega arith;
-    }
 
 -- a deleted key counts if it differs from the last one
 once-counts : (d x next r : ℕ) (l : List ℕ) → is_deleted x ≡ true → next ≡ suc (key x) → r ≡ cond (not (eqb d next)) 1 0 → length (deleted_once d (x ∷ l)) ≡ r + length (deleted_once next l)
@@ -120,9 +109,6 @@ pub record Putting (l : List ℕ) (at : ℕ) (out₀ : List ℤ) (i w d : ℕ) (
   pub long : length out ≡ length out₀
   pub place_is : w + length (deleted_once d (drop i l)) ≡ at + length (deleted_once 0 l)
   pub same : lay_at w (map key_int (deleted_once d (drop i l))) out ≡ lay_at at (map key_int (deleted_once 0 l)) out₀
-
-pub putting-start : (l : List ℕ) (at : ℕ) (out₀ : List ℤ) → Putting l at out₀ 0 at 0 out₀
-putting-start l at out₀ = record { few = omega arith; long = refl; place_is = refl; same = refl }
 
 module _ (l : List ℕ) (at : ℕ) (out₀ : List ℤ) (i w d : ℕ) (out : List ℤ) (x : ℕ) (s : Putting l at out₀ i w d out) (h : drop i l ≡ x ∷ drop (i + 1) l) where
   -- the next entry gives no key

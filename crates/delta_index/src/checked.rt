@@ -47,20 +47,17 @@ pub fn tally_pairs(index: &[i32], n: usize) -> Tally
     let mut updated: usize = 0;
     let mut across: usize = 0;
     let mut d: usize = 0;
-    let mut i: usize = 0;
-    while i < n {
+    for i in 0..n {
         let next = key_at(index, i) + 1;
-        let place = place_at(index, i);
-        let last = is_last(index, n, i);
         let known = d == next;
-        i += 1;
-        if place == 0 {
+        if place_at(index, i) == 0 {
             deleted += one_if(!known);
             d = next;
-            continue;
+        } else {
+            let last = is_last(index, n, i);
+            updated += one_if(last);
+            across += one_if(known);
         }
-        updated += one_if(last);
-        across += one_if(known);
     }
     Tally {
         deleted,
@@ -76,21 +73,14 @@ pub fn write_deleted(index: &[i32], n: usize, out: &mut [i32], at: usize) -> usi
 {
     let mut w = at;
     let mut d: usize = 0;
-    let mut i: usize = 0;
-    while i < n {
+    for i in 0..n {
         let rank = key_at(index, i);
         let next = rank + 1;
-        let place = place_at(index, i);
-        i += 1;
-        if place != 0 {
-            continue;
+        if place_at(index, i) == 0 && d != next {
+            d = next;
+            out[w] = int_at(rank);
+            w += 1;
         }
-        if d == next {
-            continue;
-        }
-        d = next;
-        out[w] = int_at(rank);
-        w += 1;
     }
     w
 }

@@ -28,7 +28,8 @@ use Rattle.laws.specs.ClashLaws.{clash-alike, clash-unlike}
 use Rattle.laws.specs.CreateLaws.{created_ints}
 use Rattle.delta_making.specs.Answers.{made_ints, made_clash}
 use Rattle.delta_making.specs.Parts.{key_below}
-use Rattle.delta_making.specs.declared.Made.TheVariants as made
+use Rattle.delta_making.specs.declared.MakeError.TheVariants.{DifferingSizes}
+use Rattle.std.proofs.Common.{Err}
 use Rattle.delta_making.proofs.Parts.{below-is, below_none}
 
 -- ---- the answers
@@ -66,7 +67,7 @@ module _ (b : Table) (t : List ℤ) (n r : ℕ) (e : first_clash b (items t) ≡
     unlike = clash-unlike b (items t) (key_at t r) clash-is
 
     -- the key that is told with 10
-    pub told : (k j : ℤ) → SFits w32 k → bits k ≡ key_at t r → j ≡ k → made_clash (made.DifferingSizes j) ≡ clash_of (made_ints (made.DifferingSizes j)) b (items t)
+    pub told : (k j : ℤ) → SFits w32 k → bits k ≡ key_at t r → j ≡ k → made_clash (Err (DifferingSizes j)) ≡ clash_of (made_ints (Err (DifferingSizes j))) b (items t)
     told k j f q p = rw clash-is (ap some (p ∙ (sym (from_bits-bits f) ∙ ap from_bits q)))
 
 -- ---- how many ints the delta has

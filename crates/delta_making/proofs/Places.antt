@@ -18,11 +18,6 @@ pub along-start : (a : List ℤ) (n : ℕ) (b : List ℤ) (i : ℕ) → Along a 
 along-start a n b i = record { within = omega arith; passed = λ m j o r s. absurd (omega arith) }
 
 module _ (a : List ℤ) (n : ℕ) (ha : Held a n) (b : List ℤ) (nb : ℕ) (hb : Held b nb) (c i : ℕ) (l : i < nb) where
-  -- what the search for the place of the i-th key requires
-  pub along-asks : (k : ℕ) → k ≡ key_at b i → Along a n c b i → Held a n × (c ≤ n) × ((j : ℕ) → j < c → key_at a j < k)
-  along-asks k e s =
-      (ha, s.within, λ j o. omega (arith, s.passed i j (omega arith) (omega (arith, hb.count-is)) o))
-
   -- the next search starts at the place of the i-th key
   pub along-next : Place a (key_at b i) c → Along a n c b (i + 1)
   along-next q =

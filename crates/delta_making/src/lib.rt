@@ -5,10 +5,9 @@ use format::Error;
 
 pub mod checked;
 
-// The answer of making a delta: how many ints it has, the least key, read as unsigned, whose two items differ in length, or why there is none.
+// Why there is no delta: the least key, read as unsigned, whose two items differ in length, or another refusal.
 #[derive(Clone, Copy)]
-pub enum Made {
-    Ints(usize),
+pub enum MakeError {
     DifferingSizes(i32),
     Refused(Error),
 }

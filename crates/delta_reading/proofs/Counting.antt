@@ -13,7 +13,7 @@ use Rattle.definitions.specs.Deltas.{rank, num_deleted, deleted_at, update_key, 
 use Rattle.definitions.specs.DeltaReading.{elem}
 use Rattle.laws.specs.Tests.{at_most_one}
 use Rattle.laws.specs.TableShape.{both}
-use Rattle.laws.specs.WarningLaws.{none-plus, plus_none, plus_assoc}
+use Rattle.laws.specs.WarningLaws.{plus_none, plus_assoc}
 use Rattle.laws.specs.DeltaShape.{DeletedKey, Update, update}
 use Rattle.laws.specs.DeltaRestores.{key_below}
 use Rattle.laws.specs.DeltaReadBack.{delete_updates}
@@ -38,17 +38,6 @@ module _ (sizes a : List ℤ) (k u : ℕ) where
     pub under : Under a i low
     pub small : total + n ≤ u
     pub sum : plus (deleted_counts total) (counted p n) ≡ counted (3 + k) u
-
-  pub count-start : HeldDelta sizes a k u → Counting 0 0 (3 + k) u
-  count-start h =
-      record {
-        low = 0;
-        fit = rw (h.deleted-is, h.updated-is) h.shape.updates-fit;
-        few = omega arith;
-        under = record { below = λ j l. absurd (omega arith) };
-        small = omega arith;
-        sum = none-plus (counted (3 + k) u);
-      }
 
   module _ {total i p n : ℕ} (c : Counting total i p n) where
     -- the first of the updates left

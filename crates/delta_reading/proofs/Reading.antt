@@ -18,11 +18,12 @@ use Rattle.laws.specs.DeltaShape.{updates_end}
 use Rattle.laws.specs.DeltaReadBack.{delete_updates, read_back}
 use Rattle.laws.specs.DeltaOrdered.{form-reads, delta-stored}
 use Rattle.format.specs.Answers.{stored_ints, stored_with, with-counts}
-use Rattle.format.specs.declared.Stored.{Stored}
+use Rattle.format.specs.declared.Error.{Error}
+use Rattle.std.proofs.Common.{Result}
 use Rattle.format.specs.Sources.{deleted_counts}
 use Rattle.delta_form.specs.Held.{HeldDelta}
 
-pub ordered-read : (sizes a : List ℤ) (k u n : ℕ) → HeldDelta sizes a k u → length a ≡ updates_end sizes a (3 + num_deleted a) (num_updated a) → (before last : List ℤ) (r : Stored) → stored before (return (written_delta (delta_in sizes a))) ≡ record { answer = stored_ints r; out = last } → delete_updates (delta_in sizes a).deleted (delta_in sizes a).updated ≡ deleted_counts n → (s : Stream) → ints s ≡ a → is_whole s ≡ true → stored_delta before (read_delta sizes s) ≡ record { answer = stored_with r (plus (warnings s) (deleted_counts n)); out = last }
+pub ordered-read : (sizes a : List ℤ) (k u n : ℕ) → HeldDelta sizes a k u → length a ≡ updates_end sizes a (3 + num_deleted a) (num_updated a) → (before last : List ℤ) (r : Result ℕ Error) → stored before (return (written_delta (delta_in sizes a))) ≡ record { answer = stored_ints r; out = last } → delete_updates (delta_in sizes a).deleted (delta_in sizes a).updated ≡ deleted_counts n → (s : Stream) → ints s ≡ a → is_whole s ≡ true → stored_delta before (read_delta sizes s) ≡ record { answer = stored_with r (plus (warnings s) (deleted_counts n)); out = last }
 ordered-read sizes a k u n h end before last r e d s i c =
     let w = plus (warnings s) (deleted_counts n) in
     ap (stored_delta before) (form-reads sizes a h.shape end s i c ∙ ap (λ (v : Counts). ok (read_back (delta_in sizes a)) (plus (warnings s) v)) d)

@@ -15,20 +15,16 @@ ghost use Rattle.delta_reading.specs.Answers.{OrderedRead};
 ghost use Rattle.delta_form.specs.Reached.{Under, Reached};
 
 use delta_form::checked::{
-    DeltaForm, deleted_from, form, has_deleted, known_size, size_at, update_data, update_end,
-    update_key,
+    deleted_from, form, has_deleted, known_size, size_at, update_data, update_end, update_key,
 };
-use format::{Error, Stored};
+use format::Error;
 use table::checked::nat_at;
 
-// The result of reading ints that rise already: the answer, and how many updates are of deleted keys; or that they are not such ints.
+// The result of reading ints that rise already: the answer, and how many updates are of deleted keys.
 #[derive(Clone, Copy)]
-pub enum Ordered {
-    Read {
-        answer: Stored,
-        delete_updates: usize,
-    },
-    Other,
+pub struct Ordered {
+    pub answer: Result<usize, Error>,
+    pub delete_updates: usize,
 }
 
 // How many ints the n updates from a place on take with their sizes written.
@@ -38,11 +34,9 @@ fn updates_len(src: &[i32], sizes: &[i32], start: usize, n: usize) -> usize
 {
     let mut total: usize = 0;
     let mut p = start;
-    let mut left = n;
-    while 0 < left {
+    for _ in 0..n {
         total += 3 + size_at(src, sizes, p);
         p = update_end(src, sizes, p);
-        left -= 1;
     }
     total
 }
@@ -87,11 +81,9 @@ fn write_updates(
 {
     let mut at = first;
     let mut p = start;
-    let mut left = n;
-    while 0 < left {
+    for _ in 0..n {
         at = write_update(src, sizes, p, out, at);
         p = update_end(src, sizes, p);
-        left -= 1;
     }
     at
 }
@@ -103,27 +95,27 @@ pub fn write_area(
     deleted: usize,
     updated: usize,
     out: &mut [i32],
-) -> Stored
+) -> Result<usize, Error>
     requires { HeldDelta sizes.now src.now deleted updated }
     ensures { stored out.old (return (written_delta (delta_in sizes.now src.now))) ≡ record { answer = stored_ints result; out = out.new } }
 {
     let front = 3 + deleted;
     let n = front + updates_len(src, sizes, front, updated);
     if out.len() < n {
-        return Stored::Refused(Error::CapacityError);
+        return Err(Error::CapacityError);
     }
     ints::copy_into(out, 0, &src[..front]);
-    Stored::Ints(write_updates(src, sizes, front, updated, out, front))
+    Ok(write_updates(src, sizes, front, updated, out, front))
 }
 
 // Copies ints to the front of out; if they do not fit, out is unchanged.
-fn copy_whole(src: &[i32], out: &mut [i32]) -> Stored
+fn copy_whole(src: &[i32], out: &mut [i32]) -> Result<usize, Error>
     ensures { stored out.old (return src.now) ≡ record { answer = stored_ints result; out = out.new } }
 {
     if ints::copy_into(out, 0, src) {
-        return Stored::Ints(src.len());
+        return Ok(src.len());
     }
-    Stored::Refused(Error::CapacityError)
+    Err(Error::CapacityError)
 }
 
 // Writes a delta that takes up all of the ints, with all sizes, into the front of out. If no size is known, the ints are copied as they are.
@@ -133,7 +125,7 @@ fn write_whole(
     deleted: usize,
     updated: usize,
     out: &mut [i32],
-) -> Stored
+) -> Result<usize, Error>
     requires { HeldDelta sizes.now src.now deleted updated × (length src.now ≡ updates_end sizes.now src.now (3 + Deltas.num_deleted src.now) (Deltas.num_updated src.now)) }
     ensures { stored out.old (return (written_delta (delta_in sizes.now src.now))) ≡ record { answer = stored_ints result; out = out.new } }
 {
@@ -151,13 +143,11 @@ pub fn count_delete_updates(src: &[i32], sizes: &[i32], deleted: usize, updated:
     let mut total: usize = 0;
     let mut i: usize = 0;
     let mut p = 3 + deleted;
-    let mut left = updated;
-    while 0 < left {
+    for _ in 0..updated {
         let key = update_key(src, p);
         i = deleted_from(src, deleted, i, key);
         total += ints::one_if(has_deleted(src, deleted, i, key));
         p = update_end(src, sizes, p);
-        left -= 1;
     }
     total
 }
@@ -174,24 +164,17 @@ fn num_delete_updates(src: &[i32], sizes: &[i32], deleted: usize, updated: usize
 }
 
 // Reads a delta of ints that rise already into the front of out; other ints are not read, and out is unchanged.
-pub fn read_ordered(src: &[i32], sizes: &[i32], out: &mut [i32]) -> Ordered
+pub fn read_ordered(src: &[i32], sizes: &[i32], out: &mut [i32]) -> Option<Ordered>
     ensures { OrderedRead sizes.now src.now out.old out.new result }
 {
-    let DeltaForm::Delta {
-        deleted,
-        updated,
-        ints,
-    } = form(src, sizes)
-    else {
-        return Ordered::Other;
-    };
-    if ints != src.len() {
-        return Ordered::Other;
+    let form = form(src, sizes)?;
+    if form.ints != src.len() {
+        return None;
     }
-    let answer = write_whole(src, sizes, deleted, updated, out);
-    let delete_updates = num_delete_updates(src, sizes, deleted, updated);
-    Ordered::Read {
+    let answer = write_whole(src, sizes, form.deleted, form.updated, out);
+    let delete_updates = num_delete_updates(src, sizes, form.deleted, form.updated);
+    Some(Ordered {
         answer,
         delete_updates,
-    }
+    })
 }

@@ -1,11 +1,15 @@
 -- The header of a delta, step by step. Assumes nothing.
 use mathlib.Core.Path.{◌≡◌, refl, sym, ap, ◌∙◌}
 use mathlib.Core.Bool.{Bool, true, false, cond, not}
-use Prim.Native.Nat.{ℕ, ◌+◌, ◌≤◌, ◌<◌, ◌^◌}
+use Prim.Native.Nat.{ℕ, ◌+◌, ◌≤◌, ◌<◌, ◌^◌, suc, ◌-◌}
 use native.Mathlib.Omega.{arith}
 use lib.Dec.{eqb}
-use lib.IntN.{ℤ}
+use lib.IntN.{ℤ, pos, negsuc}
 use lib.Signed.{mag}
+use borrow.Author.Tests.{ne_eqb}
+use mir.Syntax.{w32}
+use mir.Val.{of_z}
+use Rattle.std.specs.Prelude.{Result, Ok, Err}
 use Rattle.definitions.specs.Refusals.{unexpected_end, int_out_of_range}
 use Rattle.definitions.specs.Warnings.{Counts, NonZeroPadding, plus}
 use Rattle.definitions.specs.Outcome.{ok, err, return, warn_if, after, ◌>>◌}
@@ -20,48 +24,49 @@ use Rattle.format.specs.Numbers.{number}
 use Rattle.format.specs.declared.Error.{Error}
 use Rattle.format.specs.declared.Error.TheVariants as error
 use Rattle.packer.specs.Answers.{missing_as}
-use Rattle.packer.specs.declared.IntRead.TheVariants as read
+use Rattle.packer.specs.declared.IntRead.{IntRead}
 use Rattle.delta_source.specs.Source.{Source, size, from, Next, found, nothing, Headers, odd_padding}
 use Rattle.delta_source.specs.Source as Source
 use Rattle.delta_source.specs.Steps.{Numbers, padding_of, HeaderOf}
 use Rattle.delta_source.specs.Steps as Steps
-use Rattle.delta_source.specs.declared.checked.Number.TheVariants as found_number
+use Rattle.delta_source.specs.declared.checked.Refusal.{Refusal}
+use Rattle.delta_source.specs.declared.checked.Number.{Number}
 use Rattle.delta_source.specs.declared.checked.Header.{Header}
-use Rattle.delta_source.specs.declared.checked.Header.TheVariants as header
 use Rattle.delta_source.proofs.Reading.{more-warned, as-count, as-negative}
 
 -- ---- a number
 
 module _ (s : Source) (at : ℕ) where
-  pub no_number : {r : Error} (e : Error) → Next s at (read.Refused r) → number e ≡ missing_as (number r) unexpected_end → Numbers s at (found_number.Refused e 0)
+  pub no_number :
+      {r : Error} (e : Error) → Next s at (Err r) → number e ≡ missing_as (number r) unexpected_end → Numbers s at (Err (record { error = e; overlong = 0 }))
   unfolding header_number
-  no_number e (nothing f) q = Steps.refused {e = e} {o = 0} (rw (f unexpected_end, q)) (omega arith)
+  no_number e (nothing f) q = Steps.refused {r = record { error = e; overlong = 0 }} (rw (f unexpected_end, q)) (omega arith)
 
-  module _ {x : ℤ} {next : ℕ} (overlong : Bool) where
+  module _ {r : IntRead} where
     pub negative-number :
-        Next s at (read.Int x next overlong) → mag x < 2 ^ 31 → 2 ^ 32 ≤ num x → Numbers s at (found_number.Refused error.IntOutOfRange (cond overlong 1 0))
+        Next s at (Ok r) → mag r.value < 2 ^ 31 → 2 ^ 32 ≤ num r.value →
+        Numbers s at (Err (record { error = error.IntOutOfRange; overlong = cond r.overlong 1 0 }))
     unfolding header_number
     negative-number (found e q a b) m h =
-        Steps.refused {e = error.IntOutOfRange} {o = cond overlong 1 0}
-        (rw (e, ap non_negative (as-negative x m h)) (ap (err int_out_of_range) (plus_none (warned overlong) ∙ warned-packed overlong)))
-        (at_most_one overlong)
+        Steps.refused {r = record { error = error.IntOutOfRange; overlong = cond r.overlong 1 0 }}
+        (rw (e, ap non_negative (as-negative r.value m h)) (ap (err int_out_of_range) (plus_none (warned r.overlong) ∙ warned-packed r.overlong)))
+        (at_most_one r.overlong)
 
-    pub number_read : Next s at (read.Int x next overlong) → num x < 2 ^ 32 → Numbers s at (found_number.Number (num x) next (cond overlong 1 0))
+    pub number_read : Next s at (Ok r) → num r.value < 2 ^ 32 → Numbers s at (Ok (record { value = num r.value; next = r.next; overlong = cond r.overlong 1 0 }))
     unfolding header_number
     number_read (found e q a b) h =
-        let r : Got ℕ = record { value = num x; rest = from s next } in
-        Steps.some_number {n = num x} {next = next} {o = cond overlong 1 0}
-        (rw (e, ap non_negative (as-count x h)) (ap (ok r) (plus_none (warned overlong) ∙ warned-packed overlong)))
-        (at_most_one overlong) b
-
--- the place after a number
-pub number-inside : {s : Source} {at n next o : ℕ} → Numbers s at (found_number.Number n next o) → (next ≤ size s) × (o ≤ 1)
-number-inside (Steps.some_number e a b) = (b, a)
-
-pub refusal-small : {s : Source} {at o : ℕ} {e : Error} → Numbers s at (found_number.Refused e o) → o ≤ 1
-refusal-small (Steps.refused e a) = a
+        let g : Got ℕ = record { value = num r.value; rest = from s r.next } in
+        Steps.some_number {n = record { value = num r.value; next = r.next; overlong = cond r.overlong 1 0 }}
+        (rw (e, ap non_negative (as-count r.value h)) (ap (ok g) (plus_none (warned r.overlong) ∙ warned-packed r.overlong)))
+        (at_most_one r.overlong) b
 
 -- ---- the padding
+
+-- an int is 0 exactly if its bits are
+pub odd-bits : (z : ℤ) → mag z < 2 ^ 31 → not (eqb (of_z w32 z) 0) ≡ not (eqb (num z) 0)
+unfolding num
+odd-bits (pos n) m = refl
+odd-bits (negsuc n) m = ap not (ne_eqb (2 ^ 32 - suc n) 0 (λ e. absurd (omega (arith, m, e))))
 
 odd-warned : (odd : Bool) (r : Got DeltaHeader) → (warn_if odd NonZeroPadding >> return r) ≡ ok r (odd_padding odd)
 odd-warned true r = refl
@@ -69,22 +74,23 @@ odd-warned false r = refl
 
 module _ (s : Source) (at k u o : ℕ) where
   pub no-padding :
-      {r : Error} (e : Error) → Next s at (read.Refused r) → number e ≡ missing_as (number r) unexpected_end →
-      HeaderOf s (after (packed o) (padding_of k u (from s at))) (header.Refused e o)
+      {r : Error} (e : Error) → Next s at (Err r) → number e ≡ missing_as (number r) unexpected_end →
+      HeaderOf s (after (packed o) (padding_of k u (from s at))) (Err (record { error = e; overlong = o }))
   unfolding padding_of
-  no-padding e (nothing f) q = Steps.refused {e = e} {o = o} (rw (f unexpected_end, q, plus_none (packed o)))
+  no-padding e (nothing f) q = Steps.refused {r = record { error = e; overlong = o }} (rw (f unexpected_end, q, plus_none (packed o)))
 
-  module _ {x : ℤ} {next : ℕ} (overlong odd : Bool) where
+  module _ {r : IntRead} (odd : Bool) where
     pub padding-read :
-        Next s at (read.Int x next overlong) → odd ≡ not (eqb (num x) 0) →
-        HeaderOf s (after (packed o) (padding_of k u (from s at))) (header.Delta k u odd next (o + cond overlong 1 0))
+        Next s at (Ok r) → odd ≡ not (eqb (num r.value) 0) →
+        HeaderOf s (after (packed o) (padding_of k u (from s at)))
+        (Ok (record { deleted = k; updated = u; odd = odd; next = r.next; overlong = o + cond r.overlong 1 0 }))
     unfolding padding_of
     padding-read (found e i a b) q =
-        let w = warned overlong in
-        let r : Got DeltaHeader = record { value = record { deleted = k; updated = u }; rest = from s next } in
-        Steps.delta {k = k} {u = u} {next = next} {o = o + cond overlong 1 0} {odd = odd}
-        (rw (e, ← q, odd-warned odd r)
-        (ap (ok r) (sym (plus_assoc (packed o) w (odd_padding odd)) ∙ ap (λ (v : Counts). plus v (odd_padding odd)) (more-warned o overlong)))) b
+        let w = warned r.overlong in
+        let g : Got DeltaHeader = record { value = record { deleted = k; updated = u }; rest = from s r.next } in
+        Steps.delta {h = record { deleted = k; updated = u; odd = odd; next = r.next; overlong = o + cond r.overlong 1 0 }}
+        (rw (e, ← q, odd-warned odd g)
+        (ap (ok g) (sym (plus_assoc (packed o) w (odd_padding odd)) ∙ ap (λ (v : Counts). plus v (odd_padding odd)) (more-warned o r.overlong)))) b
 
 -- ---- the header
 
@@ -96,18 +102,21 @@ module _ (s : Source) where
   unfolding read_delta_header padding_of
   both_read k a o u d o₂ q r = rw (q, r) (after-after (packed o) (packed o₂) (padding_of k u (from s d)))
 
-  pub first-refused : {e : Error} {o : ℕ} → Numbers s 0 (found_number.Refused e o) → Headers s (header.Refused e o)
+  pub first-refused : {r : Refusal} → Numbers s 0 (Err r) → Headers s (Err r)
   unfolding read_delta_header
-  first-refused {e} {o} (Steps.refused q a) = Source.refused {e = e} {o = o} (rw q)
+  first-refused {r} (Steps.refused q a) = Source.refused {r = r} (rw q)
 
-  module _ {k a o : ℕ} where
+  module _ {k : Number} where
     pub second-refused :
-        {e : Error} {o₂ : ℕ} → Numbers s 0 (found_number.Number k a o) → Numbers s a (found_number.Refused e o₂) → Headers s (header.Refused e (o + o₂))
+        {r : Refusal} → Numbers s 0 (Ok k) → Numbers s k.next (Err r) → Headers s (Err (record { error = r.error; overlong = k.overlong + r.overlong }))
     unfolding read_delta_header
-    second-refused {e} {o₂} (Steps.some_number q x y) (Steps.refused r i) = Source.refused {e = e} {o = o + o₂} (rw (q, r))
+    second-refused {r} (Steps.some_number q x y) (Steps.refused m i) =
+        Source.refused {r = record { error = r.error; overlong = k.overlong + r.overlong }} (rw (q, m))
 
     pub header-judged :
-        {u d o₂ : ℕ} {h : Header} → Numbers s 0 (found_number.Number k a o) → Numbers s a (found_number.Number u d o₂) →
-        HeaderOf s (after (packed (o + o₂)) (padding_of k u (from s d))) h → Headers s h
-    header-judged {u} {d} {o₂} (Steps.some_number q x y) (Steps.some_number r i j) (Steps.delta e b) = Source.delta (both_read k a o u d o₂ q r ∙ e) b
-    header-judged {u} {d} {o₂} (Steps.some_number q x y) (Steps.some_number r i j) (Steps.refused e) = Source.refused (both_read k a o u d o₂ q r ∙ e)
+        {u : Number} {h : Result Header Refusal} → Numbers s 0 (Ok k) → Numbers s k.next (Ok u) →
+        HeaderOf s (after (packed (k.overlong + u.overlong)) (padding_of k.value u.value (from s u.next))) h → Headers s h
+    header-judged {u} (Steps.some_number q x y) (Steps.some_number r i j) (Steps.delta e b) =
+        Source.delta (both_read k.value k.next k.overlong u.value u.next u.overlong q r ∙ e) b
+    header-judged {u} (Steps.some_number q x y) (Steps.some_number r i j) (Steps.refused e) =
+        Source.refused (both_read k.value k.next k.overlong u.value u.next u.overlong q r ∙ e)

@@ -28,8 +28,8 @@ use Rattle.format.specs.Numbers.{number}
 use Rattle.format.specs.declared.Error.{Error}
 use Rattle.packer.specs.Answers.{int_read, refusal, missing_as}
 use Rattle.packer.specs.declared.IntRead.{IntRead}
-use Rattle.packer.specs.declared.IntRead.TheVariants as read
-use Rattle.delta_source.specs.Source.{Source, source, size, from, place_of, behind, Next, found, nothing}
+use Rattle.std.specs.Prelude.{Result, Ok, Err}
+use Rattle.delta_source.specs.Source.{source, from, place_of, behind, Next, found, nothing}
 
 -- ---- packed bytes
 
@@ -50,12 +50,12 @@ module _ (src : List ℕ) (l : List ℤ) (at : ℕ) where
   unfolding read_int_at read_int
   past_end n h e = err-number (rw (drop_of_length-le src h) at e)
 
-  pub read_next : (r : IntRead) → read_int_at src at ≡ int_read r → Next (source true src l) at r
+  pub read_next : (r : Result IntRead Error) → read_int_at src at ≡ int_read r → Next (source true src l) at r
   unfolding from behind
-  read_next (read.Int x next o) e =
-      let f = StreamLaws.found src at x next (warned o) e in
+  read_next (Ok r) e =
+      let f = StreamLaws.found src at r.value r.next (warned r.overlong) e in
       found f.step (sym (ap place_of e)) f.on f.inside
-  read_next (read.Refused r) e =
+  read_next (Err r) e =
       ⊎_elim
       (λ (h : at < length src). nothing (λ refusal. rw (ended src at (number r) Warnings.none h e) (stops (number r) refusal)))
       (λ (h : length src ≤ at). nothing (λ refusal. rw (stream-past h, ← past_end (number r) h e)))
@@ -90,17 +90,17 @@ module _ (src : List ℕ) (l : List ℤ) (at : ℕ) where
   onward (err n w) = end
 
   int-next :
-      (r : IntRead) → at < length l → ok (record { value = get_or l at (pos 0); next = at + 1 }) (warned false) ≡ int_read r → Next (source false src l) at r
+      (r : Result IntRead Error) → at < length l → ok (record { value = get_or l at (pos 0); next = at + 1 }) (warned false) ≡ int_read r → Next (source false src l) at r
   unfolding from behind
-  int-next (read.Int x next o) h e = let q = ap place_of e in found (int-step h ∙ ap onward e) (sym q) (omega arith) (omega arith)
-  int-next (read.Refused r) h e = absurd (true≢false (ap (λ (o : Outcome IntAt). is_end (onward o)) (sym e)))
+  int-next (Ok r) h e = let q = ap place_of e in found (int-step h ∙ ap onward e) (sym q) (omega arith) (omega arith)
+  int-next (Err r) h e = absurd (true≢false (ap (λ (o : Outcome IntAt). is_end (onward o)) (sym e)))
 
-  no-int : (r : IntRead) → length l ≤ at → refuse unexpected_end ≡ int_read r → Next (source false src l) at r
+  no-int : (r : Result IntRead Error) → length l ≤ at → refuse unexpected_end ≡ int_read r → Next (source false src l) at r
   unfolding from
-  no-int (read.Int x next o) h e = absurd (true≢false (ap (λ (o : Outcome IntAt). is_end (onward o)) e))
-  no-int (read.Refused r) h e = nothing {e = r} (λ refusal. rw (int-past h, ← err-number e))
+  no-int (Ok r) h e = absurd (true≢false (ap (λ (o : Outcome IntAt). is_end (onward o)) e))
+  no-int (Err r) h e = nothing {e = r} (λ refusal. rw (int-past h, ← err-number e))
 
-  pub plain-next : (r : IntRead) → plain_int_at l at ≡ int_read r → Next (source false src l) at r
+  pub plain-next : (r : Result IntRead Error) → plain_int_at l at ≡ int_read r → Next (source false src l) at r
   plain-next r e =
       ⊎_elim
       (λ (h : at < length l). int-next r h (sym (int-found l at h) ∙ e))
@@ -118,9 +118,5 @@ module _ (src : List ℕ) (l : List ℤ) (at : ℕ) where
 -- ---- an integer that must be present
 
 -- why it is refused, by what was read
-pub missing-as : (m : ℕ) {n : ℕ} {x : IntRead} {r : Error} → n ≡ missing_as (refusal x) m → x ≡ read.Refused r → n ≡ missing_as (number r) m
-missing-as m h e = h ∙ ap (λ (y : IntRead). missing_as (refusal y) m) e
-
--- the place after it
-pub next-inside : {s : Source} {at next : ℕ} {x : ℤ} {o : Bool} → Next s at (read.Int x next o) → next ≤ size s
-next-inside (found e q a b) = b
+pub missing-as : (m : ℕ) {n : ℕ} {x : Result IntRead Error} {r : Error} → n ≡ missing_as (refusal x) m → x ≡ Err r → n ≡ missing_as (number r) m
+missing-as m h e = h ∙ ap (λ (y : Result IntRead Error). missing_as (refusal y) m) e

@@ -9,6 +9,7 @@ use borrow.Author.Tests.{le-leb}
 use lib.IntN.{ℤ}
 use lib.ListN.{length, drop, take, set, length-append, length-drop, length-set, take-append-drop}
 use lib.Seq.{drop-drop, length-take-le}
+use Rattle.std.specs.Prelude.{Ok, Err}
 use Rattle.definitions.specs.Areas.{lay_at, fits_at}
 use Rattle.definitions.specs.Warnings.{Counts, plus}
 use Rattle.definitions.specs.Outcome.{Outcome, ok, err, return, refuse, after, ◌>>=◌}
@@ -24,10 +25,9 @@ use Rattle.ints.specs.Copies.{Copied, copy_at}
 use Rattle.format.specs.Numbers.{number}
 use Rattle.format.specs.declared.Error.{Error}
 use Rattle.packer.specs.Answers.{missing_as}
-use Rattle.packer.specs.declared.IntRead.TheVariants as read
+use Rattle.packer.specs.declared.IntRead.{IntRead}
 use Rattle.delta_source.specs.Source.{Source, source, size, from, behind_ints, Next, found, nothing, Skips, past, refused, Copies}
 use Rattle.delta_source.specs.SourcePlaces.{behind-none, behind-step, behind-ints}
-use Rattle.delta_source.specs.declared.checked.Skip.TheVariants as skip
 
 -- ---- one more integer
 
@@ -95,24 +95,20 @@ module _ (s : Source) (start n : ℕ) where
         ∙ ap (λ (w : Counts). prefixed (i.done ++ x ∷ []) (plus (packed o) w) rest) (warned-packed overlong)
 
     pub turn-skip :
-        {x : ℤ} {next : ℕ} (overlong : Bool) → Skipping s start n at left o → 0 < left → Next s at (read.Int x next overlong) →
-        Skipping s start n next (left - 1) (o + cond overlong 1 0)
-    turn-skip {x} {next} overlong i h (found e q a b) =
+        {r : IntRead} (k : ℕ) → left ≡ suc k → Skipping s start n at left o → Next s at (Ok r) → Skipping s start n r.next k (o + cond r.overlong 1 0)
+    turn-skip {r} k l i (found e q a b) =
         record {
           on = omega (arith, i.on);
           inside = b;
-          few-overlong = omega (arith, i.few-overlong, at_most_one overlong);
-          done = i.done ++ x ∷ [];
-          long = omega (arith, i.long, length-append i.done (x ∷ []));
-          place = sym (ap (behind_ints s at) l ∙ behind-step s at (left - 1) q) ∙ i.place;
-          joins = joined (left - 1) overlong x next i l e;
+          few-overlong = omega (arith, i.few-overlong, at_most_one r.overlong);
+          done = i.done ++ r.value ∷ [];
+          long = omega (arith, i.long, length-append i.done (r.value ∷ []));
+          place = sym (ap (behind_ints s at) l ∙ behind-step s at k q) ∙ i.place;
+          joins = joined k r.overlong r.value r.next i l e;
         }
-      where
-        l : left ≡ suc (left - 1)
-        l = omega arith
 
     -- all are skipped
-    pub skipped : {refusal : ℕ} → Skipping s start n at left o → left ≤ 0 → Skips s start n refusal (skip.Past at o)
+    pub skipped : {refusal : ℕ} → Skipping s start n at left o → left ≤ 0 → Skips s start n refusal (Ok (record { next = at; overlong = o }))
     unfolding next_ints
     skipped i h = past i.done (omega (arith, i.long)) (λ refusal. i.joins refusal ∙ last refusal left h) (sym (ap (behind_ints s at) all_past ∙ behind-none s at) ∙ i.place) i.on i.inside
       where
@@ -127,10 +123,10 @@ module _ (s : Source) (start n : ℕ) where
 
     -- not all are there
     pub stopped-at :
-        {r : Error} (refusal : ℕ) (e : Error) → Skipping s start n at left o → 0 < left → Next s at (read.Refused r) → number e ≡ missing_as (number r) refusal →
-        Skips s start n refusal (skip.Refused e o)
+        {r : Error} (refusal : ℕ) (e : Error) → Skipping s start n at left o → 0 < left → Next s at (Err r) → number e ≡ missing_as (number r) refusal →
+        Skips s start n refusal (Err (record { error = e; overlong = o }))
     stopped-at refusal e i h (nothing f) q =
-        refused {e = e} {o = o}
+        refused {r = record { error = e; overlong = o }}
         (i.joins refusal
         ∙ ap (prefixed i.done (packed o)) (ap (λ (m : ℕ). next_ints refusal m (from s at)) l ∙ no_more refusal (left - 1) (from s at) (f refusal))
         ∙ rw (plus_none (packed o), q))
@@ -151,7 +147,7 @@ module _ (b : List ℕ) (l : List ℤ) (at n : ℕ) where
   unfolding from
   too_few refusal h = few refusal n (drop at l) (simp length-drop (omega arith))
 
-  pub skip-too-few : (e : Error) → length l - at < n → Skips (source false b l) at n (number e) (skip.Refused e 0)
+  pub skip-too-few : (e : Error) → length l - at < n → Skips (source false b l) at n (number e) (Err (record { error = e; overlong = 0 }))
   skip-too-few e h = refused (too_few (number e) h)
 
   module _ (h : at + n ≤ length l) where
@@ -168,7 +164,7 @@ module _ (b : List ℕ) (l : List ℤ) (at n : ℕ) where
         let g = ap (λ (t : List ℤ). return {A = Got (List ℤ)} (record { value = xs; rest = int_stream t })) (drop-drop n at l) in
         e ∙ f ∙ reads refusal xs (drop n (drop at l)) ∙ g
 
-    pub skip-part : {refusal : ℕ} → Skips (source false b l) at n refusal (skip.Past (at + n) 0)
+    pub skip-part : {refusal : ℕ} → Skips (source false b l) at n refusal (Ok (record { next = at + n; overlong = 0 }))
     skip-part = past (take n (drop at l)) part-long part-read (sym (behind-ints b l at n)) (omega arith) h
 
 -- ---- copying
@@ -217,26 +213,26 @@ module _ (s : Source) (start n to : ℕ) (before : List ℤ) where
 
   module _ (out : List ℤ) (at i : ℕ) where
     pub turn-copy :
-        {x : ℤ} {next : ℕ} (overlong : Bool) → Copying s start n to before out at i → i < n → to + n ≤ length before → Next s at (read.Int x next overlong) →
-        Copying s start n to before (set out (to + i) x) next (i + 1)
-    turn-copy {x} {next} overlong c h room (found e j a b) =
+        {r : IntRead} → Copying s start n to before out at i → i < n → to + n ≤ length before → Next s at (Ok r) →
+        Copying s start n to before (set out (to + i) r.value) r.next (i + 1)
+    turn-copy {r} c h room (found e j a k) =
         record {
           few-copied = omega arith;
-          same = length-set out (to + i) x ∙ c.same;
+          same = length-set out (to + i) r.value ∙ c.same;
           joins = λ xs rest w refusal q.
               let l = c.joins xs rest w refusal q in
               let m : n - i ≡ suc (n - (i + 1)) = omega arith in
               let step = one_more refusal (n - (i + 1)) e in
-              let r = behind x (warned overlong) l.warnings l.ints rest (next_ints refusal (n - (i + 1)) (from s next))
+              let b = behind r.value (warned r.overlong) l.warnings l.ints rest (next_ints refusal (n - (i + 1)) (from s r.next))
               (sym step ∙ ap (λ (k : ℕ). next_ints refusal k (from s at)) (sym m) ∙ l.reading) in
               record {
-                ints = r.ints;
-                warnings = r.warnings;
-                reading = r.reading;
+                ints = b.ints;
+                warnings = b.warnings;
+                reading = b.reading;
                 laid =
-                    ap (λ (k : ℕ). lay_at k r.ints (set out (to + i) x)) (sym (add_assoc to i 1))
-                    ∙ sym (lay_at-set (to + i) x r.ints out (omega (arith, c.same)))
-                    ∙ ap (λ (t : List ℤ). lay_at (to + i) t out) (sym r.whole)
+                    ap (λ (k : ℕ). lay_at k b.ints (set out (to + i) r.value)) (sym (add_assoc to i 1))
+                    ∙ sym (lay_at-set (to + i) r.value b.ints out (omega (arith, c.same)))
+                    ∙ ap (λ (t : List ℤ). lay_at (to + i) t out) (sym b.whole)
                     ∙ l.laid;
               };
         }
@@ -253,7 +249,7 @@ module _ (s : Source) (start n to : ℕ) (before : List ℤ) where
         done (suc k) q l = absurd (omega arith)
 
     -- they are not there
-    pub none_left : {r : Error} → Copying s start n to before out at i → i < n → Next s at (read.Refused r) → (l : List ℤ) → Copies s start n to before l
+    pub none_left : {r : Error} → Copying s start n to before out at i → i < n → Next s at (Err r) → (l : List ℤ) → Copies s start n to before l
     none_left c h (nothing f) l xs rest w refusal e =
         let k = c.joins xs rest w refusal e in
         let m : n - i ≡ suc (n - (i + 1)) = omega arith in

@@ -1,5 +1,5 @@
 -- Reading by place from packed bytes or from ints. Assumes nothing.
-use Rattle.std.specs.Prelude.{◌≡◌, Bool, true, false, cond, List, [], ◌∷◌, ℕ, zero, suc, ◌+◌, ◌/◌, ◌<◌, ◌≤◌, ℤ, length, drop}
+use Rattle.std.specs.Prelude.{◌≡◌, Bool, true, false, cond, List, [], ◌∷◌, ℕ, zero, suc, ◌+◌, ◌/◌, ◌<◌, ◌≤◌, ℤ, length, drop, Result, Ok, Err}
 use Rattle.std.proofs.Math.Option.{Option, some}
 use Rattle.definitions.specs.Ints.{bits}
 use Rattle.definitions.specs.Areas.{lay_at}
@@ -18,17 +18,11 @@ use Rattle.format.specs.Numbers.{number}
 use Rattle.format.specs.declared.Error.{Error}
 use Rattle.packer.specs.Answers.{missing_as}
 use Rattle.packer.specs.declared.IntRead.{IntRead}
-use Rattle.packer.specs.declared.IntRead.TheVariants as read
+use Rattle.delta_source.specs.declared.checked.Refusal.{Refusal}
 use Rattle.delta_source.specs.declared.checked.Skip.{Skip}
-use Rattle.delta_source.specs.declared.checked.Skip.TheVariants as skip
 use Rattle.delta_source.specs.declared.checked.Head.{Head}
-use Rattle.delta_source.specs.declared.checked.Head.TheVariants as head
 use Rattle.delta_source.specs.declared.checked.Update.{Update}
-use Rattle.delta_source.specs.declared.checked.Update.TheVariants as whole-update
 use Rattle.delta_source.specs.declared.checked.Header.{Header}
-use Rattle.delta_source.specs.declared.checked.Header.TheVariants as header
-use Rattle.delta_source.specs.declared.checked.Ended.{Ended}
-use Rattle.delta_source.specs.declared.checked.Ended.TheVariants as ended
 use Rattle.delta_source.specs.declared.checked.Judged.{Judged}
 
 -- packed bytes, or ints
@@ -71,18 +65,19 @@ abbrev pub behind_update : Source → List ℤ → ℕ → Item → ℕ
 behind_update s sizes at u = behind_ints s (data_place s sizes at u.key) (length u.values)
 
 -- the integer at a place, or why it is refused
-pub data Next (s : Source) (at : ℕ) : IntRead → Type 0 where
+pub data Next (s : Source) (at : ℕ) : Result IntRead Error → Type 0 where
   found :
-      {x : ℤ} {next : ℕ} {o : Bool} → from s at ≡ int x (warned o) (from s next) → next ≡ behind s at → at < next → next ≤ size s →
-      Next s at (read.Int x next o)
-  nothing : {e : Error} → ((refusal : ℕ) → Reading.next refusal (from s at) ≡ refuse (missing_as (number e) refusal)) → Next s at (read.Refused e)
+      {r : IntRead} → from s at ≡ int r.value (warned r.overlong) (from s r.next) → r.next ≡ behind s at → at < r.next → r.next ≤ size s →
+      Next s at (Ok r)
+  nothing : {e : Error} → ((refusal : ℕ) → Reading.next refusal (from s at) ≡ refuse (missing_as (number e) refusal)) → Next s at (Err e)
 
 -- n integers were skipped, or why they are not all there, where an end has this refusal
-pub data Skips (s : Source) (at n refusal : ℕ) : Skip → Type 0 where
+pub data Skips (s : Source) (at n refusal : ℕ) : Result Skip Refusal → Type 0 where
   past :
-      {next o : ℕ} (xs : List ℤ) → length xs ≡ n → ((other : ℕ) → next_ints other n (from s at) ≡ ok (record { value = xs; rest = from s next }) (packed o)) →
-      next ≡ behind_ints s at n → at ≤ next → next ≤ size s → Skips s at n refusal (skip.Past next o)
-  refused : {e : Error} {o : ℕ} → next_ints refusal n (from s at) ≡ err (number e) (packed o) → Skips s at n refusal (skip.Refused e o)
+      {r : Skip} (xs : List ℤ) → length xs ≡ n →
+      ((other : ℕ) → next_ints other n (from s at) ≡ ok (record { value = xs; rest = from s r.next }) (packed r.overlong)) →
+      r.next ≡ behind_ints s at n → at ≤ r.next → r.next ≤ size s → Skips s at n refusal (Ok r)
+  refused : {r : Refusal} → next_ints refusal n (from s at) ≡ err (number r.error) (packed r.overlong) → Skips s at n refusal (Err r)
 
 -- n integers of the source are in an area from a place on
 abbrev pub Copies : Source → ℕ → ℕ → ℕ → List ℤ → List ℤ → Type 0
@@ -90,32 +85,35 @@ Copies s at n to before after =
     (xs : List ℤ) (rest : Stream) (w : Counts) (refusal : ℕ) → next_ints refusal n (from s at) ≡ ok (record { value = xs; rest = rest }) w → after ≡ lay_at to xs before
 
 -- the head of an update, or why there is none
-pub data Heads (s : Source) (sizes : List ℤ) (at : ℕ) : Head → Type 0 where
+pub data Heads (s : Source) (sizes : List ℤ) (at : ℕ) : Result Head Refusal → Type 0 where
   update :
-      {k : ℤ} {n d o : ℕ} → read_head sizes (from s at) ≡ ok (record { value = record { key = bits k; size = n }; rest = from s d }) (packed o) →
-      d ≡ data_place s sizes at (bits k) → at < d → d ≤ size s → Heads s sizes at (head.Update k n d o)
-  refused : {e : Error} {o : ℕ} → read_head sizes (from s at) ≡ err (number e) (packed o) → Heads s sizes at (head.Refused e o)
+      {h : Head} →
+      read_head sizes (from s at) ≡ ok (record { value = record { key = bits h.key; size = h.size }; rest = from s h.start }) (packed h.overlong) →
+      h.start ≡ data_place s sizes at (bits h.key) → at < h.start → h.start ≤ size s → Heads s sizes at (Ok h)
+  refused : {r : Refusal} → read_head sizes (from s at) ≡ err (number r.error) (packed r.overlong) → Heads s sizes at (Err r)
 
--- an update, whose n differences begin at d, or why there is none
-pub data Updates (s : Source) (sizes : List ℤ) (at : ℕ) : Update → Type 0 where
+-- an update, whose differences begin at a place, or why there is none
+pub data Updates (s : Source) (sizes : List ℤ) (at : ℕ) : Result Update Refusal → Type 0 where
   update :
-      {k : ℤ} {n d next o : ℕ} (xs : List ℤ) (v : Counts) → length xs ≡ n →
-      ((refusal : ℕ) → next_ints refusal n (from s d) ≡ ok (record { value = xs; rest = from s next }) v) →
-      read_update sizes (from s at) ≡ ok (record { value = record { key = bits k; values = xs }; rest = from s next }) (packed o) →
-      d ≡ data_place s sizes at (bits k) → next ≡ behind_ints s d n → at < d → d ≤ next → next ≤ size s → Updates s sizes at (whole-update.Update k n d next o)
-  refused : {e : Error} {o : ℕ} → read_update sizes (from s at) ≡ err (number e) (packed o) → Updates s sizes at (whole-update.Refused e o)
+      {u : Update} (xs : List ℤ) (v : Counts) → length xs ≡ u.size →
+      ((refusal : ℕ) → next_ints refusal u.size (from s u.start) ≡ ok (record { value = xs; rest = from s u.next }) v) →
+      read_update sizes (from s at) ≡ ok (record { value = record { key = bits u.key; values = xs }; rest = from s u.next }) (packed u.overlong) →
+      u.start ≡ data_place s sizes at (bits u.key) → u.next ≡ behind_ints s u.start u.size → at < u.start → u.start ≤ u.next → u.next ≤ size s →
+      Updates s sizes at (Ok u)
+  refused : {r : Refusal} → read_update sizes (from s at) ≡ err (number r.error) (packed r.overlong) → Updates s sizes at (Err r)
 
 -- a warning of padding that is not 0
 abbrev pub odd_padding : Bool → Counts
 odd_padding odd = cond odd (one NonZeroPadding) Warnings.none
 
 -- the header of a delta, or why there is none
-pub data Headers (s : Source) : Header → Type 0 where
+pub data Headers (s : Source) : Result Header Refusal → Type 0 where
   delta :
-      {k u next o : ℕ} {odd : Bool} →
-      read_delta_header (from s 0) ≡ ok (record { value = record { deleted = k; updated = u }; rest = from s next }) (plus (packed o) (odd_padding odd)) →
-      next ≤ size s → Headers s (header.Delta k u odd next o)
-  refused : {e : Error} {o : ℕ} → read_delta_header (from s 0) ≡ err (number e) (packed o) → Headers s (header.Refused e o)
+      {h : Header} →
+      read_delta_header (from s 0)
+      ≡ ok (record { value = record { deleted = h.deleted; updated = h.updated }; rest = from s h.next }) (plus (packed h.overlong) (odd_padding h.odd)) →
+      h.next ≤ size s → Headers s (Ok h)
+  refused : {r : Refusal} → read_delta_header (from s 0) ≡ err (number r.error) (packed r.overlong) → Headers s (Err r)
 
 -- the updates from a place on, the packer's warnings up to their end, and the refusal that ends them, if any
 pub data Walks (s : Source) (sizes : List ℤ) : ℕ → List Item → Counts → Option ℕ → Type 0 where
@@ -135,9 +133,9 @@ walked (broken h g) = Items.none
 walked (more h r q l m k) = Items.more r q l m (walked k)
 
 -- the refusal of an ending
-abbrev pub refusal_of : Ended → Option ℕ
-refusal_of ended.Whole = Option.none
-refusal_of (ended.Refused e) = some (number e)
+abbrev pub refusal_of : Result (Unit {0}) Error → Option ℕ
+refusal_of (Ok x) = Option.none
+refusal_of (Err e) = some (number e)
 
 -- what judging the updates from a place on returns
 pub record Judges (s : Source) (sizes : List ℤ) (at : ℕ) (j : Judged) : Type 0 where

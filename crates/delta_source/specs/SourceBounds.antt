@@ -1,5 +1,5 @@
 -- Bounds on what the functions of `delta_source` return: no more warnings and ints than the source has. Assumes nothing.
-use Rattle.std.specs.Prelude.{◌≡◌, Bool, true, false, ℕ, ◌+◌, ◌*◌, ◌/◌, ◌≤◌, ℤ, length}
+use Rattle.std.specs.Prelude.{◌≡◌, Bool, true, false, ℕ, ◌+◌, ◌*◌, ◌/◌, ◌≤◌, ℤ, length, Ok, Err}
 use mathlib.Core.List.{List, [], ◌∷◌, ◌++◌}
 use Rattle.std.proofs.Math.Option.{Option}
 use native.Mathlib.Omega.{arith}
@@ -13,13 +13,13 @@ use Rattle.definitions.specs.Deltas.{known_size, update_ints, updates_ints}
 use Rattle.definitions.specs.DeltaReading.{Got, DeltaHeader}
 use Rattle.laws.specs.WarningLaws.{packed}
 use Rattle.laws.specs.DeltaReadBack.{many-ints}
-use Rattle.format.specs.declared.Error.{Error}
 use Rattle.delta_source.specs.Source.{Source, size, from, odd_padding, Skips, past, Updates, Headers, Walks, whole, broken, more, Judges}
 use Rattle.delta_source.specs.Source as Source
 use Rattle.delta_source.specs.SourceLaws.{overlongs, few-from, few-left, Reads, got, refused, ints-reads, header-reads, update-reads}
-use Rattle.delta_source.specs.declared.checked.Skip.TheVariants as skip
-use Rattle.delta_source.specs.declared.checked.Update.TheVariants as update
-use Rattle.delta_source.specs.declared.checked.Header.TheVariants as header
+use Rattle.delta_source.specs.declared.checked.Refusal.{Refusal}
+use Rattle.delta_source.specs.declared.checked.Skip.{Skip}
+use Rattle.delta_source.specs.declared.checked.Update.{Update}
+use Rattle.delta_source.specs.declared.checked.Header.{Header}
 use Rattle.delta_source.specs.declared.checked.Judged.{Judged}
 
 -- from one place to the next: at least n ints, and all the warnings
@@ -46,34 +46,34 @@ counted-most {s} {at} c =
     (omega (arith, c.overlong-all, few-from s at), omega (arith, c.ints-all))
 
 module _ {s : Source} {at n refusal : ℕ} where
-  pub skip-counted : {next o : ℕ} → Skips s at n refusal (skip.Past next o) → Counted s at next n o
-  skip-counted {next} {o} (past xs l e q a b) =
-      let c = counted s at next o xs (rw (e 0) at (ints-reads 0 n 0 (from s at))) in
+  pub skip-counted : {r : Skip} → Skips s at n refusal (Ok r) → Counted s at r.next n r.overlong
+  skip-counted {r} (past xs l e q a b) =
+      let c = counted s at r.next r.overlong xs (rw (e 0) at (ints-reads 0 n 0 (from s at))) in
       record { overlong-all = c.overlong-all; ints-all = omega (arith, c.ints-all) }
 
-  pub skip-most : {e : Error} {o : ℕ} → Skips s at n refusal (skip.Refused e o) → o ≤ size s
-  skip-most {o = o} (Source.refused e) = most s at (bounded s at _ o (rw e at (ints-reads refusal n 0 (from s at))))
+  pub skip-most : {r : Refusal} → Skips s at n refusal (Err r) → r.overlong ≤ size s
+  skip-most {r} (Source.refused e) = most s at (bounded s at _ r.overlong (rw e at (ints-reads refusal n 0 (from s at))))
 
 module _ {s : Source} {sizes : List ℤ} {at : ℕ} where
-  pub update-counted : {k : ℤ} {n d next o : ℕ} → Updates s sizes at (update.Update k n d next o) → Counted s at next (2 + n) o
-  update-counted {next = next} {o = o} (Source.update xs v l f e q r a b i) =
-      let c = counted s at next o _ (rw e at (update-reads sizes (from s at))) in
+  pub update-counted : {u : Update} → Updates s sizes at (Ok u) → Counted s at u.next (2 + u.size) u.overlong
+  update-counted {u} (Source.update xs v l f e q r a b i) =
+      let c = counted s at u.next u.overlong _ (rw e at (update-reads sizes (from s at))) in
       record { overlong-all = c.overlong-all; ints-all = omega (arith, c.ints-all) }
 
-  pub update-bounded : {e : Error} {o : ℕ} → Updates s sizes at (update.Refused e o) → o ≤ overlongs (from s at)
-  update-bounded {o = o} (Source.refused e) = bounded s at _ o (rw e at (update-reads sizes (from s at)))
+  pub update-bounded : {r : Refusal} → Updates s sizes at (Err r) → r.overlong ≤ overlongs (from s at)
+  update-bounded {r} (Source.refused e) = bounded s at _ r.overlong (rw e at (update-reads sizes (from s at)))
 
-  pub update-most : {e : Error} {o : ℕ} → Updates s sizes at (update.Refused e o) → o ≤ size s
+  pub update-most : {r : Refusal} → Updates s sizes at (Err r) → r.overlong ≤ size s
   update-most u = most s at (update-bounded u)
 
 module _ {s : Source} where
-  pub header-counted : {k u next o : ℕ} {odd : Bool} → Headers s (header.Delta k u odd next o) → Counted s 0 next 3 o
-  header-counted {k} {u} {next} {o} {odd} (Source.delta e b) = go odd (rw e at (header-reads (from s 0)))
+  pub header-counted : {h : Header} → Headers s (Ok h) → Counted s 0 h.next 3 h.overlong
+  header-counted {h} (Source.delta e b) = go h.odd (rw e at (header-reads (from s 0)))
     where
       go :
           (odd : Bool) →
-          let g : Got DeltaHeader = record { value = record { deleted = k; updated = u }; rest = from s next } in
-          Reads 0 (λ (x : DeltaHeader). 3) (from s 0) (ok g (plus (packed o) (odd_padding odd))) → Counted s 0 next 3 o
+          let g : Got DeltaHeader = record { value = record { deleted = h.deleted; updated = h.updated }; rest = from s h.next } in
+          Reads 0 (λ (x : DeltaHeader). 3) (from s 0) (ok g (plus (packed h.overlong) (odd_padding odd))) → Counted s 0 h.next 3 h.overlong
       go true (got x y) = record { overlong-all = omega arith; ints-all = omega arith }
       go false (got x y) = record { overlong-all = omega arith; ints-all = omega arith }
 

@@ -1,5 +1,5 @@
 -- The steps of reading a head and a header, and what the function for each step returns. Assumes nothing.
-use Rattle.std.specs.Prelude.{◌≡◌, Bool, not, List, ℕ, ◌/◌, ◌≤◌, ltb, eqb, ℤ}
+use Rattle.std.specs.Prelude.{◌≡◌, not, List, ℕ, ◌/◌, ◌≤◌, ltb, eqb, ℤ, Result, Ok, Err}
 use Rattle.std.proofs.Math.Option.{Option, some, none}
 use Rattle.definitions.specs.Ints.{bits}
 use Rattle.definitions.specs.Refusals.{unexpected_end, type_id_range, id_range}
@@ -12,14 +12,11 @@ use Rattle.definitions.specs.DeltaReading.{Got, DeltaHeader, next, header_number
 use Rattle.definitions.specs.DeltaReading as Reading
 use Rattle.laws.specs.WarningLaws.{packed}
 use Rattle.format.specs.Numbers.{number}
-use Rattle.format.specs.declared.Error.{Error}
 use Rattle.delta_source.specs.Source.{Source, from, size, behind_ints, odd_padding}
+use Rattle.delta_source.specs.declared.checked.Refusal.{Refusal}
 use Rattle.delta_source.specs.declared.checked.Head.{Head}
-use Rattle.delta_source.specs.declared.checked.Head.TheVariants as head
 use Rattle.delta_source.specs.declared.checked.Header.{Header}
-use Rattle.delta_source.specs.declared.checked.Header.TheVariants as header
 use Rattle.delta_source.specs.declared.checked.Number.{Number}
-use Rattle.delta_source.specs.declared.checked.Number.TheVariants as found
 
 -- ---- a head
 
@@ -42,11 +39,11 @@ head_of sizes type id s = do
   size_of (known_size sizes (num type)) (key_of (num type) (num id)) s
 
 -- a head that was read from the place of its size on, or why there is none
-pub data HeadOf (s : Source) (sizes : List ℤ) (at : ℕ) (o : Outcome (Got Reading.Head)) : Head → Type 0 where
+pub data HeadOf (s : Source) (sizes : List ℤ) (at : ℕ) (o : Outcome (Got Reading.Head)) : Result Head Refusal → Type 0 where
   update :
-      {k : ℤ} {n d over : ℕ} → o ≡ ok (record { value = record { key = bits k; size = n }; rest = from s d }) (packed over) →
-      d ≡ behind_ints s at (size_length (known_size sizes (bits k / 65536))) → at ≤ d → d ≤ size s → HeadOf s sizes at o (head.Update k n d over)
-  refused : {e : Error} {over : ℕ} → o ≡ err (number e) (packed over) → HeadOf s sizes at o (head.Refused e over)
+      {h : Head} → o ≡ ok (record { value = record { key = bits h.key; size = h.size }; rest = from s h.start }) (packed h.overlong) →
+      h.start ≡ behind_ints s at (size_length (known_size sizes (bits h.key / 65536))) → at ≤ h.start → h.start ≤ size s → HeadOf s sizes at o (Ok h)
+  refused : {r : Refusal} → o ≡ err (number r.error) (packed r.overlong) → HeadOf s sizes at o (Err r)
 
 -- ---- a header
 
@@ -58,15 +55,16 @@ padding_of deleted updated s = do
   return (record { value = record { deleted = deleted; updated = updated }; rest = padding.rest })
 
 -- a number of the header, or why there is none
-pub data Numbers (s : Source) (at : ℕ) : Number → Type 0 where
+pub data Numbers (s : Source) (at : ℕ) : Result Number Refusal → Type 0 where
   some_number :
-      {n next o : ℕ} → header_number (from s at) ≡ ok (record { value = n; rest = from s next }) (packed o) → o ≤ 1 → next ≤ size s →
-      Numbers s at (found.Number n next o)
-  refused : {e : Error} {o : ℕ} → header_number (from s at) ≡ err (number e) (packed o) → o ≤ 1 → Numbers s at (found.Refused e o)
+      {n : Number} → header_number (from s at) ≡ ok (record { value = n.value; rest = from s n.next }) (packed n.overlong) → n.overlong ≤ 1 → n.next ≤ size s →
+      Numbers s at (Ok n)
+  refused : {r : Refusal} → header_number (from s at) ≡ err (number r.error) (packed r.overlong) → r.overlong ≤ 1 → Numbers s at (Err r)
 
 -- a header that was read, or why there is none
-pub data HeaderOf (s : Source) (r : Outcome (Got DeltaHeader)) : Header → Type 0 where
+pub data HeaderOf (s : Source) (o : Outcome (Got DeltaHeader)) : Result Header Refusal → Type 0 where
   delta :
-      {k u next o : ℕ} {odd : Bool} → r ≡ ok (record { value = record { deleted = k; updated = u }; rest = from s next }) (plus (packed o) (odd_padding odd)) →
-      next ≤ size s → HeaderOf s r (header.Delta k u odd next o)
-  refused : {e : Error} {o : ℕ} → r ≡ err (number e) (packed o) → HeaderOf s r (header.Refused e o)
+      {h : Header} →
+      o ≡ ok (record { value = record { deleted = h.deleted; updated = h.updated }; rest = from s h.next }) (plus (packed h.overlong) (odd_padding h.odd)) →
+      h.next ≤ size s → HeaderOf s o (Ok h)
+  refused : {r : Refusal} → o ≡ err (number r.error) (packed r.overlong) → HeaderOf s o (Err r)

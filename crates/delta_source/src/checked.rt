@@ -8,9 +8,6 @@ ghost use Rattle.laws.specs.WarningLaws as Laws;
 ghost use Rattle.format.specs.Numbers.{number};
 ghost use Rattle.delta_source.specs.Source.{source, size, from, Next, Skips, Copies, Heads, Updates, Headers, Judges};
 ghost use Rattle.delta_source.specs.Steps.{size_of, head_of, HeadOf, padding_of, Numbers, HeaderOf};
-ghost use Rattle.delta_source.specs.declared.checked.Head.TheVariants as head;
-ghost use Rattle.delta_source.specs.declared.checked.Update.TheVariants as update;
-ghost use Rattle.delta_source.specs.declared.checked.Header.TheVariants as header;
 
 use delta_form::checked::known_size;
 use format::Error;
@@ -18,7 +15,7 @@ use packer::IntRead;
 use packer::checked::missing;
 
 // Reads the integer at a place.
-pub fn next_int(bytes: &[u8], ints: &[i32], packed: bool, at: usize) -> IntRead
+pub fn next_int(bytes: &[u8], ints: &[i32], packed: bool, at: usize) -> Result<IntRead, Error>
     requires { at ≤ size (source packed bytes.now ints.now) }
     ensures { Next (source packed bytes.now ints.now) at result }
 {
@@ -39,39 +36,39 @@ pub fn at_end(bytes: &[u8], ints: &[i32], packed: bool, at: usize) -> bool
     ints.len() <= at
 }
 
-// The result of skipping integers: the place after them, or why they are not all there; with the packer's warnings counted.
+// Why what was to be read is not there, with the packer's warnings counted up to there.
 #[derive(Clone, Copy)]
-pub enum Skip {
-    Past { next: usize, overlong: usize },
-    Refused { error: Error, overlong: usize },
+pub struct Refusal {
+    pub error: Error,
+    pub overlong: usize,
+}
+
+// Integers that were skipped: the place after them, with the packer's warnings counted.
+#[derive(Clone, Copy)]
+pub struct Skip {
+    pub next: usize,
+    pub overlong: usize,
 }
 
 // Skips n packed integers. If the bytes end before the last of them, the error is the reason.
-pub fn skip_packed(bytes: &[u8], start: usize, n: usize, error: Error) -> Skip
+pub fn skip_packed(bytes: &[u8], start: usize, n: usize, error: Error) -> Result<Skip, Refusal>
     requires { start ≤ length bytes.now }
     ensures { (i : List ℤ) → Skips (source true bytes.now i) start n (number error) result }
 {
     let mut at = start;
-    let mut left = n;
     let mut overlong: usize = 0;
-    while 0 < left {
+    for _ in 0..n {
         let read = packer::checked::read_int(bytes, at);
-        let IntRead::Int {
-            next,
-            overlong: o,
-            ..
-        } = read
-        else {
-            return Skip::Refused {
+        let Ok(int) = read else {
+            return Err(Refusal {
                 error: missing(read, error),
                 overlong,
-            };
+            });
         };
-        overlong += ints::one_if(o);
-        at = next;
-        left -= 1;
+        overlong += ints::one_if(int.overlong);
+        at = int.next;
     }
-    Skip::Past { next: at, overlong }
+    Ok(Skip { next: at, overlong })
 }
 
 // Skips n integers, of which ints are not looked at. If the source ends before the last of them, the error is the reason.
@@ -82,7 +79,7 @@ pub fn skip_ints(
     at: usize,
     n: usize,
     error: Error,
-) -> Skip
+) -> Result<Skip, Refusal>
     requires { at ≤ size (source packed bytes.now ints.now) }
     ensures { Skips (source packed bytes.now ints.now) at n (number error) result }
 {
@@ -90,12 +87,12 @@ pub fn skip_ints(
         return skip_packed(bytes, at, n, error);
     }
     if ints.len() - at < n {
-        return Skip::Refused { error, overlong: 0 };
+        return Err(Refusal { error, overlong: 0 });
     }
-    Skip::Past {
+    Ok(Skip {
         next: at + n,
         overlong: 0,
-    }
+    })
 }
 
 // Copies n packed integers, which are present, into out from a place on.
@@ -104,14 +101,12 @@ pub fn copy_packed(bytes: &[u8], start: usize, n: usize, out: &mut [i32], to: us
     ensures { (i : List ℤ) → Copies (source true bytes.now i) start n to out.old out.new }
 {
     let mut at = start;
-    let mut i: usize = 0;
-    while i < n {
-        let IntRead::Int { value, next, .. } = packer::checked::read_int(bytes, at) else {
+    for i in 0..n {
+        let Ok(int) = packer::checked::read_int(bytes, at) else {
             return;
         };
-        out[to + i] = value;
-        at = next;
-        i += 1;
+        out[to + i] = int.value;
+        at = int.next;
     }
 }
 
@@ -138,26 +133,13 @@ pub fn copy_ints(
     ints::copy_into(out, to, &ints[at..at + n]);
 }
 
-// An update's key, how many differences it has, and where they begin; or why there is none.
+// An update's key, how many differences it has, and where they begin.
 #[derive(Clone, Copy)]
-pub enum Head {
-    Update {
-        key: i32,
-        size: usize,
-        data: usize,
-        overlong: usize,
-    },
-    Refused {
-        error: Error,
-        overlong: usize,
-    },
-}
-
-// Why there is no head.
-pub fn head_refused(error: Error, overlong: usize) -> Head
-    ensures { result ≡ head.Refused error overlong }
-{
-    Head::Refused { error, overlong }
+pub struct Head {
+    pub key: i32,
+    pub size: usize,
+    pub start: usize,
+    pub overlong: usize,
 }
 
 // Reads the head with this key, whose size is at a place; adds the warnings so far.
@@ -168,30 +150,30 @@ pub fn read_size(
     at: usize,
     key: i32,
     overlong: usize,
-) -> Head
+) -> Result<Head, Refusal>
     requires { (at ≤ size (source packed bytes.now ints.now)) × (overlong ≤ 2) }
     ensures { HeadOf (source packed bytes.now ints.now) [] at (after (Laws.packed overlong) (size_of none (bits key) (from (source packed bytes.now ints.now) at))) result }
 {
     let read = next_int(bytes, ints, packed, at);
-    let IntRead::Int {
-        value,
-        next,
-        overlong: o,
-    } = read
-    else {
-        return head_refused(missing(read, Error::ItemDiffsUnpacking), overlong);
+    let Ok(int) = read else {
+        return Err(Refusal {
+            error: missing(read, Error::ItemDiffsUnpacking),
+            overlong,
+        });
     };
-    let overlong = overlong + ints::one_if(o);
-    let size = ints::num(value);
-    if 4294967296 <= size {
-        return head_refused(Error::NegativeSize, overlong);
-    }
-    Head::Update {
+    let overlong = overlong + ints::one_if(int.overlong);
+    let Ok(size) = usize::try_from(int.value) else {
+        return Err(Refusal {
+            error: Error::NegativeSize,
+            overlong,
+        });
+    };
+    Ok(Head {
         key,
         size,
-        data: next,
+        start: int.next,
         overlong,
-    }
+    })
 }
 
 // Reads the head with this type and id, which end at a place; adds the warnings so far.
@@ -204,174 +186,160 @@ pub fn judge_head(
     type_id: i32,
     id: i32,
     overlong: usize,
-) -> Head
+) -> Result<Head, Refusal>
     requires { (at ≤ size (source packed bytes.now ints.now)) × (overlong ≤ 2) }
     ensures { HeadOf (source packed bytes.now ints.now) sizes.now at (after (Laws.packed overlong) (head_of sizes.now type_id id (from (source packed bytes.now ints.now) at))) result }
 {
-    let t = ints::num(type_id);
-    if 65536 <= t {
-        return head_refused(Error::TypeIdRange, overlong);
-    }
-    let i = ints::num(id);
-    if 65536 <= i {
-        return head_refused(Error::IdRange, overlong);
-    }
-    let key = format::key(t as u16, i as u16);
-    let known = known_size(sizes, t);
+    let Ok(t) = u16::try_from(type_id) else {
+        return Err(Refusal {
+            error: Error::TypeIdRange,
+            overlong,
+        });
+    };
+    let Ok(i) = u16::try_from(id) else {
+        return Err(Refusal {
+            error: Error::IdRange,
+            overlong,
+        });
+    };
+    let key = format::key(t, i);
+    let known = known_size(sizes, usize::from(t));
     if 4294967296 <= known {
         return read_size(bytes, ints, packed, at, key, overlong);
     }
-    Head::Update {
+    Ok(Head {
         key,
         size: known,
-        data: at,
+        start: at,
         overlong,
-    }
+    })
 }
 
 // Reads the head of the update at a place.
-pub fn read_head(bytes: &[u8], ints: &[i32], packed: bool, sizes: &[i32], at: usize) -> Head
+pub fn read_head(
+    bytes: &[u8],
+    ints: &[i32],
+    packed: bool,
+    sizes: &[i32],
+    at: usize,
+) -> Result<Head, Refusal>
     requires { at ≤ size (source packed bytes.now ints.now) }
     ensures { Heads (source packed bytes.now ints.now) sizes.now at result }
 {
     let first = next_int(bytes, ints, packed, at);
-    let IntRead::Int {
-        value: type_id,
-        next: behind,
-        overlong: o,
-    } = first
-    else {
-        return head_refused(missing(first, Error::ItemDiffsUnpacking), 0);
+    let Ok(type_id) = first else {
+        return Err(Refusal {
+            error: missing(first, Error::ItemDiffsUnpacking),
+            overlong: 0,
+        });
     };
-    let overlong = ints::one_if(o);
-    let second = next_int(bytes, ints, packed, behind);
-    let IntRead::Int {
-        value: id,
-        next,
-        overlong: o2,
-    } = second
-    else {
-        return head_refused(missing(second, Error::ItemDiffsUnpacking), overlong);
+    let overlong = ints::one_if(type_id.overlong);
+    let second = next_int(bytes, ints, packed, type_id.next);
+    let Ok(id) = second else {
+        return Err(Refusal {
+            error: missing(second, Error::ItemDiffsUnpacking),
+            overlong,
+        });
     };
-    let overlong = overlong + ints::one_if(o2);
-    judge_head(bytes, ints, packed, sizes, next, type_id, id, overlong)
+    let overlong = overlong + ints::one_if(id.overlong);
+    judge_head(
+        bytes,
+        ints,
+        packed,
+        sizes,
+        id.next,
+        type_id.value,
+        id.value,
+        overlong,
+    )
 }
 
 // The same with the place after the update.
 #[derive(Clone, Copy)]
-pub enum Update {
-    Update {
-        key: i32,
-        size: usize,
-        data: usize,
-        next: usize,
-        overlong: usize,
-    },
-    Refused {
-        error: Error,
-        overlong: usize,
-    },
-}
-
-// Why there is no update.
-pub fn update_refused(error: Error, overlong: usize) -> Update
-    ensures { result ≡ update.Refused error overlong }
-{
-    Update::Refused { error, overlong }
+pub struct Update {
+    pub key: i32,
+    pub size: usize,
+    pub start: usize,
+    pub next: usize,
+    pub overlong: usize,
 }
 
 // Reads the update at a place.
-pub fn read_update(bytes: &[u8], ints: &[i32], packed: bool, sizes: &[i32], at: usize) -> Update
+pub fn read_update(
+    bytes: &[u8],
+    ints: &[i32],
+    packed: bool,
+    sizes: &[i32],
+    at: usize,
+) -> Result<Update, Refusal>
     requires { at ≤ size (source packed bytes.now ints.now) }
     ensures { Updates (source packed bytes.now ints.now) sizes.now at result }
 {
-    match read_head(bytes, ints, packed, sizes, at) {
-        Head::Refused { error, overlong } => update_refused(error, overlong),
-        Head::Update {
-            key,
-            size,
-            data,
-            overlong,
-        } => match skip_ints(bytes, ints, packed, data, size, Error::ItemDiffsUnpacking) {
-            Skip::Refused { error, overlong: o } => update_refused(error, overlong + o),
-            Skip::Past { next, overlong: o } => Update::Update {
-                key,
-                size,
-                data,
-                next,
-                overlong: overlong + o,
-            },
-        },
+    let head = read_head(bytes, ints, packed, sizes, at)?;
+    match skip_ints(
+        bytes,
+        ints,
+        packed,
+        head.start,
+        head.size,
+        Error::ItemDiffsUnpacking,
+    ) {
+        Err(refusal) => Err(Refusal {
+            overlong: head.overlong + refusal.overlong,
+            ..refusal
+        }),
+        Ok(skip) => Ok(Update {
+            key: head.key,
+            size: head.size,
+            start: head.start,
+            next: skip.next,
+            overlong: head.overlong + skip.overlong,
+        }),
     }
 }
 
-// A delta's header: its two numbers, whether its padding is not 0, and where the deleted keys begin; or why there is none.
+// A delta's header: its two numbers, whether its padding is not 0, and where the deleted keys begin.
 #[derive(Clone, Copy)]
-pub enum Header {
-    Delta {
-        deleted: usize,
-        updated: usize,
-        odd: bool,
-        next: usize,
-        overlong: usize,
-    },
-    Refused {
-        error: Error,
-        overlong: usize,
-    },
+pub struct Header {
+    pub deleted: usize,
+    pub updated: usize,
+    pub odd: bool,
+    pub next: usize,
+    pub overlong: usize,
 }
 
-// Why there is no header.
-pub fn header_refused(error: Error, overlong: usize) -> Header
-    ensures { result ≡ header.Refused error overlong }
-{
-    Header::Refused { error, overlong }
-}
-
-// A number of the header, and the place of the next one; or why there is none.
+// A number of the header, and the place of the next one.
 #[derive(Clone, Copy)]
-pub enum Number {
-    Number {
-        value: usize,
-        next: usize,
-        overlong: usize,
-    },
-    Refused {
-        error: Error,
-        overlong: usize,
-    },
+pub struct Number {
+    pub value: usize,
+    pub next: usize,
+    pub overlong: usize,
 }
 
 // Reads the number of the header at a place.
-pub fn read_number(bytes: &[u8], ints: &[i32], packed: bool, at: usize) -> Number
+pub fn read_number(bytes: &[u8], ints: &[i32], packed: bool, at: usize) -> Result<Number, Refusal>
     requires { at ≤ size (source packed bytes.now ints.now) }
     ensures { Numbers (source packed bytes.now ints.now) at result }
 {
     let read = next_int(bytes, ints, packed, at);
-    let IntRead::Int {
-        value,
-        next,
-        overlong: o,
-    } = read
-    else {
-        return Number::Refused {
+    let Ok(int) = read else {
+        return Err(Refusal {
             error: missing(read, Error::UnexpectedEnd),
             overlong: 0,
-        };
+        });
     };
-    let overlong = ints::one_if(o);
-    let number = ints::num(value);
-    if 4294967296 <= number {
-        return Number::Refused {
+    let overlong = ints::one_if(int.overlong);
+    let Ok(value) = usize::try_from(int.value) else {
+        return Err(Refusal {
             error: Error::IntOutOfRange,
             overlong,
-        };
-    }
-    Number::Number {
-        value: number,
-        next,
+        });
+    };
+    Ok(Number {
+        value,
+        next: int.next,
         overlong,
-    }
+    })
 }
 
 // Reads the header with these two numbers, whose padding is at a place; adds the warnings so far.
@@ -383,63 +351,55 @@ pub fn read_padding(
     deleted: usize,
     updated: usize,
     overlong: usize,
-) -> Header
+) -> Result<Header, Refusal>
     requires { (at ≤ size (source packed bytes.now ints.now)) × (overlong ≤ 2) }
     ensures { HeaderOf (source packed bytes.now ints.now) (after (Laws.packed overlong) (padding_of deleted updated (from (source packed bytes.now ints.now) at))) result }
 {
-    let read = next_int(bytes, ints, packed, at);
-    let IntRead::Int {
-        value,
-        next,
-        overlong: o,
-    } = read
-    else {
-        return header_refused(missing(read, Error::UnexpectedEnd), overlong);
+    let padding = next_int(bytes, ints, packed, at);
+    let Ok(int) = padding else {
+        return Err(Refusal {
+            error: missing(padding, Error::UnexpectedEnd),
+            overlong,
+        });
     };
-    Header::Delta {
+    Ok(Header {
         deleted,
         updated,
-        odd: ints::num(value) != 0,
-        next,
-        overlong: overlong + ints::one_if(o),
-    }
+        odd: int.value != 0,
+        next: int.next,
+        overlong: overlong + ints::one_if(int.overlong),
+    })
 }
 
 // Reads the header of a delta.
-pub fn read_header(bytes: &[u8], ints: &[i32], packed: bool) -> Header
+pub fn read_header(bytes: &[u8], ints: &[i32], packed: bool) -> Result<Header, Refusal>
     ensures { Headers (source packed bytes.now ints.now) result }
 {
-    match read_number(bytes, ints, packed, 0) {
-        Number::Refused { error, overlong } => header_refused(error, overlong),
-        Number::Number {
-            value: deleted,
-            next: behind,
-            overlong,
-        } => match read_number(bytes, ints, packed, behind) {
-            Number::Refused { error, overlong: o } => header_refused(error, overlong + o),
-            Number::Number {
-                value: updated,
-                next,
-                overlong: o,
-            } => read_padding(bytes, ints, packed, next, deleted, updated, overlong + o),
-        },
+    let deleted = read_number(bytes, ints, packed, 0)?;
+    match read_number(bytes, ints, packed, deleted.next) {
+        Err(refusal) => Err(Refusal {
+            overlong: deleted.overlong + refusal.overlong,
+            ..refusal
+        }),
+        Ok(updated) => read_padding(
+            bytes,
+            ints,
+            packed,
+            updated.next,
+            deleted.value,
+            updated.value,
+            deleted.overlong + updated.overlong,
+        ),
     }
 }
 
-// How a run of updates ends: at the end of the source, or in a refusal.
-#[derive(Clone, Copy)]
-pub enum Ended {
-    Whole,
-    Refused(Error),
-}
-
-// How many updates there are, how many ints they take in an area, and how they end.
+// How many updates there are, how many ints they take in an area, and the refusal that ends them, if any.
 #[derive(Clone, Copy)]
 pub struct Judged {
     pub updates: usize,
     pub room: usize,
     pub overlong: usize,
-    pub ended: Ended,
+    pub ended: Result<(), Error>,
 }
 
 // Reads the updates from a place on, one after the other.
@@ -452,26 +412,21 @@ pub fn judge_updates(bytes: &[u8], ints: &[i32], packed: bool, sizes: &[i32], at
         updates: 0,
         room: 0,
         overlong: 0,
-        ended: Ended::Whole,
+        ended: Ok(()),
     };
+    // Where the next update begins is known only after a turn, so no range has the turns.
     while !at_end(bytes, ints, packed, here) {
         match read_update(bytes, ints, packed, sizes, here) {
-            Update::Refused { error, overlong } => return Judged {
-                updates: t.updates,
-                room: t.room,
-                overlong: t.overlong + overlong,
-                ended: Ended::Refused(error),
+            Err(refusal) => return Judged {
+                overlong: t.overlong + refusal.overlong,
+                ended: Err(refusal.error),
+                ..t
             },
-            Update::Update {
-                size,
-                next,
-                overlong,
-                ..
-            } => {
-                here = next;
+            Ok(update) => {
+                here = update.next;
                 t.updates += 1;
-                t.room += 3 + size;
-                t.overlong += overlong;
+                t.room += 3 + update.size;
+                t.overlong += update.overlong;
             }
         }
     }

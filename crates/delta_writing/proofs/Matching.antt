@@ -12,15 +12,12 @@ use Rattle.definitions.specs.DeltaCalls.{is_size, sizes_match}
 use Rattle.laws.specs.DeltaShape.{Update, area-size}
 use Rattle.laws.specs.DeltaRestores.{type-of, length-values}
 use Rattle.delta_form.specs.Held.{size_from, HeldDelta}
-use Rattle.delta_form.specs.Forms.{is_known, is-unknown}
+use Rattle.delta_form.specs.Forms.{is_known}
 
 -- the count r is what is known of the type of the update at place p
 module _ (sizes a : List ℤ) (p t r : ℕ) (e : t ≡ nat a p) (k : known_size sizes t ≡ size_from r) where
   pub compared : (n : ℕ) → r < 2 ^ 32 → n ≡ nat a (p + 2) → eqb r n ≡ is_size (known_size sizes (nat a p)) (size_at [] a p)
   compared n l d = rw (is_known sizes r e k l, area-size a p, d)
-
-  pub not-compared : 2 ^ 32 ≤ r → true ≡ is_size (known_size sizes (nat a p)) (size_at [] a p)
-  not-compared l = rw (is-unknown sizes r e k l)
 
 module _ (sizes a : List ℤ) (p : ℕ) where
   pub none_left : (n : ℕ) → n ≤ 0 → true ≡ sizes_match sizes (updates [] a p n)

@@ -14,7 +14,7 @@ use Rattle.definitions.specs.Outcome.{return, refuse}
 use Rattle.definitions.specs.Packed.{pack_ints}
 use Rattle.definitions.specs.Stored.{stored}
 use Rattle.definitions.specs.Deltas.{updates_ints, updates, delta_ints, delta_in}
-use Rattle.laws.specs.AreaLaws.{lay_at-append, length-lay_at}
+use Rattle.laws.specs.AreaLaws.{lay_at-append}
 use Rattle.laws.specs.PackLaws.{stored-fits, stored-full, length-pack_ints, pack-append}
 use Rattle.laws.specs.DeltaRestores.{delta-front, updates-end}
 use Rattle.laws.specs.DeltaWriting.{length-written-updates}
@@ -80,9 +80,6 @@ module _ (sizes a : List ℤ) (k u : ℕ) (h : HeldDelta [] a k u) where
     front-room = omega arith
 
     module _ (at : ℕ) (o1 : List ℕ) (ea : at ≡ 0 + length (pack_ints (take (3 + k) a))) (e1 : o1 ≡ lay_at 0 (pack_ints (take (3 + k) a)) out) where
-      pub updates-room : at + length (pack_ints ups) ≤ length o1
-      updates-room = omega (arith, ap length e1, length-lay_at 0 (pack_ints (take (3 + k) a)) out)
-
       pub bytes-stored : (r : ℕ) (o2 : List ℕ) → r ≡ at + length (pack_ints ups) → o2 ≡ lay_at at (pack_ints ups) o1 → stored out (return (pack_ints (delta_ints sizes (delta_in [] a)))) ≡ record { answer = return r; out = o2 }
       bytes-stored r o2 er e2 =
           let e : length (pack_ints (take (3 + k) a)) ≡ at = omega arith in

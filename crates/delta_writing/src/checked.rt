@@ -10,12 +10,10 @@ ghost use Rattle.definitions.specs.DeltaCalls.{is_size, sizes_match};
 ghost use Rattle.laws.specs.DeltaShape.{Update, Updates};
 ghost use Rattle.laws.specs.DeltaWriting.{rest_ints};
 ghost use Rattle.format.specs.Answers.{stored_ints};
-ghost use Rattle.packer.specs.Answers.{int_write};
 ghost use Rattle.delta_form.specs.Held.{HeldDelta};
 
 use delta_form::checked::{known_size, next_update};
-use format::{Error, Stored};
-use packer::IntWrite;
+use format::Error;
 use packer::checked::{pack_at, packed_len};
 use table::checked::nat_at;
 
@@ -37,13 +35,11 @@ pub fn sizes_match(area: &[i32], deleted: usize, updated: usize, sizes: &[i32]) 
     ensures { result ≡ sizes_match sizes.now (delta_in [] area.now).updated }
 {
     let mut p = 3 + deleted;
-    let mut left = updated;
-    while 0 < left {
+    for _ in 0..updated {
         if !size_matches(area, p, sizes) {
             return false;
         }
         p = next_update(area, p);
-        left -= 1;
     }
     true
 }
@@ -69,12 +65,10 @@ fn updates_len(area: &[i32], start: usize, n: usize, sizes: &[i32]) -> usize
 {
     let mut total: usize = 0;
     let mut p = start;
-    let mut left = n;
-    while 0 < left {
+    for _ in 0..n {
         let rest = update_rest(area, p, sizes);
         total += 2 + rest.len();
         p = next_update(area, p);
-        left -= 1;
     }
     total
 }
@@ -105,11 +99,9 @@ fn write_updates(
 {
     let mut at = first;
     let mut p = start;
-    let mut left = n;
-    while 0 < left {
+    for _ in 0..n {
         at = write_update(area, p, sizes, out, at);
         p = next_update(area, p);
-        left -= 1;
     }
     at
 }
@@ -121,17 +113,17 @@ pub fn write_ints(
     updated: usize,
     sizes: &[i32],
     out: &mut [i32],
-) -> Stored
+) -> Result<usize, Error>
     requires { HeldDelta [] area.now deleted updated }
     ensures { stored out.old (return (delta_ints sizes.now (delta_in [] area.now))) ≡ record { answer = stored_ints result; out = out.new } }
 {
     let front = 3 + deleted;
     let n = front + updates_len(area, front, updated, sizes);
     if out.len() < n {
-        return Stored::Refused(Error::CapacityError);
+        return Err(Error::CapacityError);
     }
     ints::copy_into(out, 0, &area[..front]);
-    Stored::Ints(write_updates(area, front, updated, sizes, out, front))
+    Ok(write_updates(area, front, updated, sizes, out, front))
 }
 
 // How many bytes the n updates from a place on take when packed.
@@ -141,13 +133,11 @@ fn updates_packed_len(area: &[i32], start: usize, n: usize, sizes: &[i32]) -> us
 {
     let mut total: usize = 0;
     let mut p = start;
-    let mut left = n;
-    while 0 < left {
+    for _ in 0..n {
         let behind = p + 2;
         total += packed_len(&area[p..behind]);
         total += packed_len(update_rest(area, p, sizes));
         p = next_update(area, p);
-        left -= 1;
     }
     total
 }
@@ -176,11 +166,9 @@ fn pack_updates(
 {
     let mut at = first;
     let mut p = start;
-    let mut left = n;
-    while 0 < left {
+    for _ in 0..n {
         at = pack_update(area, p, sizes, out, at);
         p = next_update(area, p);
-        left -= 1;
     }
     at
 }
@@ -192,15 +180,15 @@ pub fn write_packed(
     updated: usize,
     sizes: &[i32],
     out: &mut [u8],
-) -> IntWrite
+) -> Result<usize, Error>
     requires { HeldDelta [] area.now deleted updated }
-    ensures { stored out.old (return (pack_ints (delta_ints sizes.now (delta_in [] area.now)))) ≡ record { answer = int_write result; out = out.new } }
+    ensures { stored out.old (return (pack_ints (delta_ints sizes.now (delta_in [] area.now)))) ≡ record { answer = stored_ints result; out = out.new } }
 {
     let front = 3 + deleted;
     let bytes = packed_len(&area[..front]) + updates_packed_len(area, front, updated, sizes);
     if out.len() < bytes {
-        return IntWrite::Refused(Error::CapacityError);
+        return Err(Error::CapacityError);
     }
     let at = pack_at(&area[..front], out, 0);
-    IntWrite::Next(pack_updates(area, front, updated, sizes, out, at))
+    Ok(pack_updates(area, front, updated, sizes, out, at))
 }

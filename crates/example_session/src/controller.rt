@@ -3,14 +3,14 @@ use crate::lines::{print_added, print_not_added};
 use crate::link::Sent;
 use crate::radio::cut;
 use crate::random::{next_seed, side_of};
-use format::Stored;
-use packer::IntWrite;
-use raw_snap::{Checksum, raw_builder};
+use delta_making::MakeError;
+use format::Error;
+use raw_snap::raw_builder;
 use replay_text::areas::{int_area, part_area};
 use snap::TypeId;
-use std::io::Result;
+use std::io;
 use storage::{Added, Storage};
-use ticks::{OptionTick, Tick};
+use ticks::Tick;
 
 // The types of items: a number, a kind that the builder numbers, and one with the number 8000 hex.
 #[derive(Clone, Copy)]
@@ -54,29 +54,19 @@ fn value(seed: u64, wide: bool) -> i32 {
 // Fills an item's ints; returns the seed afterwards.
 fn fill(data: &mut [i32; 24], seed: u64, wide: bool) -> u64 {
     let mut s = seed;
-    let mut i: usize = 0;
-    while i < 24 {
+    for x in data.iter_mut() {
         s = next_seed(s);
-        data[i] = value(s, wide);
-        i += 1;
+        *x = value(s, wide);
     }
     s
 }
 
-// The first n ints; all if there are fewer.
-fn front(data: &[i32], n: usize) -> &[i32] {
-    if n <= data.len() {
-        return &data[0..n];
-    }
-    data
-}
-
 // Adds an item of a type; all items of one type have the same number of ints.
-fn add(table: &mut [i32], sort: Sort, id: u16, data: &[i32; 24]) -> Stored {
+fn add(table: &mut [i32], sort: Sort, id: u16, data: &[i32; 24]) -> Result<usize, Error> {
     match sort {
-        Sort::Number => builder::add_item(table, TypeId::Ordinal(5), id, front(data, 24)),
-        Sort::Kind => builder::add_item(table, TypeId::Uuid(7, 8, 9, -10), id, front(data, 9)),
-        Sort::High => raw_builder::add_item(table, 32768, id, front(data, 16)),
+        Sort::Number => builder::add_item(table, TypeId::Ordinal(5), id, data),
+        Sort::Kind => builder::add_item(table, TypeId::Uuid(7, 8, 9, -10), id, &data[..9]),
+        Sort::High => raw_builder::add_item(table, 32768, id, &data[..16]),
     }
 }
 
@@ -88,17 +78,15 @@ fn add_or_not(table: &mut [i32], sort: Sort, id: u16, seed: u64, wide: bool) -> 
     }
     let mut data = [0i32; 24];
     let seed = fill(&mut data, seed, wide);
-    add(table, sort, id, &data);
+    let _ = add(table, sort, id, &data);
     seed
 }
 
 // Adds items of a type, with ids below a number; returns the seed afterwards.
 fn add_some(table: &mut [i32; 16384], sort: Sort, ids: u16, seed: u64, wide: bool) -> u64 {
     let mut s = seed;
-    let mut id: u16 = 0;
-    while id < ids {
+    for id in 0..ids {
         s = add_or_not(table, sort, id, s, wide);
-        id += 1;
     }
     s
 }
@@ -107,62 +95,45 @@ fn add_some(table: &mut [i32; 16384], sort: Sort, ids: u16, seed: u64, wide: boo
 fn build(table: &mut [i32; 16384], seed: u64) -> u64 {
     let seed = next_seed(seed);
     let wide = side_of(seed) < 7;
-    builder::new(table);
+    let _ = builder::new(table);
     let seed = add_some(table, Sort::Number, 28, seed, wide);
     let seed = add_some(table, Sort::Kind, 6, seed, wide);
     let kind = [1i32, -2, 3, -4];
-    raw_builder::add_item(table, 0, 32768, &kind);
+    let _ = raw_builder::add_item(table, 0, 32768, &kind);
     add_some(table, Sort::High, 8, seed, wide)
 }
 
 // Repeats the base's table, if a base is set; returns whether one was.
 fn repeat(s: Storage, area: &[i32], table: &mut [i32]) -> bool {
-    let base = s.delta_tick();
-    let OptionTick::Some(_) = base else {
-        return false;
-    };
-    let count = s.count;
-    if count == 0 {
+    if s.delta_tick().is_none() || s.count == 0 {
         return false;
     }
-    let stored = raw_snap::write_to_ints(s.snap(area, count - 1), table);
-    match stored {
-        Stored::Ints(_) => true,
-        Stored::Refused(_) => false,
-    }
+    raw_snap::write_to_ints(s.snap(area, s.count - 1), table).is_ok()
 }
 
 // The sum of a table.
 fn sum(table: &[i32]) -> i32 {
-    let checksum = raw_snap::crc(table);
-    match checksum {
-        Checksum::Sum(n) => n,
-        Checksum::Refused(_) => 0,
-    }
+    raw_snap::crc(table).unwrap_or(0)
 }
 
 // Packs the delta without known sizes; returns the number of bytes.
 fn pack(delta: &[i32], packed: &mut [u8]) -> usize {
-    let sizes = [0i32; 1];
-    let written = delta::write(delta, &sizes[..0], packed);
-    match written {
-        IntWrite::Next(len) => len,
-        IntWrite::Refused(_) => 0,
-    }
+    delta::write(delta, &[], packed).unwrap_or(0)
 }
 
 // Prints what was added; returns the tick of its base.
-fn report(rt: &impl Print, tick: Tick, answer: Added, len: usize) -> Result<Tick> {
+fn report(
+    rt: &impl Print,
+    tick: Tick,
+    answer: Result<Added, MakeError>,
+    len: usize,
+) -> io::Result<Tick> {
     match answer {
-        Added::Delta { base, ints } => {
+        Ok(Added { base, ints }) => {
             print_added(rt, tick, base, ints, len)?;
             Ok(base)
         }
-        Added::DifferingSizes(_) => {
-            print_not_added(rt, tick)?;
-            Ok(Tick(-1))
-        }
-        Added::Refused(_) => {
+        Err(_) => {
             print_not_added(rt, tick)?;
             Ok(Tick(-1))
         }
@@ -171,13 +142,11 @@ fn report(rt: &impl Print, tick: Tick, answer: Added, len: usize) -> Result<Tick
 
 // Makes the table of a tick: the base's table again if again is set and there is a base, else a new one.
 fn prepare(c: Controller, again: bool, area: &[i32], table: &mut [i32; 16384]) -> Prepared {
-    if again {
-        if repeat(c.storage, area, table) {
-            return Prepared {
-                seed: c.seed,
-                repeated: true,
-            };
-        }
+    if again && repeat(c.storage, area, table) {
+        return Prepared {
+            seed: c.seed,
+            repeated: true,
+        };
     }
     Prepared {
         seed: build(table, c.seed),
@@ -201,8 +170,10 @@ pub fn packed_part(packed: &[u8; 28800], len: usize) -> &[u8] {
 impl Controller {
     // A controller without tables.
     pub fn new(seed: u64) -> Controller {
-        let storage = Storage::new();
-        Controller { storage, seed }
+        Controller {
+            storage: Storage::new(),
+            seed,
+        }
     }
 
     // Adds a table and packs its delta.
@@ -213,22 +184,22 @@ impl Controller {
         tick: Tick,
         table: &[i32; 16384],
         area: &mut [i32; 65536],
-    ) -> Result<Told> {
+    ) -> io::Result<Told> {
         let mut delta = int_area();
         let mut packed = part_area();
-        let storage = self.storage;
-        let adding = storage.add_snap(tick, table, &mut delta, area);
+        let adding = self.storage.add_snap(tick, table, &mut delta, area);
         let len = pack_new(made.repeated, &delta, &mut packed);
-        let storage = adding.storage;
-        let answer = adding.answer;
-        let base = report(rt, tick, answer, len)?;
-        let crc = sum(table);
-        let seed = made.seed;
-        let controller = Controller { storage, seed };
-        let sent = Sent { tick, base, crc };
+        let base = report(rt, tick, adding.answer, len)?;
         Ok(Told {
-            controller,
-            sent,
+            controller: Controller {
+                storage: adding.storage,
+                seed: made.seed,
+            },
+            sent: Sent {
+                tick,
+                base,
+                crc: sum(table),
+            },
             packed,
             len,
         })
@@ -241,7 +212,7 @@ impl Controller {
         tick: Tick,
         again: bool,
         area: &mut [i32; 65536],
-    ) -> Result<Told> {
+    ) -> io::Result<Told> {
         let mut table = int_area();
         let made = prepare(self, again, area, &mut table);
         self.add(rt, made, tick, &table, area)

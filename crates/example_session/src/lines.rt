@@ -1,10 +1,8 @@
 // The lines of the session's text.
 use format::Error;
 use gamenet_snap::SnapMsg;
-use manager::Handled;
-use printer_logbook::Answer;
 use replay_text::line::Line;
-use std::io::Result;
+use std::io;
 use ticks::{Distance, Tick};
 
 // The tick, the base and the part of a message.
@@ -39,32 +37,17 @@ fn message_line(m: SnapMsg) -> Line {
     }
 }
 
-// Adds a tick that is acknowledged.
-fn acknowledged(line: Line, tick: Tick) -> Line {
-    line.text(b"acknowledged ").int(tick.0)
-}
-
 // Adds the number of a refusal.
 fn refused(line: Line, e: Error) -> Line {
-    let number = format::error_number(e);
-    line.text(b"refused ").number(number as usize)
+    line.text(b"refused ").number(u32::from(e) as usize)
 }
 
-// Adds the manager's answer.
-fn handled(line: Line, a: Handled) -> Line {
-    match a {
-        Handled::Tick(t) => acknowledged(line, t),
-        Handled::NotYet => line.text(b"not yet"),
-        Handled::Refused(e) => refused(line, e),
-    }
-}
-
-// Adds the logbook's answer.
-fn noted(line: Line, a: Answer) -> Line {
-    match a {
-        Answer::Acknowledges(t) => acknowledged(line, t),
-        Answer::NotYet => line.text(b"not yet"),
-        Answer::Refused(e) => refused(line, e),
+// Adds the manager's answer or the logbook's.
+fn answered(line: Line, answer: Result<Option<Tick>, Error>) -> Line {
+    match answer {
+        Ok(Some(tick)) => line.text(b"acknowledged ").int(tick.0),
+        Ok(None) => line.text(b"not yet"),
+        Err(e) => refused(line, e),
     }
 }
 
@@ -72,20 +55,21 @@ fn noted(line: Line, a: Answer) -> Line {
 pub fn print_delivered(
     rt: &impl Print,
     m: SnapMsg,
-    a: Handled,
-    b: Answer,
-    agree: bool,
-) -> Result<()> {
-    let line = handled(message_line(m).text(b": "), a);
-    let line = noted(line.text(b", logbook "), b);
-    if agree {
-        return line.print(rt);
-    }
-    line.text(b", DIFFERS").print(rt)
+    a: Result<Option<Tick>, Error>,
+    b: Result<Option<Tick>, Error>,
+) -> io::Result<()> {
+    let line = answered(message_line(m).text(b": "), a);
+    let line = answered(line.text(b", logbook "), b);
+    let line = if a == b {
+        line
+    } else {
+        line.text(b", DIFFERS")
+    };
+    line.print(rt)
 }
 
 // Prints a message, and what happened to it on the way.
-pub fn print_on_the_way(rt: &impl Print, m: SnapMsg, what: &[u8]) -> Result<()> {
+pub fn print_on_the_way(rt: &impl Print, m: SnapMsg, what: &[u8]) -> io::Result<()> {
     message_line(m).text(what).print(rt)
 }
 
@@ -101,7 +85,7 @@ pub fn print_added(
     base: Tick,
     ints: usize,
     bytes: usize,
-) -> Result<()> {
+) -> io::Result<()> {
     let line = table_line(tick).text(b": base ").int(base.0);
     let line = line.text(b", delta of ").number(ints);
     line.text(b" ints, sent in ")
@@ -111,7 +95,7 @@ pub fn print_added(
 }
 
 // Prints a table that was not added.
-pub fn print_not_added(rt: &impl Print, tick: Tick) -> Result<()> {
+pub fn print_not_added(rt: &impl Print, tick: Tick) -> io::Result<()> {
     table_line(tick).text(b" REFUSED").print(rt)
 }
 
@@ -121,12 +105,12 @@ fn acknowledgement(tick: Tick) -> Line {
 }
 
 // Prints an acknowledgement, and what happened to it on the way.
-pub fn print_acknowledgement(rt: &impl Print, tick: Tick, what: &[u8]) -> Result<()> {
+pub fn print_acknowledgement(rt: &impl Print, tick: Tick, what: &[u8]) -> io::Result<()> {
     acknowledgement(tick).text(what).print(rt)
 }
 
 // Prints an acknowledgement that the controller took as its base.
-pub fn print_base_set(rt: &impl Print, tick: Tick) -> Result<()> {
+pub fn print_base_set(rt: &impl Print, tick: Tick) -> io::Result<()> {
     if tick.is_negative() {
         return print_acknowledgement(rt, tick, b": no base");
     }
@@ -134,16 +118,17 @@ pub fn print_base_set(rt: &impl Print, tick: Tick) -> Result<()> {
 }
 
 // Prints an acknowledgement that the controller refused as a base.
-pub fn print_base_refused(rt: &impl Print, tick: Tick, e: Error) -> Result<()> {
+pub fn print_base_refused(rt: &impl Print, tick: Tick, e: Error) -> io::Result<()> {
     refused(acknowledgement(tick).text(b": base "), e).print(rt)
 }
 
 // Whether both ends hold the same table.
 fn verdict(equal: bool) -> Line {
-    if equal {
-        return Line::new().text(b"tables equal");
-    }
-    Line::new().text(b"tables DIFFER")
+    Line::new().text(if equal {
+        b"tables equal"
+    } else {
+        b"tables DIFFER"
+    })
 }
 
 // Prints the last line: whether both ends hold the same table, and how often each thing happened.
@@ -154,7 +139,7 @@ pub fn print_last(
     messages: usize,
     acknowledged: usize,
     differing: usize,
-) -> Result<()> {
+) -> io::Result<()> {
     let line = verdict(equal).text(b" at tick ").int(tick.0);
     let line = line.text(b", ").number(messages).text(b" messages, ");
     let line = line.number(acknowledged).text(b" acknowledgements, ");

@@ -2,7 +2,7 @@
 use crate::lines::print_on_the_way;
 use crate::printer::Printer;
 use crate::radio::{Fate, Radio, bytes_at};
-use delta_chunks::{Chunk, NumChunks, chunk_data, chunk_numbers, num_chunks};
+use delta_chunks::{chunk_data, chunk_numbers, num_chunks};
 use gamenet_snap::SnapMsg;
 use std::io::Result;
 use ticks::Tick;
@@ -25,24 +25,23 @@ pub struct Sent {
 impl Link {
     // Draws the next number.
     pub fn roll(self) -> Link {
-        let radio = self.radio;
-        let radio = radio.roll();
-        let printer = self.printer;
-        Link { radio, printer }
+        Link {
+            radio: self.radio.roll(),
+            ..self
+        }
     }
 
     // Holds a message back, or loses it if there is no place for it.
     fn hold(self, rt: &impl Print, m: SnapMsg, data: &[u8]) -> Result<Link> {
-        let radio = self.radio;
-        let printer = self.printer;
-        let k = radio.free();
-        if 8 <= k {
+        let Some(k) = self.radio.free() else {
             print_on_the_way(rt, m, b": lost")?;
             return Ok(self);
-        }
+        };
         print_on_the_way(rt, m, b": held back")?;
-        let radio = radio.hold(k, m, data);
-        Ok(Link { radio, printer })
+        Ok(Link {
+            radio: self.radio.hold(k, m, data),
+            ..self
+        })
     }
 
     // Delivers a message to the printer, whose store has its tables in an area.
@@ -53,10 +52,10 @@ impl Link {
         data: &[u8],
         area: &mut [i32; 65536],
     ) -> Result<Link> {
-        let radio = self.radio;
-        let printer = self.printer;
-        let printer = printer.deliver(rt, m, data, area)?;
-        Ok(Link { radio, printer })
+        Ok(Link {
+            printer: self.printer.deliver(rt, m, data, area)?,
+            ..self
+        })
     }
 
     // Sends a message; if sure, it is not lost, held back or doubled.
@@ -72,9 +71,7 @@ impl Link {
             return self.deliver(rt, m, data, area);
         }
         let h = self.roll();
-        let radio = h.radio;
-        let fate = radio.fate();
-        match fate {
+        match h.radio.fate() {
             Fate::Lost => {
                 print_on_the_way(rt, m, b": lost")?;
                 Ok(h)
@@ -98,13 +95,10 @@ impl Link {
         sure: bool,
         area: &mut [i32; 65536],
     ) -> Result<Link> {
-        let tick = sent.tick;
-        let base = sent.base;
-        let chunk = chunk_numbers(tick, base, data, sent.crc, i);
-        let Chunk::Message(m) = chunk else {
-            return Ok(self);
-        };
-        self.send(rt, m, chunk_data(data, i), sure, area)
+        match chunk_numbers(sent.tick, sent.base, data, sent.crc, i) {
+            Ok(Some(m)) => self.send(rt, m, chunk_data(data, i), sure, area),
+            _ => Ok(self),
+        }
     }
 
     // Sends the messages of a delta.
@@ -116,15 +110,9 @@ impl Link {
         sure: bool,
         area: &mut [i32; 65536],
     ) -> Result<Link> {
-        let count = num_chunks(data);
-        let NumChunks::Messages(n) = count else {
-            return Ok(self);
-        };
         let mut h = self;
-        let mut i: usize = 0;
-        while i < n {
+        for i in 0..num_chunks(data).unwrap_or(0) {
             h = h.send_chunk(rt, sent, i, data, sure, area)?;
-            i += 1;
         }
         Ok(h)
     }
@@ -132,29 +120,25 @@ impl Link {
     // Delivers the message held back at the k-th place, or keeps it waiting.
     fn come(self, rt: &impl Print, k: usize, area: &mut [i32; 65536]) -> Result<Link> {
         let h = self.roll();
-        let radio = h.radio;
-        let letter = radio.letter(k);
-        if !letter.full {
+        let Some(letter) = h.radio.letter(k) else {
+            return Ok(h);
+        };
+        if !h.radio.comes() {
             return Ok(h);
         }
-        if !radio.comes() {
-            return Ok(h);
-        }
-        let m = letter.message;
-        let bytes = radio.bytes;
-        let h = h.deliver(rt, m, bytes_at(&bytes, k, letter.len), area)?;
-        let printer = h.printer;
-        let radio = radio.release(k);
-        Ok(Link { radio, printer })
+        let bytes = h.radio.bytes;
+        let h = h.deliver(rt, letter.message, bytes_at(&bytes, k, letter.len), area)?;
+        Ok(Link {
+            radio: h.radio.release(k),
+            ..h
+        })
     }
 
     // Delivers some of the messages held back.
     pub fn come_late(self, rt: &impl Print, area: &mut [i32; 65536]) -> Result<Link> {
         let mut h = self;
-        let mut k: usize = 0;
-        while k < 8 {
+        for k in 0..8 {
             h = h.come(rt, k, area)?;
-            k += 1;
         }
         Ok(h)
     }

@@ -16,8 +16,8 @@ use radio::Radio;
 use random::side_of;
 use std::io::Result;
 use std::rt::HostRuntime;
-use storage::{Set, Storage};
-use ticks::{OptionTick, Tick};
+use storage::Storage;
+use ticks::Tick;
 
 // The last tick, which is sent without loss.
 const LAST: u32 = 39;
@@ -32,22 +32,15 @@ struct Session {
 
 // The tick that a printer acknowledges, or -1.
 fn acknowledged(h: Link) -> Tick {
-    let printer = h.printer;
-    let manager = printer.manager;
-    let tick = manager.ack_tick();
-    match tick {
-        OptionTick::Some(t) => t,
-        OptionTick::None => Tick(-1),
-    }
+    h.printer.manager.ack_tick().unwrap_or(Tick(-1))
 }
 
 // Delivers an acknowledgement to the controller, which sets its base from it; -1 sets none.
 fn set_base(rt: &impl Print, s: Storage, tick: Tick, control: &mut [i32]) -> Result<Storage> {
     let setting = s.set_delta_tick(tick, control);
-    let answer = setting.answer;
-    match answer {
-        Set::Done => print_base_set(rt, tick)?,
-        Set::Refused(e) => print_base_refused(rt, tick, e)?,
+    match setting.answer {
+        Ok(()) => print_base_set(rt, tick)?,
+        Err(e) => print_base_refused(rt, tick, e)?,
     }
     Ok(setting.storage)
 }
@@ -61,8 +54,7 @@ fn acknowledge(
     control: &mut [i32],
 ) -> Result<Session> {
     let link = link.roll();
-    let radio = link.radio;
-    let side = side_of(radio.seed);
+    let side = side_of(link.radio.seed);
     let tick = acknowledged(link);
     let mut storage = controller.storage;
     let mut ack_tick = late;
@@ -75,10 +67,11 @@ fn acknowledge(
     } else {
         storage = set_base(rt, storage, tick, control)?;
     }
-    let seed = controller.seed;
-    let controller = Controller { storage, seed };
     Ok(Session {
-        controller,
+        controller: Controller {
+            storage,
+            ..controller
+        },
         link,
         ack_tick,
     })
@@ -92,46 +85,24 @@ fn turn(
     control: &mut [i32; 65536],
     area: &mut [i32; 65536],
 ) -> Result<Session> {
-    let link = s.link;
-    let link = link.come_late(rt, area)?;
-    let controller = s.controller;
-    let told = controller.tell(rt, Tick(ints::from_bits(tick)), tick % 8 == 5, control)?;
-    let packed = told.packed;
-    let sent = told.sent;
-    let link = link.send_all(rt, sent, packed_part(&packed, told.len), tick == LAST, area)?;
-    let controller = told.controller;
-    let late = s.ack_tick;
-    acknowledge(rt, controller, link, late, control)
-}
-
-// Whether two lists of ints are equal.
-fn equal(a: &[i32], b: &[i32]) -> bool {
-    if a.len() != b.len() {
-        return false;
-    }
-    let mut i: usize = 0;
-    while i < a.len() {
-        if ints::to_bits(a[i]) != ints::to_bits(b[i]) {
-            return false;
-        }
-        i += 1;
-    }
-    true
+    let link = s.link.come_late(rt, area)?;
+    let told = s
+        .controller
+        .tell(rt, Tick(ints::from_bits(tick)), tick % 8 == 5, control)?;
+    let packed = packed_part(&told.packed, told.len);
+    let link = link.send_all(rt, told.sent, packed, tick == LAST, area)?;
+    acknowledge(rt, told.controller, link, s.ack_tick, control)
 }
 
 // Compares the newest tables of both ends.
 fn finish(rt: &impl Print, s: Session, control: &[i32], area: &[i32]) -> Result<()> {
-    let controller = s.controller;
-    let link = s.link;
-    let printer = link.printer;
-    let manager = printer.manager;
-    let ours = controller.storage;
-    let theirs = manager.storage;
-    let same = equal(ours.snap(control, 0), theirs.snap(area, 0));
+    let printer = s.link.printer;
+    let ours = s.controller.storage.snap(control, 0);
+    let theirs = printer.manager.storage.snap(area, 0);
     print_last(
         rt,
-        same,
-        acknowledged(link),
+        ours == theirs,
+        acknowledged(s.link),
         printer.messages,
         printer.acknowledged,
         printer.differing,
@@ -140,13 +111,12 @@ fn finish(rt: &impl Print, s: Session, control: &[i32], area: &[i32]) -> Result<
 
 // A session before anything happened; both seeds are fixed.
 fn begin() -> Session {
-    let controller = Controller::new(1);
-    let radio = Radio::new(2);
-    let printer = Printer::new();
-    let link = Link { radio, printer };
     Session {
-        controller,
-        link,
+        controller: Controller::new(1),
+        link: Link {
+            radio: Radio::new(2),
+            printer: Printer::new(),
+        },
         ack_tick: Tick(-1),
     }
 }
@@ -154,10 +124,8 @@ fn begin() -> Session {
 // Runs all ticks, one after the other.
 fn run(rt: &impl Print, control: &mut [i32; 65536], area: &mut [i32; 65536]) -> Result<()> {
     let mut s = begin();
-    let mut tick: u32 = 0;
-    while tick <= LAST {
+    for tick in 0..=LAST {
         s = turn(rt, s, tick, control, area)?;
-        tick += 1;
     }
     finish(rt, s, control, area)
 }

@@ -1,7 +1,6 @@
 // The radio: messages are lost, doubled, or held back and delivered later.
 use crate::random::{next_seed, side_of};
 use gamenet_snap::SnapMsg;
-use ticks::{Distance, Tick};
 
 // The most bytes of a message.
 const PART: usize = 900;
@@ -15,10 +14,9 @@ pub enum Fate {
     Through,
 }
 
-// A message that is held back, if there is one, and how many bytes it has.
+// A message that is held back, and how many bytes it has.
 #[derive(Clone, Copy)]
 pub struct Letter {
-    pub full: bool,
     pub message: SnapMsg,
     pub len: usize,
 }
@@ -27,21 +25,8 @@ pub struct Letter {
 #[derive(Clone, Copy)]
 pub struct Radio {
     pub seed: u64,
-    letters: [Letter; 8],
+    letters: [Option<Letter>; 8],
     pub bytes: [u8; 7200],
-}
-
-// No message.
-fn none() -> Letter {
-    let message = SnapMsg::SnapEmpty {
-        tick: Tick(0),
-        delta_tick: Distance(0),
-    };
-    Letter {
-        full: false,
-        message,
-        len: 0,
-    }
 }
 
 // The place of the bytes for the k-th place.
@@ -51,12 +36,10 @@ fn place(k: usize) -> usize {
 
 // A part of some bytes; empty if they end before it does.
 pub fn cut(src: &[u8], from: usize, len: usize) -> &[u8] {
-    if from <= src.len() {
-        if len <= src.len() - from {
-            return &src[from..from + len];
-        }
+    if from <= src.len() && len <= src.len() - from {
+        return &src[from..from + len];
     }
-    &src[..0]
+    &[]
 }
 
 // The first bytes of the k-th place.
@@ -72,40 +55,29 @@ fn put(area: &mut [u8; 7200], at: usize, data: &[u8]) {
 impl Radio {
     // A radio that holds nothing back.
     pub fn new(seed: u64) -> Radio {
-        let letter = none();
-        let letters = [letter; 8];
-        let bytes = [0u8; 7200];
         Radio {
             seed,
-            letters,
-            bytes,
+            letters: [None; 8],
+            bytes: [0; 7200],
         }
     }
 
     // Draws the next number.
     pub fn roll(self) -> Radio {
-        let letters = self.letters;
-        let bytes = self.bytes;
         Radio {
             seed: next_seed(self.seed),
-            letters,
-            bytes,
+            ..self
         }
     }
 
     // What happens to a message now.
     pub fn fate(self) -> Fate {
-        let side = side_of(self.seed);
-        if side < 3 {
-            return Fate::Lost;
+        match side_of(self.seed) {
+            0..=2 => Fate::Lost,
+            3..=5 => Fate::Late,
+            6..=7 => Fate::Twice,
+            _ => Fate::Through,
         }
-        if side < 6 {
-            return Fate::Late;
-        }
-        if side < 8 {
-            return Fate::Twice;
-        }
-        Fate::Through
     }
 
     // Whether a message that is held back is delivered now.
@@ -113,50 +85,37 @@ impl Radio {
         side_of(self.seed) < 10
     }
 
-    // The k-th place.
-    pub fn letter(self, k: usize) -> Letter {
-        if k < 8 {
-            return self.letters[k];
-        }
-        none()
+    // The message at the k-th place, if there is one.
+    pub fn letter(self, k: usize) -> Option<Letter> {
+        *self.letters.get(k)?
     }
 
-    // A place without a message, or 8 if there is none.
-    pub fn free(self) -> usize {
-        let mut k: usize = 0;
-        while k < 8 {
-            let letter = self.letters[k];
-            if !letter.full {
-                return k;
-            }
-            k += 1;
-        }
-        8
+    // A place without a message, if there is one.
+    pub fn free(self) -> Option<usize> {
+        self.letters.iter().position(|letter| letter.is_none())
     }
 
     // Puts a message at the k-th place.
     pub fn hold(self, k: usize, message: SnapMsg, data: &[u8]) -> Radio {
         let letter = Letter {
-            full: true,
             message,
             len: data.len(),
         };
         let mut bytes = self.bytes;
         put(&mut bytes, place(k), data);
-        self.with(k, letter, bytes)
+        self.with(k, Some(letter), bytes)
     }
 
     // Empties the k-th place.
     pub fn release(self, k: usize) -> Radio {
-        let bytes = self.bytes;
-        self.with(k, none(), bytes)
+        self.with(k, None, self.bytes)
     }
 
     // Replaces the k-th place and the bytes.
-    fn with(self, k: usize, letter: Letter, bytes: [u8; 7200]) -> Radio {
+    fn with(self, k: usize, letter: Option<Letter>, bytes: [u8; 7200]) -> Radio {
         let mut letters = self.letters;
-        if k < 8 {
-            letters[k] = letter;
+        if let Some(place) = letters.get_mut(k) {
+            *place = letter;
         }
         Radio {
             seed: self.seed,

@@ -17,7 +17,7 @@ ghost use Rattle.laws.specs.WarningKinds.{merge};
 ghost use Rattle.format.specs.Answers.{stored_ints};
 
 // Why a call is refused, in the order of the table of refusals in docs/FORMAT.md.
-#[derive(Clone, Copy)]
+#[derive(Clone, Copy, PartialEq, Eq)]
 pub enum Error {
     // Reading and making tables and deltas: snap::Error in the Rust.
     UnexpectedEnd,
@@ -61,44 +61,46 @@ pub enum Error {
 }
 
 // The number of a refusal in docs/FORMAT.md.
-pub fn error_number(e: Error) -> u32
-    ensures { result ≡ number e }
-{
-    match e {
-        Error::UnexpectedEnd => 1,
-        Error::IntOutOfRange => 2,
-        Error::DeletedItemsUnpacking => 3,
-        Error::ItemDiffsUnpacking => 4,
-        Error::TypeIdRange => 5,
-        Error::IdRange => 6,
-        Error::NegativeSize => 7,
-        Error::TooLongSnap => 8,
-        Error::TooManyItems => 9,
-        Error::DeltaDifferingSizes => 10,
-        Error::OffsetsUnpacking => 11,
-        Error::InvalidOffset => 12,
-        Error::ItemsUnpacking => 13,
-        Error::DuplicateKey => 14,
-        Error::DuplicateUuidType => 15,
-        Error::InvalidUuidType => 16,
-        Error::MissingUuidType => 17,
-        Error::OldDelta => 20,
-        Error::InvalidNumParts => 21,
-        Error::InvalidPart => 22,
-        Error::DuplicatePart => 23,
-        Error::StoreOldDelta => 30,
-        Error::UnknownSnap => 31,
-        Error::InvalidCrc => 32,
-        Error::CapacityError => 40,
-        Error::ScratchTooShort => 41,
-        Error::InputTooLong => 42,
-        Error::PartTooLong => 43,
-        Error::StoreFull => 44,
-        Error::InvalidTypeId => 45,
-        Error::KnownSizeDiffers => 46,
-        Error::NotInForm => 47,
-        Error::NonZeroIntPadding => 52,
-        Error::ShortRule => 55,
+impl From<Error> for u32 {
+    ghost from_gives = { λ e n. n ≡ number e };
+
+    fn from(e: Error) -> u32 {
+        match e {
+            Error::UnexpectedEnd => 1,
+            Error::IntOutOfRange => 2,
+            Error::DeletedItemsUnpacking => 3,
+            Error::ItemDiffsUnpacking => 4,
+            Error::TypeIdRange => 5,
+            Error::IdRange => 6,
+            Error::NegativeSize => 7,
+            Error::TooLongSnap => 8,
+            Error::TooManyItems => 9,
+            Error::DeltaDifferingSizes => 10,
+            Error::OffsetsUnpacking => 11,
+            Error::InvalidOffset => 12,
+            Error::ItemsUnpacking => 13,
+            Error::DuplicateKey => 14,
+            Error::DuplicateUuidType => 15,
+            Error::InvalidUuidType => 16,
+            Error::MissingUuidType => 17,
+            Error::OldDelta => 20,
+            Error::InvalidNumParts => 21,
+            Error::InvalidPart => 22,
+            Error::DuplicatePart => 23,
+            Error::StoreOldDelta => 30,
+            Error::UnknownSnap => 31,
+            Error::InvalidCrc => 32,
+            Error::CapacityError => 40,
+            Error::ScratchTooShort => 41,
+            Error::InputTooLong => 42,
+            Error::PartTooLong => 43,
+            Error::StoreFull => 44,
+            Error::InvalidTypeId => 45,
+            Error::KnownSizeDiffers => 46,
+            Error::NotInForm => 47,
+            Error::NonZeroIntPadding => 52,
+            Error::ShortRule => 55,
+        }
     }
 }
 
@@ -151,19 +153,21 @@ impl Warnings {
     pub fn packed(overlong: usize) -> Warnings
         ensures { counts result ≡ packed overlong }
     {
-        let mut w = Warnings::none();
-        w.overlong_int_encoding = overlong;
-        w
+        Warnings {
+            overlong_int_encoding: overlong,
+            ..Warnings::none()
+        }
     }
 
     // The warnings of reading a table: the packer's, how often ints are left over, and how many kinds have more than four ints.
     pub fn table(overlong: usize, excess: usize, kinds: usize) -> Warnings
         ensures { counts result ≡ table_counts overlong excess kinds }
     {
-        let mut w = Warnings::packed(overlong);
-        w.excess_snap_data = excess;
-        w.excess_uuid_item_data = kinds;
-        w
+        Warnings {
+            excess_snap_data: excess,
+            excess_uuid_item_data: kinds,
+            ..Warnings::packed(overlong)
+        }
     }
 
     // The warnings of reading a delta: the packer's, non-zero padding, keys deleted twice, repeated updates, updates of deleted keys, a wrong
@@ -178,56 +182,61 @@ impl Warnings {
     ) -> Warnings
         ensures { counts result ≡ delta_counts overlong odd twice repeats crossing other }
     {
-        let mut w = Warnings::packed(overlong);
-        w.non_zero_padding = ints::one_if(odd);
-        w.duplicate_delete = ints::one_if(twice);
-        w.duplicate_update = repeats;
-        w.delete_update = crossing;
-        w.num_updated_items = ints::one_if(other);
-        w
+        Warnings {
+            non_zero_padding: usize::from(odd),
+            duplicate_delete: usize::from(twice),
+            duplicate_update: repeats,
+            delete_update: crossing,
+            num_updated_items: usize::from(other),
+            ..Warnings::packed(overlong)
+        }
     }
 
     // The warnings of applying a delta: whether the base lacks a deleted key, and how many kinds have more than four ints.
     pub fn applied(unknown_delete: bool, kinds: usize) -> Warnings
         ensures { counts result ≡ typed_counts unknown_delete kinds }
     {
-        let mut w = Warnings::none();
-        w.unknown_delete = ints::one_if(unknown_delete);
-        w.excess_uuid_item_data = kinds;
-        w
+        Warnings {
+            unknown_delete: usize::from(unknown_delete),
+            excess_uuid_item_data: kinds,
+            ..Warnings::none()
+        }
     }
 
     // The receiver's warnings: the message's tick was unfinished, or its numbers differ.
     pub fn received(duplicate: bool, differing: bool) -> Warnings
         ensures { counts result ≡ flagged duplicate differing }
     {
-        let mut w = Warnings::none();
-        w.duplicate_snap = ints::one_if(duplicate);
-        w.differing_attributes = ints::one_if(differing);
-        w
+        Warnings {
+            duplicate_snap: usize::from(duplicate),
+            differing_attributes: usize::from(differing),
+            ..Warnings::none()
+        }
     }
 
     // The store's warnings: whether the base's tick is negative and not -1, and those of applying.
     pub fn taken(weird: bool, unknown_delete: bool, kinds: usize) -> Warnings
         ensures { counts result ≡ taken_counts weird unknown_delete kinds }
     {
-        let mut w = Warnings::applied(unknown_delete, kinds);
-        w.weird_negative_delta_tick = ints::one_if(weird);
-        w
+        Warnings {
+            weird_negative_delta_tick: usize::from(weird),
+            ..Warnings::applied(unknown_delete, kinds)
+        }
     }
 
     // The warnings of a message: those of the receiver, of the delta that was read and of the store.
     pub fn merged(received: Warnings, read: Warnings, taken: Warnings) -> Warnings
         ensures { counts result ≡ merge (counts received) (counts read) (counts taken) }
     {
-        let mut w = read;
-        w.excess_snap_data = 0;
-        w.duplicate_snap = received.duplicate_snap;
-        w.differing_attributes = received.differing_attributes;
-        w.unknown_delete = taken.unknown_delete;
-        w.excess_uuid_item_data = taken.excess_uuid_item_data;
-        w.weird_negative_delta_tick = taken.weird_negative_delta_tick;
-        w
+        Warnings {
+            excess_snap_data: 0, // No step of a message counts it.
+            duplicate_snap: received.duplicate_snap,
+            differing_attributes: received.differing_attributes,
+            unknown_delete: taken.unknown_delete,
+            excess_uuid_item_data: taken.excess_uuid_item_data,
+            weird_negative_delta_tick: taken.weird_negative_delta_tick,
+            ..read
+        }
     }
 }
 
@@ -255,20 +264,13 @@ pub fn row(w: Warnings) -> [usize; WARNING_KINDS]
 pub fn warned_row(overlong: bool) -> [usize; WARNING_KINDS]
     ensures { result ≡ Totals.row (warned overlong) }
 {
-    row(Warnings::packed(ints::one_if(overlong)))
+    row(Warnings::packed(usize::from(overlong)))
 }
 
-// How many ints were stored at the front of an area, or why none were.
-#[derive(Clone, Copy)]
-pub enum Stored {
-    Ints(usize),
-    Refused(Error),
-}
-
-// The answer of a call that reads, with the warnings it counted.
+// The answer of a call that reads, which is how many ints it stored at the front of an area, with the warnings it counted.
 #[derive(Clone, Copy)]
 pub struct Reading {
-    pub answer: Stored,
+    pub answer: Result<usize, Error>,
     pub warnings: Warnings,
 }
 
@@ -294,41 +296,51 @@ pub fn key_to_id(key: i32) -> u16
 }
 
 // Writes the differences of an item's data from the base's data, if there is any, to the front of out.
-pub fn create_item_delta(has_from: bool, from: &[i32], to: &[i32], out: &mut [i32]) -> Stored
+pub fn create_item_delta(
+    has_from: bool,
+    from: &[i32],
+    to: &[i32],
+    out: &mut [i32],
+) -> Result<usize, Error>
     ensures { create_item_delta_call (cond has_from (Option.some from.now) Option.none) to.now out.old ≡ record { answer = stored_ints result; out = out.new } }
 {
     if has_from {
         if from.len() != to.len() {
-            return Stored::Refused(Error::DeltaDifferingSizes);
+            return Err(Error::DeltaDifferingSizes);
         }
         if out.len() < to.len() {
-            return Stored::Refused(Error::CapacityError);
+            return Err(Error::CapacityError);
         }
         ints::checked::sub_into(out, 0, to, from);
-        return Stored::Ints(to.len());
+        return Ok(to.len());
     }
     if ints::copy_into(out, 0, to) {
-        return Stored::Ints(to.len());
+        return Ok(to.len());
     }
-    Stored::Refused(Error::CapacityError)
+    Err(Error::CapacityError)
 }
 
 // Writes an item's data, made from its differences and the base's data, if there is any, to the front of out.
-pub fn apply_item_delta(has_from: bool, from: &[i32], delta: &[i32], out: &mut [i32]) -> Stored
+pub fn apply_item_delta(
+    has_from: bool,
+    from: &[i32],
+    delta: &[i32],
+    out: &mut [i32],
+) -> Result<usize, Error>
     ensures { apply_item_delta_call (cond has_from (Option.some from.now) Option.none) delta.now out.old ≡ record { answer = stored_ints result; out = out.new } }
 {
     if has_from {
         if from.len() != delta.len() {
-            return Stored::Refused(Error::DeltaDifferingSizes);
+            return Err(Error::DeltaDifferingSizes);
         }
         if out.len() < delta.len() {
-            return Stored::Refused(Error::CapacityError);
+            return Err(Error::CapacityError);
         }
         ints::checked::add_into(out, 0, from, delta);
-        return Stored::Ints(delta.len());
+        return Ok(delta.len());
     }
     if ints::copy_into(out, 0, delta) {
-        return Stored::Ints(delta.len());
+        return Ok(delta.len());
     }
-    Stored::Refused(Error::CapacityError)
+    Err(Error::CapacityError)
 }

@@ -1,12 +1,8 @@
 -- An int as a count: what the code's tests and casts need. Assumes nothing.
-use Rattle.std.proofs.Common.{◌≡◌, ◌^◌, ◌<◌, true, false, T, ℤ, pos, negsuc, nat_abs, sym, refl, ◌∙◌, true≢false, arith, to_z-of_z, w32, w64, Fits, SFits, to_z, of_z, le-ltb}
+use Rattle.std.proofs.Common.{◌≡◌, ◌^◌, ◌<◌, true, false, ℤ, pos, negsuc, nat_abs, sym, refl, ◌∙◌, true≢false, arith, to_z-of_z, w32, SFits, to_z, of_z, le-ltb}
 use mathlib.Core.Bool.{false≢true}
-use lib.Signed.{mag, lt_z, non_neg}
+use lib.Signed.{mag, lt_z}
 use Rattle.definitions.specs.Tables.{num}
-
-not_negative : (z : ℤ) → lt_z z (pos 0) ≡ false → T (non_neg z)
-not_negative (pos n) e = tt
-not_negative (negsuc n) e = absurd (true≢false e)
 
 digits_are : (z : ℤ) → lt_z z (pos 0) ≡ false → nat_abs z ≡ mag z
 digits_are (pos n) e = refl
@@ -31,6 +27,3 @@ module _ (z : ℤ) (f : SFits w32 z) where
 
   pub pos-small : lt_z (to_z w32 (of_z w32 z)) (pos 0) ≡ false → nat_abs (to_z w32 (of_z w32 z)) < 2 ^ 31
   pos-small e = rw (to_z-of_z f, digits_are z (rw (to_z-of_z f) at e)) f.sfits
-
-  pub pos-cast-wide : lt_z (to_z w32 (of_z w32 z)) (pos 0) ≡ false → T (non_neg (to_z w32 (of_z w32 z))) × Fits w64 (nat_abs (to_z w32 (of_z w32 z)))
-  pos-cast-wide e = (rw (to_z-of_z f) (not_negative z (rw (to_z-of_z f) at e)), record { fits = omega (arith, pos-small e) })

@@ -33,10 +33,8 @@ fn add_from(out: &mut [i32], at: usize, a: &[i32], b: &[i32], start: usize)
     requires { (length a.now ≡ length b.now) × (at + length a.now ≤ length out.old) × (start ≤ length a.now) }
     ensures { out.new ≡ lay_at (at + start) (drop start (zip_with wrapping_add a.now b.now)) out.old }
 {
-    let mut i = start;
-    while i < a.len() {
+    for i in start..a.len() {
         out[at + i] = sum_at(a, b, i);
-        i += 1;
     }
 }
 
@@ -58,10 +56,8 @@ pub fn sub_into(out: &mut [i32], at: usize, a: &[i32], b: &[i32])
     requires { (length a.now ≡ length b.now) × (at + length a.now ≤ length out.old) }
     ensures { out.new ≡ lay_at at (zip_with wrapping_sub a.now b.now) out.old }
 {
-    let mut i: usize = 0;
-    while i < a.len() {
+    for i in 0..a.len() {
         out[at + i] = super::wrapping_sub(a[i], b[i]);
-        i += 1;
     }
 }
 
@@ -70,21 +66,13 @@ pub fn copy_bytes(out: &mut [u8], at: usize, xs: &[u8])
     requires { at + length xs.now ≤ length out.old }
     ensures { out.new ≡ lay_at at xs.now out.old }
 {
-    let mut i: usize = 0;
-    while i < xs.len() {
-        out[at + i] = xs[i];
-        i += 1;
-    }
+    out[at..at + xs.len()].copy_from_slice(xs);
 }
 
-// Moves the ints between two places up, the last one first.
+// Moves the ints between two places up.
 pub fn shift(area: &mut [i32], from: usize, to: usize, by: usize)
     requires { (from ≤ to) × (to + by ≤ length area.old) }
     ensures { area.new ≡ shifted area.old from to by }
 {
-    let mut i = to;
-    while from < i {
-        i -= 1;
-        area[i + by] = area[i];
-    }
+    area.copy_within(from..to, from + by);
 }

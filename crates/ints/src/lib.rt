@@ -15,18 +15,14 @@ pub mod checked;
 pub fn to_bits(x: i32) -> u32
     ensures { result ≡ bits x }
 {
-    if x < 0 { !(!x as u32) } else { x as u32 }
+    x.cast_unsigned()
 }
 
 // The int with the bits b.
 pub fn from_bits(b: u32) -> i32
     ensures { result ≡ from_bits b }
 {
-    if b < 2147483648 {
-        b as i32
-    } else {
-        !(!b as i32)
-    }
+    b.cast_signed()
 }
 
 // x as a count; a negative int gives 2^32, more than any count.
@@ -40,21 +36,21 @@ pub fn num(x: i32) -> usize
 pub fn one_if(b: bool) -> usize
     ensures { result ≡ (if b then 1 else 0) }
 {
-    if b { 1 } else { 0 }
+    usize::from(b)
 }
 
 // The sum modulo 2^32.
 pub fn wrapping_add(a: i32, b: i32) -> i32
     ensures { result ≡ wrapping_add a b }
 {
-    from_bits(std::num::wrapping_add_u32(to_bits(a), to_bits(b)))
+    a.wrapping_add(b)
 }
 
 // The difference modulo 2^32.
 pub fn wrapping_sub(a: i32, b: i32) -> i32
     ensures { result ≡ wrapping_sub a b }
 {
-    from_bits(std::num::wrapping_sub_u32(to_bits(a), to_bits(b)))
+    a.wrapping_sub(b)
 }
 
 // Whether key a comes before key b in a walk of a table.
@@ -75,7 +71,7 @@ pub fn unsigned_less(a: i32, b: i32) -> bool
 pub fn same(a: i32, b: i32) -> bool
     ensures { result ≡ same a b }
 {
-    to_bits(a) == to_bits(b)
+    a == b
 }
 
 // The sum of all entries, modulo 2^32.
@@ -83,10 +79,8 @@ pub fn sum(xs: &[i32]) -> i32
     ensures { result ≡ Ints.sum xs.now }
 {
     let mut total: i32 = 0;
-    let mut i: usize = 0;
-    while i < xs.len() {
-        total = wrapping_add(total, xs[i]);
-        i += 1;
+    for x in xs {
+        total = wrapping_add(total, *x);
     }
     total
 }
@@ -101,11 +95,7 @@ pub fn copy_into(out: &mut [i32], at: usize, xs: &[i32]) -> bool
     if out.len() - at < xs.len() {
         return false;
     }
-    let mut i: usize = 0;
-    while i < xs.len() {
-        out[at + i] = xs[i];
-        i += 1;
-    }
+    out[at..at + xs.len()].copy_from_slice(xs);
     true
 }
 
@@ -113,9 +103,5 @@ pub fn copy_into(out: &mut [i32], at: usize, xs: &[i32]) -> bool
 pub fn clear(out: &mut [i32])
     ensures { out.new ≡ cleared out.old }
 {
-    let mut i: usize = 0;
-    while i < out.len() {
-        out[i] = 0;
-        i += 1;
-    }
+    out.fill(0);
 }

@@ -23,8 +23,6 @@ use Rattle.format.specs.Totals.{counts}
 use Rattle.ticks.specs.declared.Tick.{Tick}
 use Rattle.format.specs.declared.Error.{Error}
 use Rattle.format.specs.declared.Reading.{Reading}
-use Rattle.format.specs.declared.Stored.{Stored}
-use Rattle.format.specs.declared.Stored.TheVariants as answer
 use Rattle.receiver.specs.States.{receiver_of}
 use Rattle.receiver.specs.Answers.{received_with, answered}
 use Rattle.receiver.specs.declared.Received.{Received}
@@ -34,15 +32,13 @@ use Rattle.store_area.specs.Stores.{holds_in, Holds, beside-is}
 use Rattle.storage.specs.States.{store_of}
 use Rattle.storage.specs.Taking.{sum_of, taken_with, takings}
 use Rattle.storage.specs.declared.Storage.{Storage}
-use Rattle.storage.specs.declared.Taken.{Taken}
-use Rattle.storage.specs.declared.Taken.TheVariants as taken
 use Rattle.storage.specs.declared.Taking.{Taking}
 use Rattle.storage.specs.declared.checked.Sent.{Sent}
 use Rattle.manager.specs.Answers.{handled_with, handlings}
 use Rattle.manager.specs.Steps.{read_into, told_by, goes, keeps, handled_by, fitting, delta_left, Adds, stopping, Brought, laid_out}
-use Rattle.manager.specs.declared.Handled.{Handled}
-use Rattle.manager.specs.declared.Handled.TheVariants as handled
+use Rattle.std.specs.Prelude as Prelude
 use Rattle.manager.specs.declared.Handling.{Handling}
+use Rattle.std.specs.Prelude.{Err, None, Ok, Result, Some}
 use Rattle.manager.proofs.ReadStored.{Holding}
 
 -- a store that is unchanged
@@ -52,29 +48,29 @@ stays s area k h o =
 
 -- ---- the store's answer
 
-module _ (s : Store.Store) (area : List ℤ) (k : ℕ) (h : Holds s area k) (w v : Counts) (sum : Option ℤ) (base tick : ℤ) (delta : List ℤ) (a : Stored) where
+module _ (s : Store.Store) (area : List ℤ) (k : ℕ) (h : Holds s area k) (w v : Counts) (sum : Option ℤ) (base tick : ℤ) (delta : List ℤ) (a : Result ℕ Error) where
   -- the delta goes into the store
   abbrev Goes : Calls.StoreStep (Option ℤ)
   Goes = Calls.laid_out area (goes (length area) w sum base tick (holds_in s area) (read_into a v delta))
 
   -- reading was refused
-  pub not-read : (e : Error) (u : Counts) → a ≡ answer.Refused e → u ≡ merge w v Warnings.none → Goes ≡ record { answer = err (number e) u; store = s; area = area }
+  pub not-read : (e : Error) (u : Counts) → a ≡ Err e → u ≡ merge w v Warnings.none → Goes ≡ record { answer = err (number e) u; store = s; area = area }
   unfolding goes
   not-read e u q r =
-      ap (λ (x : Stored). Calls.laid_out area (goes (length area) w sum base tick (holds_in s area) (read_into x v delta))) q
+      ap (λ (x : Result ℕ Error). Calls.laid_out area (goes (length area) w sum base tick (holds_in s area) (read_into x v delta))) q
       ∙ (stays s area k h (err (number e) (merge w v Warnings.none))
       ∙ ap (λ (c : Counts). record { answer = err (number e) c; store = s; area = area }) (sym r))
 
   -- a store's answer with the warnings of all three
-  answers : (x : Taken) (u : Counts) → told_by w v (taken_with x u) ≡ handled_with (handled_by x) (merge w v u)
-  answers (taken.Tick t) u = refl
-  answers (taken.Refused e) u = refl
+  answers : (x : Result Tick Error) (u : Counts) → told_by w v (taken_with x u) ≡ handled_with (handled_by x) (merge w v u)
+  answers (Ok t) u = refl
+  answers (Err e) u = refl
 
   -- it was read, and the store took it or refused
-  pub was_read : (n : ℕ) (t : Taking) (x : Handled) (u : Counts) (out : List ℤ) → a ≡ answer.Ints n → Calls.laid_out area (Store.add_delta (length area) sum base tick (delta_in [] delta) (holds_in s area)) ≡ takings t out → x ≡ handled_by t.answer → u ≡ merge w v (counts t.warnings) → Goes ≡ record { answer = handled_with x u; store = store_of t.storage; area = out }
+  pub was_read : (n : ℕ) (t : Taking) (x : Result (Prelude.Option Tick) Error) (u : Counts) (out : List ℤ) → a ≡ Ok n → Calls.laid_out area (Store.add_delta (length area) sum base tick (delta_in [] delta) (holds_in s area)) ≡ takings t out → x ≡ handled_by t.answer → u ≡ merge w v (counts t.warnings) → Goes ≡ record { answer = handled_with x u; store = store_of t.storage; area = out }
   unfolding goes
   was_read n t x u out q r f g =
-      ap (λ (y : Stored). Calls.laid_out area (goes (length area) w sum base tick (holds_in s area) (read_into y v delta))) q
+      ap (λ (y : Result ℕ Error). Calls.laid_out area (goes (length area) w sum base tick (holds_in s area) (read_into y v delta))) q
       ∙ (ap (λ (y : Calls.StoreStep ℤ). record { answer = told_by w v y.answer; store = y.store; area = y.area }) r
       ∙ ap (λ (o : Outcome (Option ℤ)). record { answer = o; store = store_of t.storage; area = out })
       (answers t.answer (counts t.warnings) ∙ ap₂ handled_with (sym f) (sym g)))
@@ -120,9 +116,13 @@ adds a m s delta out area area_then o read r h e =
 
 -- ---- what was received
 
+-- an answer whose three layers are known
+pub layers : (a : Result (Prelude.Option Received) Error) (o : Prelude.Option Received) (x y : Received) → a ≡ Ok o → o ≡ Some x → x ≡ y → a ≡ Ok (Some y)
+layers a o x y e f g = rw (e, f, g)
+
 module _ (a : Receiving) (s : Storage) (parts joined : List ℕ) (sizes delta area : List ℤ) where
   -- the message goes on, with this answer of the receiver
-  abbrev With : Received → Manager.ManagerStep
+  abbrev With : Result (Prelude.Option Received) Error → Manager.ManagerStep
   With x = laid_out area (Manager.after_receiving sizes (length area) (answered a parts joined) (holds_in (store_of s) area) delta (received_with x (counts a.warnings)))
 
   -- and so does the code
@@ -137,12 +137,12 @@ module _ (a : Receiving) (s : Storage) (parts joined : List ℕ) (sizes delta ar
         (stays (store_of s) area k h o)
 
     -- parts are missing
-    pub not_yet : (r : Handling) → a.answer ≡ received.NotYet → r ≡ stopping handled.NotYet a s → Whole ≡ handlings r parts joined delta area
+    pub not_yet : (r : Handling) → a.answer ≡ Ok None → r ≡ stopping (Ok None) a s → Whole ≡ handlings r parts joined delta area
     unfolding Manager.after_receiving
     not_yet r e f = ap With e ∙ (stopped (ok none (counts a.warnings)) ∙ ap (λ (y : Handling). handlings y parts joined delta area) (sym f))
 
     -- the receiver refused
-    pub refused : (r : Handling) (n : Error) → a.answer ≡ received.Refused n → r ≡ stopping (handled.Refused n) a s → Whole ≡ handlings r parts joined delta area
+    pub refused : (r : Handling) (n : Error) → a.answer ≡ Err n → r ≡ stopping (Err n) a s → Whole ≡ handlings r parts joined delta area
     unfolding Manager.after_receiving
     refused r n e f = ap With e ∙ (stopped (err (number n) (counts a.warnings)) ∙ ap (λ (y : Handling). handlings y parts joined delta area) (sym f))
 
@@ -163,14 +163,14 @@ module _ (a : Receiving) (s : Storage) (parts joined : List ℕ) (sizes delta ar
         same w H O c d p q u v e f g = rw (e, f, g)
 
   -- of some bytes
-  pub bytes-added : Brought a → (m : Sent) (r : Handling) (delta_then area_then : List ℤ) (tick base : Tick) (n : ℕ) (crc : ℤ) → a.answer ≡ received.Delta tick base n crc → sum_of m ≡ some crc → m.delta_tick ≡ base → m.tick ≡ tick → Told of_reading (Any {A = Delta}) (fitting (length delta) (read_delta sizes (stream (take n joined)))) → Adds a m s delta area (read_delta sizes (stream (take n joined))) r delta_then area_then → Whole ≡ handlings r parts joined delta_then area_then
+  pub bytes-added : Brought a → (m : Sent) (r : Handling) (delta_then area_then : List ℤ) (tick base : Tick) (n : ℕ) (crc : ℤ) → a.answer ≡ Ok (Some (received.Delta tick base n crc)) → sum_of m ≡ some crc → m.delta_tick ≡ base → m.tick ≡ tick → Told of_reading (Any {A = Delta}) (fitting (length delta) (read_delta sizes (stream (take n joined)))) → Adds a m s delta area (read_delta sizes (stream (take n joined))) r delta_then area_then → Whole ≡ handlings r parts joined delta_then area_then
   unfolding Manager.after_receiving Manager.fitting_delta fitting
   bytes-added b m r delta_then area_then tick base n crc e f g h t i =
       ap With e
       ∙ added b m r delta_then area_then (read_delta sizes (stream (take n joined))) t i (record { delta_tick = base.0; tick = tick.0; data_and_crc = some (record { length = n; crc = crc }) }) (sym f) (ap (λ (t : Tick). t.0) (sym g)) (ap (λ (t : Tick). t.0) (sym h))
 
   -- the empty one
-  pub empty-added : Brought a → (m : Sent) (r : Handling) (delta_then area_then : List ℤ) (tick base : Tick) → a.answer ≡ received.Empty tick base → sum_of m ≡ none → m.delta_tick ≡ base → m.tick ≡ tick → Told of_reading (Any {A = Delta}) (fitting (length delta) (return Manager.empty_read)) → Adds a m s delta area (return Manager.empty_read) r delta_then area_then → Whole ≡ handlings r parts joined delta_then area_then
+  pub empty-added : Brought a → (m : Sent) (r : Handling) (delta_then area_then : List ℤ) (tick base : Tick) → a.answer ≡ Ok (Some (received.Empty tick base)) → sum_of m ≡ none → m.delta_tick ≡ base → m.tick ≡ tick → Told of_reading (Any {A = Delta}) (fitting (length delta) (return Manager.empty_read)) → Adds a m s delta area (return Manager.empty_read) r delta_then area_then → Whole ≡ handlings r parts joined delta_then area_then
   unfolding Manager.after_receiving Manager.fitting_delta fitting
   empty-added b m r delta_then area_then tick base e f g h t i =
       ap With e

@@ -31,6 +31,9 @@ use Rattle.receiver.specs.declared.Receiving.{Receiving}
 use Rattle.store_area.specs.Stores.{holds_in}
 use Rattle.manager.specs.Steps.{Short, Brought, laid_out, refusing}
 use Rattle.laws.specs.WarningKinds.{of_receiver, Told, value, refusal}
+use Rattle.std.specs.Prelude.{Err, None, Ok, Result, Some}
+use Rattle.std.specs.Prelude as Prelude
+use Rattle.format.specs.declared.Error.{Error}
 use Rattle.manager.proofs.ReceiverKinds.{Few, NoBytes, receive-told, empty-brings}
 
 -- ---- the receiver's call, by the message
@@ -46,11 +49,11 @@ module _ (r : Receiver.Receiver) (m : SnapMsg) (bytes parts joined : List ℕ) (
   by-empty e h = rw e h
 
 -- what was received is known to be short, with a receiver's warnings
-told-brought : (x : Received) (w : Counts) → Told of_receiver Few (received_with x w) → Short x × (w ≡ of_receiver w)
-told-brought received.NotYet w (value p e) = (tt, e)
-told-brought (received.Delta tick base n crc) w (value p e) = (p, e)
-told-brought (received.Empty tick base) w (value p e) = (tt, e)
-told-brought (received.Refused n) w (refusal e) = (tt, e)
+told-brought : (x : Result (Prelude.Option Received) Error) (w : Counts) → Told of_receiver Few (received_with x w) → Short x × (w ≡ of_receiver w)
+told-brought (Ok None) w (value p e) = (tt, e)
+told-brought (Ok (Some (received.Delta tick base n crc))) w (value p e) = (p, e)
+told-brought (Ok (Some (received.Empty tick base))) w (value p e) = (tt, e)
+told-brought (Err n) w (refusal e) = (tt, e)
 
 pub brought : (r : Receiver.Receiver) (m : SnapMsg) (bytes parts joined parts_then joined_then : List ℕ) (a : Receiving) → Manager.receive r (numbers m) bytes parts joined ≡ answered a parts_then joined_then → Brought a
 brought r m bytes parts joined parts_then joined_then a e =

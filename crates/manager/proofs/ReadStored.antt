@@ -26,25 +26,25 @@ use Rattle.laws.specs.StoredLaws.{room-tested}
 use Rattle.laws.specs.DeltaForm.{delta-back}
 use Rattle.format.specs.Totals.{counts}
 use Rattle.format.specs.Answers.{stored_ints, stored_with}
-use Rattle.format.specs.declared.Stored.{Stored}
-use Rattle.format.specs.declared.Stored.TheVariants as answer
+use Rattle.format.specs.declared.Error.{Error}
 use Rattle.format.specs.declared.Warnings.{Warnings}
 use Rattle.manager.specs.Steps.{read_into, fitting, delta_left}
+use Rattle.std.specs.Prelude.{Err, Ok, Result}
 use Rattle.manager.proofs.ReadSound.{Sound}
 
 -- ---- the empty delta
 
 -- it is read as it is written by `clear`
-pub empty-read : (delta out : List ℤ) (a : Stored) (w : Warnings) → clear_call delta ≡ record { answer = stored_ints a; out = out } → counts w ≡ Warnings.none → stored_delta delta (return empty_read) ≡ record { answer = stored_with a (counts w); out = out }
+pub empty-read : (delta out : List ℤ) (a : Result ℕ Error) (w : Warnings) → clear_call delta ≡ record { answer = stored_ints a; out = out } → counts w ≡ Warnings.none → stored_delta delta (return empty_read) ≡ record { answer = stored_with a (counts w); out = out }
 unfolding stored_delta delta_ints updates_ints
 empty-read delta out a w e f =
     ap (stored delta) (after_none (require (leb 3 (length delta)) capacity_error >> return (written_delta empty_delta)))
     ∙ (room-tested delta (written_delta empty_delta)
     ∙ (e ∙ ap (λ (o : Outcome ℕ). record { answer = o; out = out }) (with_none a ∙ ap (stored_with a) (sym f))))
   where
-    with_none : (b : Stored) → stored_ints b ≡ stored_with b Warnings.none
-    with_none (answer.Ints n) = refl
-    with_none (answer.Refused n) = refl
+    with_none : (b : Result ℕ Error) → stored_ints b ≡ stored_with b Warnings.none
+    with_none (Ok n) = refl
+    with_none (Err n) = refl
 
 -- it was read from nothing
 pub empty-sound : Told of_reading (Sound 2) (return empty_read)
@@ -94,19 +94,19 @@ laid-there delta out d e o l s =
     (ap delta_of (e ∙ lay-append (written_delta d) delta l) ∙ delta-back d (drop (length (written_delta d)) delta) o s)
 
 -- what is known of a delta's area after reading: it holds what was read
-pub record Holding (delta : List ℤ) (a : Stored) (w : Counts) (out : List ℤ) (o : Outcome Delta) : Type 0 where
-  pub form : (n : ℕ) → a ≡ answer.Ints n → delta_form [] out ≡ true
+pub record Holding (delta : List ℤ) (a : Result ℕ Error) (w : Counts) (out : List ℤ) (o : Outcome Delta) : Type 0 where
+  pub form : (n : ℕ) → a ≡ Ok n → delta_form [] out ≡ true
   pub read_is : read_into a w out ≡ o
   pub delta-is : out ≡ delta_left delta o
 
-holds : {delta out : List ℤ} {o : Outcome Delta} (a : Stored) (w : Counts) → Ends delta o (stored_with a w) out → Holding delta a w out o
-holds {delta} {out} (answer.Ints n) w (laid {d = d} e o l s) =
+holds : {delta out : List ℤ} {o : Outcome Delta} (a : Result ℕ Error) (w : Counts) → Ends delta o (stored_with a w) out → Holding delta a w out o
+holds {delta} {out} (Ok n) w (laid {d = d} e o l s) =
     let t = laid-there delta out d e o l s in
     record { form = λ m q. t.0; read_is = ap (λ (x : Delta). ok x w) t.1; delta-is = e }
-holds (answer.Refused n) w (left e) =
+holds (Err n) w (left e) =
     record { form = λ m q. let z : ◌≡◌ {A = ℕ} 0 1 = cc in absurd (omega arith); read_is = refl; delta-is = e }
 
-pub read-holds : (delta out : List ℤ) (o : Outcome DeltaRead) (a : Stored) (w : Counts) (n : ℕ) → n ≤ 28800 → Told of_reading (Sound n) o → stored_delta delta o ≡ record { answer = stored_with a w; out = out } → Holding delta a w out (fitting (length delta) o)
+pub read-holds : (delta out : List ℤ) (o : Outcome DeltaRead) (a : Result ℕ Error) (w : Counts) (n : ℕ) → n ≤ 28800 → Told of_reading (Sound n) o → stored_delta delta o ≡ record { answer = stored_with a w; out = out } → Holding delta a w out (fitting (length delta) o)
 read-holds delta out o a w n l t e =
     holds a w (subst (λ (x : Wrote ℕ ℤ). Ends delta (fitting (length delta) o) x.answer x.out) e (ends delta n l t))
 

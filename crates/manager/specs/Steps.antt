@@ -1,5 +1,5 @@
 -- The results of the steps of a message. Assumes nothing.
-use Rattle.std.specs.Prelude.{◌≡◌, List, [], ℕ, ◌≤◌, leb, ℤ, length}
+use Rattle.std.specs.Prelude.{◌≡◌, List, [], ℕ, ◌≤◌, leb, ℤ, length, Result, Ok, Err, Some, None}
 use Rattle.std.proofs.Math.Option.{Option, some}
 use Rattle.definitions.specs.Areas.{lay}
 use Rattle.definitions.specs.Warnings.{Counts}
@@ -15,8 +15,9 @@ use Rattle.definitions.specs.Manager as Manager
 use Rattle.laws.specs.WarningKinds.{merge}
 use Rattle.format.specs.Numbers.{number}
 use Rattle.format.specs.Totals.{counts}
-use Rattle.format.specs.declared.Stored.{Stored}
-use Rattle.format.specs.declared.Stored.TheVariants as stored
+use Rattle.format.specs.declared.Error.{Error}
+use Rattle.ticks.specs.declared.Tick.{Tick}
+use Rattle.std.specs.Prelude as Prelude
 use Rattle.receiver.specs.States.{receiver_of}
 use Rattle.receiver.specs.declared.Received.{Received}
 use Rattle.receiver.specs.declared.Received.TheVariants as received
@@ -25,18 +26,14 @@ use Rattle.store_area.specs.Stores.{holds_in}
 use Rattle.storage.specs.States.{store_of}
 use Rattle.storage.specs.Taking.{sum_of}
 use Rattle.storage.specs.declared.Storage.{Storage}
-use Rattle.storage.specs.declared.Taken.{Taken}
-use Rattle.storage.specs.declared.Taken.TheVariants as taken
 use Rattle.storage.specs.declared.checked.Sent.{Sent}
 use Rattle.manager.specs.Answers.{handled_with}
-use Rattle.manager.specs.declared.Handled.{Handled}
-use Rattle.manager.specs.declared.Handled.TheVariants as handled
 use Rattle.manager.specs.declared.Handling.{Handling}
 
 -- the delta that was read into an area, or why none was
-abbrev pub read_into : Stored → Counts → List ℤ → Outcome Delta
-read_into (stored.Ints n) w delta = ok (delta_in [] delta) w
-read_into (stored.Refused e) w delta = err (number e) w
+abbrev pub read_into : Result ℕ Error → Counts → List ℤ → Outcome Delta
+read_into (Ok n) w delta = ok (delta_in [] delta) w
+read_into (Err e) w delta = err (number e) w
 
 -- a store's answer, after the warnings of receiver and delta
 abbrev pub told_by : Counts → Counts → Outcome ℤ → Outcome (Option ℤ)
@@ -62,9 +59,9 @@ keeps r area =
     }
 
 -- the answer for a delta that a store took or refused
-abbrev pub handled_by : Taken → Handled
-handled_by (taken.Tick t) = handled.Tick t
-handled_by (taken.Refused e) = handled.Refused e
+abbrev pub handled_by : Result Tick Error → Result (Prelude.Option Tick) Error
+handled_by (Ok t) = Ok (Some t)
+handled_by (Err e) = Err e
 
 -- a delta that was read must fit an area of n ints
 unfoldable pub fitting : ℕ → Outcome DeltaRead → Outcome Delta
@@ -87,7 +84,7 @@ pub record Adds (a : Receiving) (m : Sent) (s : Storage) (delta area : List ℤ)
 -- ---- a whole message
 
 -- nothing goes into the store
-abbrev pub stopping : Handled → Receiving → Storage → Handling
+abbrev pub stopping : Result (Prelude.Option Tick) Error → Receiving → Storage → Handling
 stopping x a s =
     record {
       answer = x;
@@ -96,11 +93,11 @@ stopping x a s =
     }
 
 -- the received bytes, if any, are no more than a part area holds
-abbrev pub Short : Received → Type 0
-Short received.NotYet = Unit {0}
-Short (received.Delta tick base n crc) = n ≤ 28800
-Short (received.Empty tick base) = Unit {0}
-Short (received.Refused e) = Unit {0}
+abbrev pub Short : Result (Prelude.Option Received) Error → Type 0
+Short (Ok None) = Unit {0}
+Short (Ok (Some (received.Delta tick base n crc))) = n ≤ 28800
+Short (Ok (Some (received.Empty tick base))) = Unit {0}
+Short (Err e) = Unit {0}
 
 -- what is known of a received message: how many bytes it has, and that its warnings are all of the receiver's kinds
 pub record Brought (a : Receiving) : Type 0 where

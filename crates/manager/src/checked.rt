@@ -1,5 +1,5 @@
 // The steps of a message: it is judged and received, its delta is read, and the store takes the delta.
-ghost use Rattle.std.specs.Prelude.{◌≡◌, true, List, [], ℕ, ◌≤◌, ℤ, length};
+ghost use Rattle.std.specs.Prelude.{◌≡◌, true, List, [], ℕ, ◌≤◌, ℤ, length, Ok};
 ghost use Rattle.std.proofs.Math.Option.{some, none};
 ghost use Rattle.definitions.specs.Areas.{cleared};
 ghost use Rattle.definitions.specs.Outcome.{return};
@@ -13,7 +13,6 @@ ghost use Rattle.definitions.specs.Manager as Definition;
 ghost use Rattle.format.specs.Numbers.{number};
 ghost use Rattle.format.specs.Totals.{counts};
 ghost use Rattle.format.specs.Answers.{stored_with};
-ghost use Rattle.format.specs.declared.Stored.TheVariants as stored;
 ghost use Rattle.gamenet_snap.specs.Numbers.{numbers};
 ghost use Rattle.receiver.specs.States.{receiver_of};
 ghost use Rattle.receiver.specs.Answers.{received_with, answered};
@@ -23,14 +22,13 @@ ghost use Rattle.storage.specs.Taking.{sum_of, takings};
 ghost use Rattle.manager.specs.Answers.{handlings};
 ghost use Rattle.manager.specs.Steps.{read_into, handled_by, goes, keeps, Adds, stopping, Brought, laid_out, refusing};
 
-use super::{Handled, Handling, Manager};
+use super::{Handling, Manager};
 use delta::checked::read_packed;
-use format::{Error, Reading, Stored, Warnings};
+use format::{Error, Reading, Warnings};
 use gamenet_snap::SnapMsg;
 use receiver::{DeltaReceiver, Received, Receiving};
 use storage::checked::{Sent, take_judged};
-use storage::{Storage, Taken, Taking};
-use store_area::checked::StoreForm;
+use storage::{Storage, Taking};
 use table::checked::nat_at;
 use ticks::Tick;
 
@@ -72,30 +70,6 @@ pub fn read_empty(delta: &mut [i32]) -> Reading
     }
 }
 
-// The numbers of a delta with a sum.
-pub fn with_crc(crc: i32, delta_tick: Tick, tick: Tick) -> Sent
-    ensures { (sum_of result ≡ some crc) × (result.delta_tick ≡ delta_tick) × (result.tick ≡ tick) }
-{
-    Sent {
-        has_crc: true,
-        crc,
-        delta_tick,
-        tick,
-    }
-}
-
-// The numbers of a delta without a sum.
-pub fn without_crc(delta_tick: Tick, tick: Tick) -> Sent
-    ensures { (sum_of result ≡ none) × (result.delta_tick ≡ delta_tick) × (result.tick ≡ tick) }
-{
-    Sent {
-        has_crc: false,
-        crc: 0,
-        delta_tick,
-        tick,
-    }
-}
-
 // Passes the delta that an area holds to the store.
 pub fn take(
     s: Storage,
@@ -114,24 +88,25 @@ pub fn take(
 }
 
 // The answer for a delta that the store took or refused.
-pub fn handled(taken: Taken) -> Handled
+pub fn handled(taken: Result<Tick, Error>) -> Result<Option<Tick>, Error>
     ensures { result ≡ handled_by taken }
 {
-    match taken {
-        Taken::Tick(tick) => Handled::Tick(tick),
-        Taken::Refused(error) => Handled::Refused(error),
-    }
+    Ok(Some(taken?))
 }
 
 // The result of a message, with the manager of this receiver and store.
-fn told(answer: Handled, warnings: Warnings, receiver: DeltaReceiver, storage: Storage) -> Handling
+fn told(
+    answer: Result<Option<Tick>, Error>,
+    warnings: Warnings,
+    receiver: DeltaReceiver,
+    storage: Storage,
+) -> Handling
     ensures { result ≡ record { answer = answer; warnings = warnings; manager = record { receiver = receiver; storage = storage } } }
 {
-    let manager = Manager { receiver, storage };
     Handling {
         answer,
         warnings,
-        manager,
+        manager: Manager { receiver, storage },
     }
 }
 
@@ -146,25 +121,18 @@ pub fn add(
     ints: usize,
     scratch: &mut [i32],
 ) -> Handling
-    requires { Holds (store_of s) area.old ints × (16384 ≤ length scratch.old) × ((n : ℕ) → read.answer ≡ stored.Ints n → delta_form [] delta.now ≡ true) }
+    requires { Holds (store_of s) area.old ints × (16384 ≤ length scratch.old) × ((n : ℕ) → read.answer ≡ Ok n → delta_form [] delta.now ≡ true) }
     ensures { (StorageCalls.laid_out area.old (goes (length area.old) (counts a.warnings) (sum_of m) m.delta_tick.0 m.tick.0 (holds_in (store_of s) area.old) (read_into read.answer (counts read.warnings) delta.now)) ≡ keeps result area.new) × (receiver_of result.manager.receiver ≡ receiver_of a.receiver) }
 {
-    let warnings = a.warnings;
-    let read_warnings = read.warnings;
-    let receiver = a.receiver;
-    let answer = read.answer;
-    match answer {
-        Stored::Refused(error) => {
-            let all = Warnings::merged(warnings, read_warnings, Warnings::none());
-            told(Handled::Refused(error), all, receiver, s)
+    match read.answer {
+        Err(error) => {
+            let all = Warnings::merged(a.warnings, read.warnings, Warnings::none());
+            told(Err(error), all, a.receiver, s)
         }
-        Stored::Ints(_) => {
+        Ok(_) => {
             let taking = take(s, m, delta, area, ints, scratch);
-            let taken = taking.answer;
-            let storage = taking.storage;
-            let store_warnings = taking.warnings;
-            let all = Warnings::merged(warnings, read_warnings, store_warnings);
-            told(handled(taken), all, receiver, storage)
+            let all = Warnings::merged(a.warnings, read.warnings, taking.warnings);
+            told(handled(taking.answer), all, a.receiver, taking.storage)
         }
     }
 }
@@ -206,21 +174,10 @@ pub fn add_empty(
 }
 
 // The result of a message that brings no delta to the store.
-pub fn stop(answer: Handled, a: Receiving, g: Manager) -> Handling
+pub fn stop(answer: Result<Option<Tick>, Error>, a: Receiving, g: Manager) -> Handling
     ensures { result ≡ stopping answer a g.storage }
 {
-    let warnings = a.warnings;
-    let next = a.receiver;
-    let storage = g.storage;
-    let manager = Manager {
-        receiver: next,
-        storage,
-    };
-    Handling {
-        answer,
-        warnings,
-        manager,
-    }
+    told(answer, a.warnings, a.receiver, g.storage)
 }
 
 // Passes what was received on to the store, if it is a whole delta.
@@ -238,24 +195,33 @@ pub fn settle(
     ensures { (parts : List ℕ) → laid_out area.old (Definition.after_receiving sizes.now (length area.old) (answered a parts joined.now) (holds_in (store_of g.storage) area.old) delta.old (received_with a.answer (counts a.warnings))) ≡ handlings result parts joined.now delta.new area.new }
 {
     let s = g.storage;
-    let answer = a.answer;
-    match answer {
-        Received::NotYet => stop(Handled::NotYet, a, g),
-        Received::Refused(error) => stop(Handled::Refused(error), a, g),
-        Received::Empty { tick, delta_tick } => {
-            let m = without_crc(delta_tick, tick);
-            add_empty(a, m, s, delta, area, ints, scratch)
-        }
-        Received::Delta {
-            tick,
-            delta_tick,
-            len,
-            crc,
-        } => {
-            let m = with_crc(crc, delta_tick, tick);
-            let data = &joined[..len];
-            add_bytes(a, m, s, data, sizes, delta, area, ints, scratch)
-        }
+    match a.answer {
+        Ok(None) => stop(Ok(None), a, g),
+        Err(error) => stop(Err(error), a, g),
+        Ok(Some(received)) => match received {
+            Received::Empty { tick, delta_tick } => {
+                let m = Sent {
+                    crc: None,
+                    delta_tick,
+                    tick,
+                };
+                add_empty(a, m, s, delta, area, ints, scratch)
+            }
+            Received::Delta {
+                tick,
+                delta_tick,
+                len,
+                crc,
+            } => {
+                let m = Sent {
+                    crc: Some(crc),
+                    delta_tick,
+                    tick,
+                };
+                let data = &joined[..len];
+                add_bytes(a, m, s, data, sizes, delta, area, ints, scratch)
+            }
+        },
     }
 }
 
@@ -275,8 +241,7 @@ pub fn handle(
     requires { Holds (store_of g.storage) area.old ints × (28800 ≤ length scratch.old) × (28800 ≤ length joined.old) }
     ensures { laid_out area.old (Definition.handle sizes.now (length area.old) (record { receiver = receiver_of g.receiver; storage = holds_in (store_of g.storage) area.old }) (record { numbers = numbers m; bytes = «data».now }) parts.old joined.old delta.old) ≡ handlings result parts.new joined.new delta.new area.new }
 {
-    let receiver = g.receiver;
-    let a = receive(receiver, m, data, parts, joined);
+    let a = receive(g.receiver, m, data, parts, joined);
     settle(a, g, joined, sizes, delta, area, ints, scratch)
 }
 
@@ -285,7 +250,7 @@ pub fn refused(g: Manager, error: Error) -> Handling
     ensures { (parts joined : List ℕ) (delta area : List ℤ) → refusing (number error) (receiver_of g.receiver) (store_of g.storage) parts joined delta area ≡ handlings result parts joined delta area }
 {
     Handling {
-        answer: Handled::Refused(error),
+        answer: Err(error),
         warnings: Warnings::none(),
         manager: g,
     }
@@ -305,12 +270,10 @@ pub fn judge(
 ) -> Handling
     ensures { Definition.message_call sizes.now (receiver_of g.receiver) (store_of g.storage) (record { numbers = numbers m; bytes = «data».now }) parts.old joined.old delta.old area.old (length scratch.old) ≡ handlings result parts.new joined.new delta.new area.new }
 {
-    let r = g.receiver;
-    let s = g.storage;
-    if !receiver::checked::in_form(r) {
+    if !receiver::checked::in_form(g.receiver) {
         return refused(g, Error::NotInForm);
     }
-    let StoreForm::Tables(ints) = storage::checked::form(s, area) else {
+    let Some(ints) = storage::checked::form(g.storage, area) else {
         return refused(g, Error::NotInForm);
     };
     if scratch.len() < DeltaReceiver::AREA_SIZE {

@@ -18,7 +18,7 @@ use format::{Error, Warnings};
 use gamenet_snap::SnapMsg;
 use receiver::DeltaReceiver;
 use storage::Storage;
-use ticks::{Distance, OptionTick, Tick};
+use ticks::{Distance, Tick};
 
 pub mod checked;
 
@@ -29,18 +29,11 @@ pub struct Manager {
     pub storage: Storage,
 }
 
-// The answer for a message: the tick of the table that it made, which is acknowledged; that parts are missing; or why it is refused.
-#[derive(Clone, Copy)]
-pub enum Handled {
-    Tick(Tick),
-    NotYet,
-    Refused(Error),
-}
-
-// The result of a call, with the warnings counted and the manager afterwards.
+// The result of a call: the tick of the table that was made and acknowledged, none if parts are missing, or why the message is refused; the
+// warnings counted; the manager afterwards.
 #[derive(Clone, Copy)]
 pub struct Handling {
-    pub answer: Handled,
+    pub answer: Result<Option<Tick>, Error>,
     pub warnings: Warnings,
     pub manager: Manager,
 }
@@ -65,7 +58,7 @@ impl Manager {
     }
 
     // The tick acknowledged last.
-    pub fn ack_tick(self) -> OptionTick
+    pub fn ack_tick(self) -> Option<Tick>
         ensures { tick_of result ≡ (store_of self.storage).ack_tick }
     {
         self.storage.ack_tick()

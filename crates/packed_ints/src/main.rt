@@ -3,7 +3,6 @@
 
 ghost use Rattle.std.specs.Prelude.{◌<◌};
 
-use packer::{IntRead, IntWrite, IntsRead};
 use replay_text::line::Line;
 use std::io::Result;
 use std::rt::HostRuntime;
@@ -23,10 +22,8 @@ fn hex(line: Line, b: u8) -> Line {
 // Adds bytes as hexadecimal digits.
 fn all_hex(line: Line, bytes: &[u8]) -> Line {
     let mut l = line;
-    let mut i: usize = 0;
-    while i < bytes.len() {
-        l = hex(l, bytes[i]);
-        i += 1;
+    for b in bytes {
+        l = hex(l, *b);
     }
     l
 }
@@ -51,52 +48,37 @@ fn first(area: &[u8], len: usize) -> &[u8] {
 
 // The int read back from some bytes, and the bytes.
 fn read_back(bytes: &[u8]) -> Line {
-    let IntRead::Int {
-        value,
-        next: _,
-        overlong,
-    } = packer::read_int(bytes, 0)
-    else {
+    let Ok(read) = packer::read_int(bytes, 0) else {
         return Line::new().text(b"not read back");
     };
-    let line = Line::new().int(value).text(b" =");
-    warned(all_hex(line, bytes), overlong)
+    let line = Line::new().int(read.value).text(b" =");
+    warned(all_hex(line, bytes), read.overlong)
 }
 
 // Shows how an int is written.
 fn show_int(rt: &impl Print, int: i32) -> Result<()> {
     let mut area = [0u8; 5];
-    let answer = packer::write_int(&mut area, 0, int);
-    let line = match answer {
-        IntWrite::Next(next) => read_back(first(&area, next)),
-        IntWrite::Refused(_) => Line::new().text(b"refused"),
+    let line = match packer::write_int(&mut area, 0, int) {
+        Ok(next) => read_back(first(&area, next)),
+        Err(_) => Line::new().text(b"refused"),
     };
     line.print(rt)
 }
 
 // Shows how ints are written.
 fn show_ints(rt: &impl Print, ints: &[i32]) -> Result<()> {
-    let mut i: usize = 0;
-    while i < ints.len() {
-        show_int(rt, ints[i])?;
-        i += 1;
+    for int in ints {
+        show_int(rt, *int)?;
     }
     Ok(())
 }
 
 // Adds what is read at the front of some bytes, or the refusal.
 fn read(line: Line, bytes: &[u8]) -> Line {
-    let read = packer::read_int(bytes, 0);
-    let IntRead::Int {
-        value,
-        next: _,
-        overlong,
-    } = read
-    else {
-        let number = packer::places::refusal(read);
-        return line.text(b" refused").next_number(number as usize);
-    };
-    warned(line.text(b" reads ").int(value), overlong)
+    match packer::read_int(bytes, 0) {
+        Ok(read) => warned(line.text(b" reads ").int(read.value), read.overlong),
+        Err(e) => line.text(b" refused").next_number(u32::from(e) as usize),
+    }
 }
 
 // Shows what is read at the front of some bytes.
@@ -104,23 +86,20 @@ fn show_read(rt: &impl Print, bytes: &[u8]) -> Result<()> {
     read(all_hex(Line::new(), bytes), bytes).print(rt)
 }
 
-// Adds what was unpacked.
-fn unpacked(line: Line, answer: IntsRead, area: &[i32]) -> Line {
-    match answer {
-        IntsRead::Ints { count, cut } => {
-            let line = line.text(b" unpacks").ints(area, count);
-            with_if(line, cut, b", cut")
-        }
-        IntsRead::Refused(_) => line.text(b" refused"),
-    }
-}
-
 // Shows what is unpacked from some bytes.
 fn show_unpacked(rt: &impl Print, bytes: &[u8]) -> Result<()> {
     let mut area = [0i32; 5];
-    let done = packer::unpack(bytes, &mut area);
-    let answer = done.answer;
-    unpacked(all_hex(Line::new(), bytes), answer, &area).print(rt)
+    let unpacked = packer::unpack(bytes, &mut area);
+    let line = all_hex(Line::new(), bytes);
+    let line = match unpacked.answer {
+        Ok(read) => with_if(
+            line.text(b" unpacks").ints(&area, read.count),
+            read.cut,
+            b", cut",
+        ),
+        Err(_) => line.text(b" refused"),
+    };
+    line.print(rt)
 }
 
 // Shows the worked examples of docs/FORMAT.md.

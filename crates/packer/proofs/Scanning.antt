@@ -38,20 +38,22 @@ pub record Scanning (src : List ℕ) (before out : List ℤ) (at : ℕ) (t : Tot
   pub warns : plus (packed t.overlong) (warnings (stream (drop at src))) ≡ warnings (stream src)
   pub laid : lay_at t.count (ints (stream (drop at src))) out ≡ lay (ints (stream src)) before
 
-pub start : (src : List ℕ) (before : List ℤ) → Scanning src before before 0 (record { count = 0; cut = false; padded = false; overlong = 0 })
-start src before =
+pub start :
+    (src : List ℕ) (before : List ℤ) (t : Totals) → (t.count ≡ 0) × ((t.cut ≡ false) × ((t.padded ≡ false) × (t.overlong ≡ 0))) →
+    Scanning src before before 0 t
+start src before t e =
     record {
       inside = omega arith;
-      few = omega arith;
-      few-overlong = omega arith;
+      few = omega (arith, e.0);
+      few-overlong = omega (arith, e.0, e.1.1.1);
       same = refl;
-      counted = zero-add (length (ints (stream src)));
-      not-cut = refl;
-      not-padded = refl;
+      counted = rw e.0 (zero-add (length (ints (stream src))));
+      not-cut = e.1.0;
+      not-padded = e.1.1.0;
       ends = refl;
       pads = refl;
-      warns = none-plus (warnings (stream src));
-      laid = refl;
+      warns = rw e.1.1.1 (none-plus (warnings (stream src)));
+      laid = rw e.0 refl;
     }
 
 -- one integer more, overlong so many times

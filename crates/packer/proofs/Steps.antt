@@ -12,6 +12,7 @@ use lib.Dec.{leb, ltb, eqb}
 use lib.IntN.{ℤ}
 use lib.ListN.{length, drop, get_or, drop_of_length-le, length-drop}
 use lib.Seq.{drop-cons}
+use Rattle.std.specs.Prelude.{Ok, Err}
 use Rattle.definitions.specs.Refusals.{unexpected_end}
 use Rattle.definitions.specs.Outcome.{Outcome, ok, refuse}
 use Rattle.definitions.specs.Packed.{signed, sign, warned, more, read_int}
@@ -20,7 +21,6 @@ use Rattle.laws.specs.Tests.{below}
 use Rattle.format.specs.declared.Error.TheVariants.{NonZeroIntPadding}
 use Rattle.packer.specs.Answers.{int_read}
 use Rattle.packer.specs.Bytes.{more_at}
-use Rattle.packer.specs.declared.IntRead.TheVariants.{Int, Refused}
 
 -- an int at a place before this one
 abbrev found : ℤ → ℕ → Bool → Outcome IntAt
@@ -129,7 +129,7 @@ not_last b w e =
 module _ (src : List ℕ) (p d : ℕ) (s : Bool) (h : p < length src) where
   -- an integer with these digits that ends here
   abbrev whole : ℕ → Outcome IntAt
-  whole m = int_read (cond (leb 2147483648 m) (Refused NonZeroIntPadding) (Int (signed s m) (p + 1) (eqb (byte src p) 0)))
+  whole m = int_read (cond (leb 2147483648 m) (Err NonZeroIntPadding) (Ok (record { value = signed s m; next = p + 1; overlong = eqb (byte src p) 0 })))
 
   before-fifth : {n w : ℕ} → Weight n w → 0 < n → d < w → byte src p < 128 → more_at src p n w d s ≡ whole (d + byte src p * w)
   before-fifth {n} {w} k m l b =

@@ -3,35 +3,16 @@ use mathlib.Core.Path.{◌≡◌, refl, sym, ap, ◌∙◌}
 use mathlib.Core.Logic.{⊎_elim}
 use mathlib.Core.List.{List, [], ◌∷◌}
 use Prim.Native.Nat.{ℕ, zero, suc, ◌+◌, ◌*◌, ◌/◌, ◌%◌, ◌^◌, ◌≤◌, ◌<◌}
-use mathlib.Core.Bool.{true, false, true≢false}
 use native.Mathlib.Nat.{pow-succ'}
 use native.Mathlib.Omega.{arith}
-use borrow.Author.Tests.{lt-ltb, le-ltb, ltb-true}
-use lib.IntN.{ℤ, pos, negsuc}
-use lib.Signed.{lt_z}
-use mir.Syntax.{w32}
-use mir.Val.{SFits, of_z, to_z}
-use mir.Facts.{to_z-of_z}
+use borrow.Author.Tests.{lt-ltb, le-ltb}
 use lib.ListN.{length, set}
 use Rattle.definitions.specs.Areas.{lay_at}
-use Rattle.definitions.specs.Packed.{sign_bit, write_more}
+use Rattle.definitions.specs.Packed.{write_more}
 use Rattle.laws.specs.AreaLaws.{lay_at-set, lay_at-nothing}
 use Rattle.laws.specs.Shortest.{some_more}
 use Rattle.laws.specs.Tests.{below}
 use Rattle.packer.specs.Bytes.{extend_bit}
-
--- the sign's bit of a negative int, and of any other
-pub sign-minus : (x : ℤ) → SFits w32 x → lt_z (to_z w32 (of_z w32 x)) (pos 0) ≡ true → 64 ≡ sign_bit x
-sign-minus (pos n) f t =
-    let h : n < 0 = ltb-true n 0 (ap (λ (z : ℤ). lt_z z (pos 0)) (sym (to_z-of_z f)) ∙ t) in
-    let y : ⊥ = omega arith in absurd y
-sign-minus (negsuc n) f t = refl
-
-pub sign-plus : (x : ℤ) → SFits w32 x → lt_z (to_z w32 (of_z w32 x)) (pos 0) ≡ false → 0 ≡ sign_bit x
-sign-plus (pos n) f t = refl
-sign-plus (negsuc n) f t =
-    let z : true ≡ false = ap (λ (z : ℤ). lt_z z (pos 0)) (sym (to_z-of_z f)) ∙ t in
-    absurd (true≢false z)
 
 -- the extend bit of digits that one byte holds, and of others
 pub extend-none : (m : ℕ) → m < 64 → 0 ≡ extend_bit m

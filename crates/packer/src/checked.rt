@@ -1,6 +1,6 @@
 // Reading at a place of a slice whose length the caller has judged, a pass over the packed integers of some bytes, and packing some
 // ints at a place.
-ghost use Rattle.std.specs.Prelude.{◌≡◌, false, cond, ◌||◌, ◌+◌, ◌-◌, ◌≤◌, ◌<◌, ◌^◌, eqb, leb, ltb, length};
+ghost use Rattle.std.specs.Prelude.{◌≡◌, false, cond, ◌||◌, ◌+◌, ◌-◌, ◌≤◌, ◌<◌, ◌^◌, eqb, leb, ltb, length, Ok, Err};
 ghost use Rattle.definitions.specs.Areas.{lay_at};
 ghost use Rattle.definitions.specs.Packed.{signed, pack_ints};
 ghost use Rattle.definitions.specs.Packer.{read_int_at};
@@ -11,7 +11,6 @@ ghost use Rattle.format.specs.declared.Error.TheVariants.{NonZeroIntPadding};
 ghost use Rattle.packer.specs.Answers.{int_read, refusal, missing_as};
 ghost use Rattle.packer.specs.Bytes.{more_at};
 ghost use Rattle.packer.specs.Scans.{Scanned, stopped_at};
-ghost use Rattle.packer.specs.declared.IntRead.TheVariants.{Int, Refused};
 
 use super::IntRead;
 use format::Error;
@@ -28,47 +27,45 @@ fn signed_value(sign: bool, d: u32) -> i32
 }
 
 // The integer at a place of src.
-pub fn read_int(src: &[u8], at: usize) -> IntRead
+pub fn read_int(src: &[u8], at: usize) -> Result<IntRead, Error>
     ensures { read_int_at src.now at ≡ int_read result }
 {
     if src.len() <= at {
-        return IntRead::Refused(Error::UnexpectedEnd);
+        return Err(Error::UnexpectedEnd);
     }
     let b = src[at] as u32;
     let sign = b / 64 % 2 == 1;
     if b < 128 {
-        return IntRead::Int {
+        return Ok(IntRead {
             value: signed_value(sign, b % 64),
             next: at + 1,
             overlong: false,
-        };
+        });
     }
     read_more(src, at + 1, sign, b % 64)
 }
 
 // The bytes of an integer after its first, whose digits are first. There is one way out of the loop with an integer: so the compiler
 // neither unrolls it nor finds read_int too long to put into the loops that call it.
-fn read_more(src: &[u8], start: usize, sign: bool, first: u32) -> IntRead
+fn read_more(src: &[u8], start: usize, sign: bool, first: u32) -> Result<IntRead, Error>
     requires { first < 64 }
     ensures { more_at src.now start 3 64 first sign ≡ int_read result }
 {
-    let mut at = start;
     let mut digits = first as u64;
     let mut weight: u64 = 64;
-    while at < src.len() {
+    for at in start..src.len() {
         let b = src[at] as u64;
         if is_last(b, weight) {
             return last_byte(sign, digits + b * weight, b, at + 1);
         }
         digits += b % 128 * weight;
         weight *= 128;
-        at += 1;
     }
-    IntRead::Refused(Error::UnexpectedEnd)
+    Err(Error::UnexpectedEnd)
 }
 
 // The same where at least four bytes follow the first, without a test for the end of src between them.
-fn read_four(src: &[u8], start: usize, sign: bool, first: u32) -> IntRead
+fn read_four(src: &[u8], start: usize, sign: bool, first: u32) -> Result<IntRead, Error>
     requires { (start + 4 ≤ length src.now) × (first < 64) }
     ensures { more_at src.now start 3 64 first sign ≡ int_read result }
 {
@@ -96,18 +93,18 @@ fn read_four(src: &[u8], start: usize, sign: bool, first: u32) -> IntRead
 }
 
 // The integer at a place of src from which on five bytes or more are left.
-fn read_five(src: &[u8], at: usize) -> IntRead
+fn read_five(src: &[u8], at: usize) -> Result<IntRead, Error>
     requires { at + 5 ≤ length src.now }
     ensures { read_int_at src.now at ≡ int_read result }
 {
     let b = src[at] as u32;
     let sign = b / 64 % 2 == 1;
     if b < 128 {
-        return IntRead::Int {
+        return Ok(IntRead {
             value: signed_value(sign, b % 64),
             next: at + 1,
             overlong: false,
-        };
+        });
     }
     read_four(src, at + 1, sign, b % 64)
 }
@@ -116,70 +113,45 @@ fn read_five(src: &[u8], at: usize) -> IntRead
 fn is_last(b: u64, weight: u64) -> bool
     ensures { result ≡ (ltb b 128 || eqb weight 134217728) }
 {
-    if b < 128 {
-        return true;
-    }
-    weight == 134217728
+    b < 128 || weight == 134217728
 }
 
 // An integer with all its digits, which end in byte b. Those above bit 30 are padding.
-fn last_byte(sign: bool, digits: u64, b: u64, next: usize) -> IntRead
-    ensures { result ≡ cond (leb 2147483648 digits) (Refused NonZeroIntPadding) (Int (signed sign digits) next (eqb b 0)) }
+fn last_byte(sign: bool, digits: u64, b: u64, next: usize) -> Result<IntRead, Error>
+    ensures { result ≡ cond (leb 2147483648 digits) (Err NonZeroIntPadding) (Ok (record { value = signed sign digits; next = next; overlong = eqb b 0 })) }
 {
     if 2147483648 <= digits {
-        return IntRead::Refused(Error::NonZeroIntPadding);
+        return Err(Error::NonZeroIntPadding);
     }
-    IntRead::Int {
+    Ok(IntRead {
         value: signed_value(sign, digits as u32),
         next,
         overlong: b == 0,
-    }
+    })
 }
 
 // The int at a place of src.
-pub fn read_plain_int(src: &[i32], at: usize) -> IntRead
+pub fn read_plain_int(src: &[i32], at: usize) -> Result<IntRead, Error>
     ensures { plain_int_at src.now at ≡ int_read result }
 {
     if src.len() <= at {
-        return IntRead::Refused(Error::UnexpectedEnd);
+        return Err(Error::UnexpectedEnd);
     }
-    IntRead::Int {
+    Ok(IntRead {
         value: src[at],
         next: at + 1,
         overlong: false,
-    }
+    })
 }
 
 // What one pass over packed integers tells: how many there are up to one that is cut or has padding bits set, and which of the two
 // ends them, if one does.
-#[derive(Clone, Copy)]
+#[derive(Clone, Copy, Default)]
 pub struct Totals {
     pub count: usize,
     pub cut: bool,
     pub padded: bool,
     pub overlong: usize,
-}
-
-// Before any integer is read.
-fn nothing() -> Totals
-    ensures { result ≡ record { count = 0; cut = false; padded = false; overlong = 0 } }
-{
-    Totals {
-        count: 0,
-        cut: false,
-        padded: false,
-        overlong: 0,
-    }
-}
-
-// How many of the first places of len bytes have five bytes or more from there on.
-pub fn places_of_five(len: usize) -> usize
-    ensures { result ≡ len - 4 }
-{
-    if len < 4 {
-        return 0;
-    }
-    len - 4
 }
 
 // The totals of both, the second of which ends the integers.
@@ -189,9 +161,8 @@ fn joined(t: Totals, rest: Totals) -> Totals
 {
     Totals {
         count: t.count + rest.count,
-        cut: rest.cut,
-        padded: rest.padded,
         overlong: t.overlong + rest.overlong,
+        ..rest
     }
 }
 
@@ -201,24 +172,20 @@ pub fn scan_all(src: &[u8], out: &mut [i32]) -> Totals
     requires { length src.now ≤ length out.old }
     ensures { Scanned (stream src.now) out.old result out.new }
 {
-    let limit = places_of_five(src.len());
+    let limit = src.len().saturating_sub(4);
     let mut at: usize = 0;
-    let mut t = nothing();
+    let mut t = Totals::default();
+    // Where the next integer begins is known only after a turn, so no range has the turns.
     while at < limit {
         let read = read_five(src, at);
-        let IntRead::Int {
-            value,
-            next,
-            overlong,
-        } = read
-        else {
+        let Ok(int) = read else {
             return stopped(t, read);
         };
         let count = t.count;
-        out[count] = value;
+        out[count] = int.value;
         t.count += 1;
-        t.overlong += ints::one_if(overlong);
-        at = next;
+        t.overlong += ints::one_if(int.overlong);
+        at = int.next;
     }
     let count = t.count;
     let rest = scan(&src[at..], &mut out[count..]);
@@ -230,47 +197,42 @@ pub fn scan(src: &[u8], out: &mut [i32]) -> Totals
     ensures { Scanned (stream src.now) out.old result out.new }
 {
     let mut at: usize = 0;
-    let mut t = nothing();
+    let mut t = Totals::default();
+    // As above: no range has the turns.
     while at < src.len() {
         let read = read_int(src, at);
-        let IntRead::Int {
-            value,
-            next,
-            overlong,
-        } = read
-        else {
+        let Ok(int) = read else {
             return stopped(t, read);
         };
-        super::put(out, t.count, value);
+        super::put(out, t.count, int.value);
         t.count += 1;
-        t.overlong += ints::one_if(overlong);
-        at = next;
+        t.overlong += ints::one_if(int.overlong);
+        at = int.next;
     }
     t
 }
 
 // Whether an integer is refused since it has padding bits set.
-fn has_padding(read: IntRead) -> bool
+fn has_padding(read: Result<IntRead, Error>) -> bool
     ensures { result ≡ eqb (refusal read) 52 }
 {
-    super::places::refusal(read) == 52
+    matches!(read, Err(Error::NonZeroIntPadding))
 }
 
 // The totals at an integer that is refused.
-fn stopped(t: Totals, read: IntRead) -> Totals
+fn stopped(t: Totals, read: Result<IntRead, Error>) -> Totals
     ensures { result ≡ stopped_at t (refusal read) }
 {
     let padded = has_padding(read);
     Totals {
-        count: t.count,
         cut: !padded,
         padded,
-        overlong: t.overlong,
+        ..t
     }
 }
 
 // Why an integer that must be present is refused: its padding bits, or the reason given.
-pub fn missing(read: IntRead, error: Error) -> Error
+pub fn missing(read: Result<IntRead, Error>, error: Error) -> Error
     ensures { number result ≡ missing_as (refusal read) (number error) }
 {
     if has_padding(read) {
@@ -284,10 +246,8 @@ pub fn packed_len(xs: &[i32]) -> usize
     ensures { result ≡ length (pack_ints xs.now) }
 {
     let mut n: usize = 0;
-    let mut i: usize = 0;
-    while i < xs.len() {
-        n += super::written_len(xs[i]);
-        i += 1;
+    for x in xs {
+        n += super::written_len(*x);
     }
     n
 }
@@ -298,10 +258,8 @@ pub fn pack_at(xs: &[i32], out: &mut [u8], start: usize) -> usize
     ensures { (result ≡ start + length (pack_ints xs.now)) × (out.new ≡ lay_at start (pack_ints xs.now) out.old) }
 {
     let mut at = start;
-    let mut i: usize = 0;
-    while i < xs.len() {
-        at = super::put_int(out, at, xs[i]);
-        i += 1;
+    for x in xs {
+        at = super::put_int(out, at, *x);
     }
     at
 }

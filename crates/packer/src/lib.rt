@@ -14,7 +14,8 @@ ghost use Rattle.definitions.specs.Packer.{read_int_call, write_int_at, unpack_s
 ghost use Rattle.laws.specs.WarningLaws.{packed};
 ghost use Rattle.format.specs.Numbers.{number};
 ghost use Rattle.format.specs.Totals.{counts};
-ghost use Rattle.packer.specs.Answers.{int_read, int_write, unpacked};
+ghost use Rattle.format.specs.Answers.{stored_ints};
+ghost use Rattle.packer.specs.Answers.{int_read, unpacked};
 ghost use Rattle.packer.specs.Bytes.{extend_bit, padded_bytes};
 
 use checked::{Totals, pack_at, scan, scan_all};
@@ -30,43 +31,34 @@ pub use readers::{IntUnpacker, ReaderAnswer, Unpacker, read_bytes, read_ints};
 // The most bytes or ints that a call reads.
 pub const MAX_INPUT: usize = 1048576;
 
-// The int at a place, with the place after it and whether a shorter form exists, or why none is read.
+// The int at a place, with the place after it and whether a shorter form exists.
 #[derive(Clone, Copy)]
-pub enum IntRead {
-    Int {
-        value: i32,
-        next: usize,
-        overlong: bool,
-    },
-    Refused(Error),
+pub struct IntRead {
+    pub value: i32,
+    pub next: usize,
+    pub overlong: bool,
 }
 
-// The place after what was written, or why nothing was written.
+// How many ints were unpacked, and whether the last one of the bytes was cut.
 #[derive(Clone, Copy)]
-pub enum IntWrite {
-    Next(usize),
-    Refused(Error),
+pub struct IntsRead {
+    pub count: usize,
+    pub cut: bool,
 }
 
-// How many ints were unpacked and whether the last one of the bytes was cut, or why nothing was.
-#[derive(Clone, Copy)]
-pub enum IntsRead {
-    Ints { count: usize, cut: bool },
-    Refused(Error),
-}
-
+// The answer of unpacking, with the warnings it counted.
 #[derive(Clone, Copy)]
 pub struct Unpacked {
-    pub answer: IntsRead,
+    pub answer: Result<IntsRead, Error>,
     pub warnings: Warnings,
 }
 
 // The integer at a place of src.
-pub fn read_int(src: &[u8], at: usize) -> IntRead
+pub fn read_int(src: &[u8], at: usize) -> Result<IntRead, Error>
     ensures { read_int_call src.now at ≡ int_read result }
 {
     if MAX_INPUT < src.len() {
-        return IntRead::Refused(Error::InputTooLong);
+        return Err(Error::InputTooLong);
     }
     checked::read_int(src, at)
 }
@@ -113,16 +105,16 @@ pub fn written_len(int: i32) -> usize
 }
 
 // Writes the shortest form of an int into out at a place; if it does not fit, out is unchanged.
-pub fn write_int(out: &mut [u8], at: usize, int: i32) -> IntWrite
-    ensures { write_int_at out.old at int ≡ record { answer = int_write result; out = out.new } }
+pub fn write_int(out: &mut [u8], at: usize, int: i32) -> Result<usize, Error>
+    ensures { write_int_at out.old at int ≡ record { answer = stored_ints result; out = out.new } }
 {
     if out.len() < at {
-        return IntWrite::Refused(Error::CapacityError);
+        return Err(Error::CapacityError);
     }
     if out.len() - at < written_len(int) {
-        return IntWrite::Refused(Error::CapacityError);
+        return Err(Error::CapacityError);
     }
-    IntWrite::Next(put_int(out, at, int))
+    Ok(put_int(out, at, int))
 }
 
 // Writes the shortest form of an int, which fits, into out at a place; returns the place after it. The steps stand in the order of the
@@ -149,6 +141,7 @@ fn write_more(out: &mut [u8], start: usize, digits: u32) -> usize
 {
     let mut at = start;
     let mut left = digits;
+    // The turns depend on the digits that are left, so no range has them.
     while 128 <= left {
         out[at] = (128 + left % 128) as u8; // EDDD_DDDD, E set
         left /= 128;
@@ -181,12 +174,9 @@ fn is_padded(a: u8, b: u8, c: u8, d: u8, e: u8) -> bool
 fn may_have_padding(src: &[u8]) -> bool
     ensures { result ≡ false → is_padded (stream src.now) ≡ false }
 {
-    let places = checked::places_of_five(src.len());
     let mut found = false;
-    let mut p: usize = 0;
-    while p < places {
-        found = found | is_padded(src[p], src[p + 1], src[p + 2], src[p + 3], src[p + 4]);
-        p += 1;
+    for p in 0..src.len().saturating_sub(4) {
+        found |= is_padded(src[p], src[p + 1], src[p + 2], src[p + 3], src[p + 4]);
     }
     found
 }
@@ -196,10 +186,10 @@ fn all_unpacked(all: Totals) -> Unpacked
     ensures { unpacked result.answer (counts result.warnings) ≡ ok (record { count = all.count; cut = all.cut }) (packed all.overlong) }
 {
     Unpacked {
-        answer: IntsRead::Ints {
+        answer: Ok(IntsRead {
             count: all.count,
             cut: all.cut,
-        },
+        }),
         warnings: Warnings::packed(all.overlong),
     }
 }
@@ -209,7 +199,7 @@ fn none_unpacked(error: Error, all: Totals) -> Unpacked
     ensures { unpacked result.answer (counts result.warnings) ≡ err (number error) (packed all.overlong) }
 {
     Unpacked {
-        answer: IntsRead::Refused(error),
+        answer: Err(error),
         warnings: Warnings::packed(all.overlong),
     }
 }
@@ -218,10 +208,8 @@ fn none_unpacked(error: Error, all: Totals) -> Unpacked
 fn unpack_judged(src: &[u8], out: &mut [i32]) -> Unpacked
     ensures { unpack_stream (stream src.now) out.old ≡ record { answer = unpacked result.answer (counts result.warnings); out = out.new } }
 {
-    if src.len() <= out.len() {
-        if !may_have_padding(src) {
-            return all_unpacked(scan_all(src, out));
-        }
+    if src.len() <= out.len() && !may_have_padding(src) {
+        return all_unpacked(scan_all(src, out));
     }
     let all = scan(src, &mut out[..0]);
     if all.padded {
@@ -239,7 +227,7 @@ pub fn unpack(src: &[u8], out: &mut [i32]) -> Unpacked
 {
     if MAX_INPUT < src.len() {
         return Unpacked {
-            answer: IntsRead::Refused(Error::InputTooLong),
+            answer: Err(Error::InputTooLong),
             warnings: Warnings::none(),
         };
     }
@@ -254,24 +242,22 @@ fn packs_into(src: &[i32], room: usize) -> bool
         return true;
     }
     let mut left = room;
-    let mut i: usize = 0;
-    while i < src.len() {
-        let n = written_len(src[i]);
+    for int in src {
+        let n = written_len(*int);
         if left < n {
             return false;
         }
         left -= n;
-        i += 1;
     }
     true
 }
 
 // Packs all of src into the front of out and returns the number of bytes; if it does not fit, out is unchanged.
-pub fn pack(src: &[i32], out: &mut [u8]) -> IntWrite
-    ensures { stored out.old (return (pack_ints src.now)) ≡ record { answer = int_write result; out = out.new } }
+pub fn pack(src: &[i32], out: &mut [u8]) -> Result<usize, Error>
+    ensures { stored out.old (return (pack_ints src.now)) ≡ record { answer = stored_ints result; out = out.new } }
 {
     if packs_into(src, out.len()) {
-        return IntWrite::Next(pack_at(src, out, 0));
+        return Ok(pack_at(src, out, 0));
     }
-    IntWrite::Refused(Error::CapacityError)
+    Err(Error::CapacityError)
 }

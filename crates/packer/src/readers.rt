@@ -7,6 +7,7 @@ ghost use Rattle.packer.specs.Answers.{int_read};
 ghost use Rattle.packer.specs.ReaderAnswers.{moved, ints_moved, Answered};
 
 use super::{IntRead, places};
+use format::Error;
 
 // A reader over packed bytes.
 #[derive(Clone, Copy)]
@@ -25,7 +26,7 @@ pub struct IntUnpacker<'a> {
 // The answer of a reader: the integer, the place after reading, how many entries are left, and whether none are.
 #[derive(Clone, Copy)]
 pub struct ReaderAnswer {
-    pub read: IntRead,
+    pub read: Result<IntRead, Error>,
     pub at: usize,
     pub left: usize,
     pub empty: bool,
@@ -48,7 +49,7 @@ impl<'a> Unpacker<'a> {
 
     // The next integer. The place moves past it, or to the end if the bytes end inside it. A reader over too many bytes stays where
     // it is.
-    pub fn read_int(&mut self) -> IntRead
+    pub fn read_int(&mut self) -> Result<IntRead, Error>
         ensures { (read_int_call self.old.src.now self.old.at ≡ int_read result) × (self.new ≡ moved self.old (int_read result)) }
     {
         let read = super::read_int(self.src, self.at);
@@ -60,7 +61,7 @@ impl<'a> Unpacker<'a> {
     pub fn as_slice(self) -> &'a [u8]
         ensures { result.now ≡ drop self.entry.at self.entry.src.now }
     {
-        places::bytes_from(self.src, self.at)
+        places::rest_from(self.src, self.at)
     }
 
     // How many bytes were read.
@@ -87,7 +88,7 @@ impl<'a> IntUnpacker<'a> {
     }
 
     // The next int. The place moves past it, or to the end if there is none. A reader over too many ints stays where it is.
-    pub fn read_int(&mut self) -> IntRead
+    pub fn read_int(&mut self) -> Result<IntRead, Error>
         ensures { (plain_int_call self.old.src.now self.old.at ≡ int_read result) × (self.new ≡ ints_moved self.old (int_read result)) }
     {
         let read = places::read_plain_int(self.src, self.at);
@@ -99,19 +100,7 @@ impl<'a> IntUnpacker<'a> {
     pub fn as_slice(self) -> &'a [i32]
         ensures rest { result.now ≡ drop self.entry.at self.entry.src.now }
     {
-        places::ints_from(self.src, self.at)
-    }
-}
-
-// The answer of its parts.
-fn answer(read: IntRead, at: usize, left: usize, empty: bool) -> ReaderAnswer
-    ensures { result ≡ record { read = read; at = at; left = left; empty = empty } }
-{
-    ReaderAnswer {
-        read,
-        at,
-        left,
-        empty,
+        places::rest_from(self.src, self.at)
     }
 }
 
@@ -119,23 +108,26 @@ fn answer(read: IntRead, at: usize, left: usize, empty: bool) -> ReaderAnswer
 pub fn read_bytes(src: &[u8], at: usize) -> ReaderAnswer
     ensures { Answered (read_int_call src.now at) src.now at result }
 {
-    let mut reader = Unpacker::new(src);
-    reader.at = at;
+    let mut reader = Unpacker { src, at };
     let read = reader.read_int();
-    answer(
+    ReaderAnswer {
         read,
-        reader.num_bytes_read(),
-        reader.as_slice().len(),
-        reader.is_empty(),
-    )
+        at: reader.num_bytes_read(),
+        left: reader.as_slice().len(),
+        empty: reader.is_empty(),
+    }
 }
 
 // What a reader over ints answers that stands at a place.
 pub fn read_ints(src: &[i32], at: usize) -> ReaderAnswer
     ensures { Answered (plain_int_call src.now at) src.now at result }
 {
-    let mut reader = IntUnpacker::new(src);
-    reader.at = at;
+    let mut reader = IntUnpacker { src, at };
     let read = reader.read_int();
-    answer(read, reader.at, reader.as_slice().len(), reader.is_empty())
+    ReaderAnswer {
+        read,
+        at: reader.at,
+        left: reader.as_slice().len(),
+        empty: reader.is_empty(),
+    }
 }

@@ -1,17 +1,24 @@
 -- Parts and ticks in their areas: one more, those before it, and those that stay. Assumes nothing.
 use mathlib.Core.Path.{◌≡◌, refl, sym, ap, ap₂, ◌∙◌}
-use mathlib.Core.Bool.{Bool, true, false, cond, ◌&&◌, ◌||◌}
-use mathlib.Core.List.{List, [], ◌∷◌}
+use mathlib.Core.Bool.{Bool, true, false, cond, ◌&&◌, ◌||◌, not, true≢false}
+use mathlib.Core.List.{List, [], ◌∷◌, ◌++◌}
 use Prim.Native.Nat.{ℕ, zero, suc, ◌+◌, ◌-◌, ◌≤◌, ◌<◌}
 use native.Mathlib.Numerals.{add-one}
 use native.Mathlib.Omega.{arith}
 use lib.IntN.{ℤ, pos}
-use lib.ListN.{length, get_or, set, length-set}
-use lib.Seq.{get_or-set_same, get_or-set_other}
+use borrow.Author.Tests.{eq-eqb, ne_eqb, eqb-true}
+use lib.Dec.{eqb}
+use lib.ListN.{length, get_or, take, set, length-set}
+use lib.Seq.{get_or-set_same, get_or-set_other, take-suc}
+use Rattle.std.specs.List.{list_any}
+use Rattle.std.specs.Prelude.{int_lt}
+use Rattle.std.specs.Ordering.{int_cmp, is_lt, is_ge}
+use Rattle.std.proofs.Common.{Less, Equal, Greater}
 use Rattle.definitions.specs.Ints.{signed_less}
 use Rattle.definitions.specs.Receiver.{same}
 use Rattle.definitions.specs.DeltaReading.{elem}
 use Rattle.definitions.specs.Logbook.{all_came, has_tick, not_below, lowest, without}
+use Rattle.ticks.specs.declared.Tick.{Tick}
 use Rattle.printer_logbook.specs.States.{parts_in, ticks_in}
 
 -- one more part, the latest
@@ -51,30 +58,109 @@ pub ticks-count : (n : ℕ) (a : List ℤ) → length (ticks_in n a) ≡ n
 ticks-count zero a = refl
 ticks-count (suc n) a = ap suc (ticks-count n a)
 
--- one more part: whether it came, and all before it
-pub all-turn :
-    (n : ℕ)
-    (l : List ℕ)
-    {r s f : Bool} →
-    r ≡ (s && f) →
-    s ≡ elem n l →
-    f ≡ all_came n l →
-    r ≡ all_came (n + 1) l
-unfolding all_came
-all-turn n l e g h = e ∙ ap₂ (λ (x y : Bool). x && y) g h ∙ ap (λ (k : ℕ). all_came k l) (sym (add-one n))
+-- ---- comparisons
 
--- one more tick: whether it is the one that is searched, or is among those before it
-pub has-turn :
-    (t : ℤ)
-    (a : List ℤ)
-    (i : ℕ)
-    {r s f : Bool} →
-    r ≡ (s || f) →
-    s ≡ same (get_or a i (pos 0)) t →
-    f ≡ has_tick t (ticks_in i a) →
-    r ≡ has_tick t (ticks_in (i + 1) a)
+-- a comparison by both tests says what the first one says
+cmp-less : (p q : Bool) → is_lt (cond p Less (cond q Greater Equal)) ≡ p
+cmp-less true q = refl
+cmp-less false true = refl
+cmp-less false false = refl
+
+cmp-not_less : (p q : Bool) → is_ge (cond p Less (cond q Greater Equal)) ≡ not p
+cmp-not_less true q = refl
+cmp-not_less false true = refl
+cmp-not_less false false = refl
+
+-- a tick is below another
+pub less-is : (a b : ℤ) → is_lt (int_cmp a b) ≡ signed_less a b
+less-is a b = cmp-less (int_lt a b) (int_lt b a)
+
+-- or not below it
+pub not_less-is : (a b : ℤ) → is_ge (int_cmp a b) ≡ not (signed_less a b)
+not_less-is a b = cmp-not_less (int_lt a b) (int_lt b a)
+
+-- the number of the lower tick
+pub lower-is : (b : Bool) (s t : Tick) → (cond b s t).0 ≡ cond b s.0 t.0
+lower-is true s t = refl
+lower-is false s t = refl
+
+-- ---- whether a part came
+
+-- two numbers are compared in either order
+eqb-turned : (x y : ℕ) → eqb x y ≡ eqb y x
+eqb-turned x y = by (eqb y x) refl
+  where
+    by : (b : Bool) → eqb y x ≡ b → eqb x y ≡ b
+    by true q = eq-eqb x y (sym (eqb-true y x q))
+    by false q = ne_eqb x y (λ e. absurd (true≢false (sym (eq-eqb y x (sym e)) ∙ q)))
+
+-- of three, the first two change places
+or-turned : (a b c : Bool) → (a || (b || c)) ≡ (b || (a || c))
+or-turned true true c = refl
+or-turned true false c = refl
+or-turned false true c = refl
+or-turned false false c = refl
+
+-- one more number at the end
+any-more : (test : ℕ → Bool) (l : List ℕ) (x : ℕ) → list_any test (l ++ x ∷ []) ≡ (test x || list_any test l)
+any-more test [] x = refl
+any-more test (y ∷ l) x = ap (λ (b : Bool). test y || b) (any-more test l x) ∙ or-turned (test y) (test x) (list_any test l)
+
+-- a part is among the first n of an area, in the area's order
+pub elem-first : (p n : ℕ) (a : List ℕ) → n ≤ length a → list_any (λ (x : ℕ). eqb x p) (take n a) ≡ elem p (parts_in n a)
+elem-first p zero a h = refl
+elem-first p (suc n) a h =
+    ap (list_any (λ (x : ℕ). eqb x p)) (take-suc a n 0 (omega (arith, h)))
+    ∙ any-more (λ (x : ℕ). eqb x p) (take n a) (get_or a n 0)
+    ∙ ap₂ (λ (x y : Bool). x || y) (eqb-turned (get_or a n 0) p) (elem-first p n a (omega (arith, h)))
+
+-- one more part: it came, and all before it
+pub all-turn : (n : ℕ) (l : List ℕ) → elem n l ≡ true → true ≡ all_came n l → true ≡ all_came (n + 1) l
+unfolding all_came
+all-turn n l e h = rw (add-one n, e) h
+
+-- a part below n is missing
+pub all-missing : (i n : ℕ) (l : List ℕ) → i < n → elem i l ≡ false → false ≡ all_came n l
+unfolding all_came
+all-missing i zero l h e = absurd (omega arith)
+all-missing i (suc n) l h e = by (eqb i n) refl (λ (g : i < n). all-missing i n l g e)
+  where
+    none : (b : Bool) → false ≡ (b && false)
+    none true = refl
+    none false = refl
+
+    by : (b : Bool) → eqb i n ≡ b → (i < n → false ≡ all_came n l) → false ≡ (elem n l && all_came n l)
+    by true q g = let d : i ≡ n = eqb-true i n q in rw (← d, e)
+    by false q g =
+        let z : i ≡ n → ⊥ = λ d. true≢false (sym (eq-eqb i n d) ∙ q) in
+        let k : i < n = omega (arith, h, z) in
+        rw (← g k) (none (elem n l))
+
+-- ---- whether a tick is held
+
+-- one more tick is not the one that is searched, nor any before it
+pub has-turn : (t : ℤ) (a : List ℤ) (i : ℕ) → same (get_or a i (pos 0)) t ≡ false → false ≡ has_tick t (ticks_in i a) → false ≡ has_tick t (ticks_in (i + 1) a)
 unfolding has_tick
-has-turn t a i e g h = e ∙ ap₂ (λ (x y : Bool). x || y) g h ∙ ap (has_tick t) (sym (tick-more i a))
+has-turn t a i e h = rw (tick-more i a, e) h
+
+-- a tick below n is the one
+pub has-found : (t : ℤ) (a : List ℤ) (i n : ℕ) → i < n → same (get_or a i (pos 0)) t ≡ true → true ≡ has_tick t (ticks_in n a)
+unfolding has_tick
+has-found t a i zero h e = absurd (omega arith)
+has-found t a i (suc n) h e = by (eqb i n) refl (λ (g : i < n). has-found t a i n g e)
+  where
+    either : (b : Bool) → true ≡ (b || true)
+    either true = refl
+    either false = refl
+
+    by : (b : Bool) → eqb i n ≡ b → (i < n → true ≡ has_tick t (ticks_in n a)) → true ≡ (same (get_or a n (pos 0)) t || has_tick t (ticks_in n a))
+    by true q g = let d : i ≡ n = eqb-true i n q in rw (← d, e)
+    by false q g =
+        let z : i ≡ n → ⊥ = λ d. true≢false (sym (eq-eqb i n d) ∙ q) in
+        let k : i < n = omega (arith, h, z) in
+        rw (← g k) (either (same (get_or a n (pos 0)) t))
+
+-- ---- ticks that are kept
 
 -- those of the first i ticks of an area that f keeps are in the first places of another, which is unchanged from i on
 pub record Keeps (f : List ℤ → List ℤ) (a₀ a : List ℤ) (kept i : ℕ) : Type 0 where

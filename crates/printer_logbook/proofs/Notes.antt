@@ -1,6 +1,6 @@
 -- What is noted of a message, step by step of its definition. Assumes nothing.
 use mathlib.Core.Path.{◌≡◌, sym, ap, ap₂, ◌∙◌}
-use mathlib.Core.Bool.{Bool, true, false, cond, ◌&&◌, ◌||◌}
+use mathlib.Core.Bool.{Bool, true, false, ◌&&◌, ◌||◌}
 use mathlib.Core.List.{List, [], ◌∷◌}
 use mathlib.Core.Option.{some, none}
 use Prim.Native.Nat.{ℕ, suc, ◌+◌, ◌≤◌, ◌<◌}
@@ -35,7 +35,8 @@ use Rattle.definitions.specs.Logbook.{
   note_message,
 }
 use Rattle.definitions.specs.Tables.{num}
-use Rattle.ticks.specs.Ticks.{distance_of}
+use Rattle.ticks.specs.Ticks.{distance_of, tick_of}
+use Rattle.std.specs.Prelude.{Option, Some, None}
 use Rattle.ticks.specs.declared.Tick.{Tick}
 use Rattle.ticks.specs.declared.Distance.{Distance}
 use Rattle.gamenet_snap.specs.declared.SnapMsg.{SnapMsg}
@@ -45,35 +46,22 @@ use Rattle.printer_logbook.specs.States.{ticks_in}
 use Rattle.printer_logbook.proofs.Lists.{tick-stored, ticks-before, ticks-count}
 
 -- the parts of a tick that came: without a newest tick none, of the newest those noted, of another none
-pub came-first : {b : Bool} (newest : ℤ) (came : List ℕ) (t : ℤ) → b ≡ false → [] ≡ came_of (cond b (some newest) none) came t
-came-first newest came t e = rw e
+pub came-first : {o : Option Tick} (came : List ℕ) (t : ℤ) → o ≡ None → [] ≡ came_of (tick_of o) came t
+came-first came t e = rw e
 
-pub came_same : {b : Bool} (newest : ℤ) (came : List ℕ) (t : ℤ) → b ≡ true → same t newest ≡ true → came ≡ came_of (cond b (some newest) none) came t
+pub came_same : {o : Option Tick} (newest : Tick) (came : List ℕ) (t : ℤ) → o ≡ Some newest → same t newest.0 ≡ true → came ≡ came_of (tick_of o) came t
 came_same newest came t e g = rw (e, g)
 
-pub came-other : {b : Bool} (newest : ℤ) (came : List ℕ) (t : ℤ) → b ≡ true → same t newest ≡ false → [] ≡ came_of (cond b (some newest) none) came t
+pub came-other : {o : Option Tick} (newest : Tick) (came : List ℕ) (t : ℤ) → o ≡ Some newest → same t newest.0 ≡ false → [] ≡ came_of (tick_of o) came t
 came-other newest came t e g = rw (e, g)
 
--- whether a tick is late: without a newest tick, below it, and else
-pub late-first : {b : Bool} (newest : ℤ) (came : List ℕ) (t : ℤ) (n : ℕ) → b ≡ false → false ≡ late (cond b (some newest) none) came t n
-late-first newest came t n e = rw e
+-- whether a tick is late: without a newest tick, and else
+pub late-first : {o : Option Tick} (came : List ℕ) (t : ℤ) (n : ℕ) → o ≡ None → false ≡ late (tick_of o) came t n
+late-first came t n e = rw e
 
-pub late_below : {b : Bool} (newest : ℤ) (came : List ℕ) (t : ℤ) (n : ℕ) → b ≡ true → signed_less t newest ≡ true → true ≡ late (cond b (some newest) none) came t n
-late_below newest came t n e g = rw (e, g)
-
-pub late-same :
-    {b r s a : Bool}
-    (newest : ℤ)
-    (came : List ℕ)
-    (t : ℤ)
-    (n : ℕ) →
-    b ≡ true →
-    signed_less t newest ≡ false →
-    r ≡ (s && a) →
-    s ≡ same t newest →
-    a ≡ all_came n came →
-    r ≡ late (cond b (some newest) none) came t n
-late-same newest came t n e g h k m = rw (e, g) (h ∙ ap₂ (λ (x y : Bool). x && y) k m)
+pub late-after : {o : Option Tick} {r : Bool} (newest : Tick) (came : List ℕ) (t : ℤ) (n : ℕ) → o ≡ Some newest
+    → r ≡ (signed_less t newest.0 || (same t newest.0 && all_came n came)) → r ≡ late (tick_of o) came t n
+late-after newest came t n e g = rw e g
 
 -- the ticks held for a negative base, and for another
 pub for-negative : (b : ℤ) (held : List ℤ) → signed_less b (pos 0) ≡ true → held ≡ held_for b held

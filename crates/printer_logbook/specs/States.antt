@@ -1,11 +1,13 @@
 -- What a logbook and its two areas hold, and what its answers mean. Assumes nothing.
-use Rattle.std.specs.Prelude.{cond, List, [], ◌∷◌, ℕ, zero, suc, ◌<◌, ℤ, pos, length, get_or}
-use Rattle.std.proofs.Math.Option.{Option, some, none}
+use Rattle.std.specs.Prelude.{List, [], ◌∷◌, ℕ, zero, suc, ◌<◌, ℤ, pos, length, get_or, Result, Ok, Err, Some, None}
+use Rattle.std.proofs.Math.Option.{Option}
 use Rattle.definitions.specs.Logbook as Book
 use Rattle.format.specs.Numbers.{number}
+use Rattle.ticks.specs.Ticks.{tick_of}
 use Rattle.printer_logbook.specs.declared.Logbook.{Logbook}
-use Rattle.printer_logbook.specs.declared.Answer.{Answer}
-use Rattle.printer_logbook.specs.declared.Answer.TheVariants as answer
+use Rattle.format.specs.declared.Error.{Error}
+use Rattle.ticks.specs.declared.Tick.{Tick}
+use Rattle.std.specs.Prelude as Prelude
 use Rattle.printer_logbook.specs.declared.Note.{Note}
 
 -- the first n parts of an area, the latest first
@@ -20,11 +22,11 @@ ticks_in (suc n) a = get_or a n (pos 0) ∷ ticks_in n a
 
 -- the newest tick, if any
 abbrev pub newest_of : Logbook → Option ℤ
-newest_of g = cond g.has_newest (some g.newest.0) none
+newest_of g = tick_of g.newest
 
 -- the acknowledgement, if any
 abbrev pub ack_of : Logbook → Option ℤ
-ack_of g = cond g.has_ack (some g.ack_tick.0) none
+ack_of g = tick_of g.ack_tick
 
 -- what is noted
 abbrev pub logbook_of : Logbook → List ℕ → List ℤ → Book.Logbook
@@ -37,10 +39,10 @@ logbook_of g came held =
     }
 
 -- the answer for a message
-abbrev pub answer_of : Answer → Book.Answer
-answer_of (answer.Refused e) = Book.refused (number e)
-answer_of answer.NotYet = Book.not_yet
-answer_of (answer.Acknowledges t) = Book.acknowledges t.0
+abbrev pub answer_of : Result (Prelude.Option Tick) Error → Book.Answer
+answer_of (Err e) = Book.refused (number e)
+answer_of (Ok None) = Book.not_yet
+answer_of (Ok (Some t)) = Book.acknowledges t.0
 
 -- an answer, and what is noted afterwards
 abbrev pub note_of : Note → List ℕ → List ℤ → Book.Note

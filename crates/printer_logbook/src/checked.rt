@@ -1,5 +1,5 @@
 // The steps of noting a message in a logbook, over areas with room for one more part and one more tick.
-ghost use Rattle.std.specs.Prelude.{◌≡◌, cond, ◌&&◌, ◌||◌, List, ℕ, ◌+◌, ◌<◌, ◌≤◌, ℤ, pos, length};
+ghost use Rattle.std.specs.Prelude.{◌≡◌, cond, ◌||◌, List, ℕ, ◌+◌, ◌<◌, ◌≤◌, ℤ, pos, length};
 ghost use Rattle.definitions.specs.Ints.{signed_less};
 ghost use Rattle.definitions.specs.DeltaReading as DeltaReading;
 ghost use Rattle.definitions.specs.Logbook as Book;
@@ -7,53 +7,17 @@ ghost use Rattle.format.specs.Numbers.{number};
 ghost use Rattle.gamenet_snap.specs.Numbers.{numbers};
 ghost use Rattle.printer_logbook.specs.States.{parts_in, ticks_in, newest_of, logbook_of, note_of, Room};
 
-use super::{Answer, Logbook, Note};
+use super::{Logbook, Note};
 use format::Error;
 use gamenet_snap::SnapMsg;
 use ticks::Tick;
-
-// Whether one of two holds.
-fn either(a: bool, b: bool) -> bool
-    ensures { result ≡ (a || b) }
-{
-    if a {
-        return true;
-    }
-    b
-}
-
-// Whether both hold.
-fn both(a: bool, b: bool) -> bool
-    ensures { result ≡ (a && b) }
-{
-    if a {
-        return b;
-    }
-    false
-}
-
-// The lower of two ticks.
-fn lower(a: Tick, b: Tick) -> Tick
-    ensures { result.0 ≡ cond (signed_less a.0 b.0) a.0 b.0 }
-{
-    if a.is_before(b) {
-        return a;
-    }
-    b
-}
 
 // Whether a part is among the first n that came.
 fn elem(part: usize, came: &[usize], n: usize) -> bool
     requires { n ≤ length came.now }
     ensures { result ≡ DeltaReading.elem part (parts_in n came.now) }
 {
-    let mut found = false;
-    let mut i: usize = 0;
-    while i < n {
-        found = either(part == came[i], found);
-        i += 1;
-    }
-    found
+    came[..n].contains(&part)
 }
 
 // Whether all parts below a count are among the first n that came.
@@ -61,13 +25,12 @@ fn all_came(count: usize, came: &[usize], n: usize) -> bool
     requires { n ≤ length came.now }
     ensures { result ≡ Book.all_came count (parts_in n came.now) }
 {
-    let mut all = true;
-    let mut i: usize = 0;
-    while i < count {
-        all = both(elem(i, came, n), all);
-        i += 1;
+    for i in 0..count {
+        if !elem(i, came, n) {
+            return false;
+        }
     }
-    all
+    true
 }
 
 // Whether a tick is among the first n.
@@ -75,14 +38,12 @@ fn has_tick(tick: Tick, held: &[i32], n: usize) -> bool
     requires { n ≤ length held.now }
     ensures { result ≡ Book.has_tick tick.0 (ticks_in n held.now) }
 {
-    let mut found = false;
-    let mut i: usize = 0;
-    while i < n {
-        let other = Tick(held[i]);
-        found = either(other.is_same(tick), found);
-        i += 1;
+    for x in &held[..n] {
+        if Tick(*x) == tick {
+            return true;
+        }
     }
-    found
+    false
 }
 
 // Keeps those of the first n ticks that are not below a tick; returns how many.
@@ -91,15 +52,12 @@ fn not_below(tick: Tick, held: &mut [i32], n: usize) -> usize
     ensures { (ticks_in result held.new ≡ Book.not_below tick.0 (ticks_in n held.old)) × (result ≤ n) }
 {
     let mut kept: usize = 0;
-    let mut i: usize = 0;
-    while i < n {
+    for i in 0..n {
         let x = held[i];
-        i += 1;
-        if Tick(x).is_before(tick) {
-            continue;
+        if Tick(x) >= tick {
+            held[kept] = x;
+            kept += 1;
         }
-        held[kept] = x;
-        kept += 1;
     }
     kept
 }
@@ -110,10 +68,8 @@ fn lowest(tick: Tick, held: &[i32], n: usize) -> Tick
     ensures { result.0 ≡ Book.lowest tick.0 (ticks_in n held.now) }
 {
     let mut low = tick;
-    let mut i = n;
-    while 0 < i {
-        i -= 1;
-        low = lower(Tick(held[i]), low);
+    for i in (0..n).rev() {
+        low = low.min(Tick(held[i]));
     }
     low
 }
@@ -124,15 +80,12 @@ fn without(tick: Tick, held: &mut [i32], n: usize) -> usize
     ensures { (ticks_in result held.new ≡ Book.without tick.0 (ticks_in n held.old)) × (result ≤ n) }
 {
     let mut kept: usize = 0;
-    let mut i: usize = 0;
-    while i < n {
+    for i in 0..n {
         let x = held[i];
-        i += 1;
-        if Tick(x).is_same(tick) {
-            continue;
+        if Tick(x) != tick {
+            held[kept] = x;
+            kept += 1;
         }
-        held[kept] = x;
-        kept += 1;
     }
     kept
 }
@@ -167,7 +120,7 @@ fn has_base(base: Tick, held: &[i32], n: usize) -> bool
     requires { n ≤ length held.now }
     ensures { result ≡ (signed_less base.0 (pos 0) || Book.has_tick base.0 (ticks_in n held.now)) }
 {
-    either(base.is_negative(), has_tick(base, held, n))
+    base.is_negative() || has_tick(base, held, n)
 }
 
 // Completes a tick whose parts all came: it is held and acknowledged if its base is held or negative.
@@ -184,26 +137,22 @@ fn complete(
 {
     if has_base(base, held, ticks) {
         return Note {
-            answer: Answer::Acknowledges(tick),
+            answer: Ok(Some(tick)),
             logbook: Logbook {
-                has_newest: true,
-                newest: tick,
+                newest: Some(tick),
                 parts,
                 ticks: holding(tick, held, ticks),
-                has_ack: true,
-                ack_tick: tick,
+                ack_tick: Some(tick),
             },
         };
     }
     Note {
-        answer: Answer::Refused(Error::UnknownSnap),
+        answer: Err(Error::UnknownSnap),
         logbook: Logbook {
-            has_newest: true,
-            newest: tick,
+            newest: Some(tick),
             parts,
             ticks,
-            has_ack: false,
-            ack_tick: Tick(0),
+            ack_tick: None,
         },
     }
 }
@@ -227,13 +176,11 @@ fn part_came(
     }
     let ack_tick = g.ack_tick;
     Note {
-        answer: Answer::NotYet,
+        answer: Ok(None),
         logbook: Logbook {
-            has_newest: true,
-            newest: tick,
+            newest: Some(tick),
             parts,
             ticks: g.ticks,
-            has_ack: g.has_ack,
             ack_tick,
         },
     }
@@ -244,28 +191,20 @@ fn late(g: Logbook, tick: Tick, count: usize, came: &[usize]) -> bool
     requires { g.parts ≤ length came.now }
     ensures { result ≡ Book.late (newest_of g) (parts_in g.parts came.now) tick.0 count }
 {
-    if g.has_newest {
-        let newest = g.newest;
-        if tick.is_before(newest) {
-            return true;
-        }
-        return both(tick.is_same(newest), all_came(count, came, g.parts));
-    }
-    false
+    let Some(newest) = g.newest else {
+        return false;
+    };
+    tick < newest || tick == newest && all_came(count, came, g.parts)
 }
 
 // How many parts of a tick came: none if it is above the newest.
 fn came_of(g: Logbook, tick: Tick) -> usize
     ensures { ((came : List ℕ) → parts_in result came ≡ Book.came_of (newest_of g) (parts_in g.parts came) tick.0) × (result ≤ g.parts) }
 {
-    if g.has_newest {
-        let newest = g.newest;
-        if tick.is_same(newest) {
-            return g.parts;
-        }
+    let Some(newest) = g.newest else {
         return 0;
-    }
-    0
+    };
+    if tick == newest { g.parts } else { 0 }
 }
 
 // The answer for a message that changes nothing.
@@ -273,7 +212,7 @@ fn refused(g: Logbook, error: Error) -> Note
     ensures { (came : List ℕ) (held : List ℤ) → record { answer = Book.refused (number error); logbook = logbook_of g came held } ≡ note_of result came held }
 {
     Note {
-        answer: Answer::Refused(error),
+        answer: Err(error),
         logbook: g,
     }
 }

@@ -13,26 +13,16 @@ pub mod checked;
 // The newest tick and the acknowledgement, if any; how many parts of the newest tick came; how many ticks are held. The two lists are in areas, latest last.
 #[derive(Clone, Copy)]
 pub struct Logbook {
-    pub has_newest: bool,
-    pub newest: Tick,
+    pub newest: Option<Tick>,
     pub parts: usize,
     pub ticks: usize,
-    pub has_ack: bool,
-    pub ack_tick: Tick,
+    pub ack_tick: Option<Tick>,
 }
 
-// The answer for a message: a refusal, not yet, or a tick.
-#[derive(Clone, Copy)]
-pub enum Answer {
-    Refused(Error),
-    NotYet,
-    Acknowledges(Tick),
-}
-
-// An answer, and what is noted afterwards.
+// The answer for a message (the tick that it acknowledges, none yet, or a refusal), and what is noted afterwards.
 #[derive(Clone, Copy)]
 pub struct Note {
-    pub answer: Answer,
+    pub answer: Result<Option<Tick>, Error>,
     pub logbook: Logbook,
 }
 
@@ -45,12 +35,10 @@ impl Logbook {
         ensures { (came : List ℕ) (held : List ℤ) → logbook_of result came held ≡ fresh_logbook }
     {
         Logbook {
-            has_newest: false,
-            newest: Tick(0),
+            newest: None,
             parts: 0,
             ticks: 0,
-            has_ack: false,
-            ack_tick: Tick(0),
+            ack_tick: None,
         }
     }
 }

@@ -1,18 +1,20 @@
 -- The result of each call on a table area, by what was found in the area. Assumes nothing.
 use Prim.Native.Nat.{ℕ, ◌<◌, ◌≤◌}
-use mathlib.Core.Path.{◌≡◌, sym, ap, ◌∙◌}
-use mathlib.Core.Bool.{true, false}
+use mathlib.Core.Path.{◌≡◌, refl, sym, ap, ◌∙◌}
+use mathlib.Core.Bool.{Bool, true, false, cond}
 use mathlib.Core.List.{List, [], ◌∷◌}
 use mathlib.Core.Option.{some, none}
 use native.Mathlib.Omega.{arith}
+use Rattle.std.specs.Prelude.{None}
 use lib.IntN.{ℤ, pos}
 use lib.ListN.{length, set}
+use lib.Dec.{ltb}
 use borrow.Author.Tests.{lt-ltb, le-ltb, le-leb, lt-leb}
 use Rattle.definitions.specs.Ints.{from_bits}
 use Rattle.definitions.specs.Refusals.{not_in_form, capacity_error}
-use Rattle.definitions.specs.Outcome.{return, refuse}
+use Rattle.definitions.specs.Outcome.{Outcome, return, refuse}
 use Rattle.definitions.specs.Stored.{stored}
-use Rattle.definitions.specs.Tables.{Item, written, body, offsets, table_of, items, find, walk, crc, values_at}
+use Rattle.definitions.specs.Tables.{Item, written, body, offsets, table_of, items, find, is_some, walk, crc, values_at}
 use Rattle.definitions.specs.TableCalls.{held, nth, empty_call, num_items_call, has_item_call, item_call, crc_call, walk_key_call, walk_item_call, stored_table, add_item_call}
 use Rattle.definitions.specs.TableReading.{add_item}
 use Rattle.laws.specs.OutcomeLaws.{return-bind}
@@ -20,7 +22,6 @@ use Rattle.laws.specs.TableShape.{Shape, some_is}
 use Rattle.laws.specs.TableForm.{length-items}
 use Rattle.laws.specs.TableWalk.{nth_past, length-walk}
 use Rattle.table.specs.Held.{Held, data_in, form_of}
-use Rattle.table.specs.declared.checked.TableForm.TheVariants as form
 use Rattle.table.specs.Forms.{unformed}
 
 -- ---- the empty table
@@ -37,7 +38,7 @@ both_stored (x ∷ y ∷ out) l = rw (le-leb 2 (length (x ∷ y ∷ out)) l)
 
 -- ---- an area that is not in form
 
-module _ (a : List ℤ) (e : form.Bad ≡ form_of (table_of a)) where
+module _ (a : List ℤ) (e : None ≡ form_of (table_of a)) where
   pub not-held : held a ≡ refuse not_in_form
   unfolding held
   not-held = rw (unformed a e)
@@ -51,6 +52,11 @@ module _ (a : List ℤ) (e : form.Bad ≡ form_of (table_of a)) where
   no-walk-item i = rw not-held
 
 -- ---- an area that holds n items
+
+-- whether there are some data
+some-within : (d : List ℤ) (b : Bool) → ◌≡◌ {A = Outcome Bool} (return (is_some (cond b (some d) none))) (return b)
+some-within d true = refl
+some-within d false = refl
 
 module _ (a : List ℤ) (n : ℕ) (h : Held a n) where
   is_held : held a ≡ return (items a)
@@ -67,11 +73,8 @@ module _ (a : List ℤ) (n : ℕ) (h : Held a n) where
   crc-is s e = rw (is_held, ← e)
 
   module _ (k r : ℕ) (e : find k (items a) ≡ data_in a n r) where
-    pub has-yes : r < n → has_item_call a k ≡ return true
-    has-yes l = rw (is_held, e, lt-ltb r n l)
-
-    pub has_no : n ≤ r → has_item_call a k ≡ return false
-    has_no l = rw (is_held, e, le-ltb r n l)
+    pub has-is : has_item_call a k ≡ return (ltb r n)
+    has-is = rw (is_held, e) (some-within (values_at a r) (ltb r n))
 
     pub item-found : r < n → values_at a r ≡ item_call a k
     unfolding item_call

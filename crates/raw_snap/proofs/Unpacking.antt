@@ -3,6 +3,7 @@ use mathlib.Core.Path.{◌≡◌, refl, sym, ap, ap₂, ◌∙◌}
 use mathlib.Core.Bool.{Bool, true, false, cond}
 use mathlib.Core.List.{List}
 use Prim.Native.Nat.{ℕ, ◌+◌, ◌≤◌, ◌<◌}
+use Rattle.std.specs.Prelude.{Result}
 use native.Mathlib.Nat.{add-zero, zero-add}
 use native.Mathlib.Omega.{arith}
 use borrow.Author.Tests.{le-leb, lt-leb}
@@ -24,7 +25,7 @@ use Rattle.laws.specs.StreamLaws.{few-ints}
 use Rattle.laws.specs.Padding.{padded-table}
 use Rattle.format.specs.Answers.{stored_with}
 use Rattle.format.specs.Sources.{excess, uuid_excess, table_counts}
-use Rattle.format.specs.declared.Stored.{Stored}
+use Rattle.format.specs.declared.Error.{Error}
 use Rattle.packer.specs.Scans.{Scanned}
 use Rattle.packer.specs.declared.checked.Totals.{Totals}
 use Rattle.table_reading.specs.Counted.{warned, answered}
@@ -84,7 +85,7 @@ module _ (src : List ℕ) (n : ℕ) (out : List ℤ) where
   pub refused-raw : {a : Outcome ℕ} → Answers src n a → stored_table out (tested src n (read_packed src)) ≡ record { answer = a; out = out }
   refused-raw e = unjudged ∙ e return out
 
-  pub read-raw : (area : List ℤ) (t : Totals) (last : List ℤ) (r : Stored) (x : Bool) (w : Counts) → Unpacks src n area t → stored_table out (read_table (take t.count area)) ≡ record { answer = stored_with r (excess x); out = last } → w ≡ plus (packed t.overlong) (plus (excess t.cut) (plus (excess x) none)) → stored_table out (tested src n (read_packed src)) ≡ record { answer = stored_with r w; out = last }
+  pub read-raw : (area : List ℤ) (t : Totals) (last : List ℤ) (r : Result ℕ Error) (x : Bool) (w : Counts) → Unpacks src n area t → stored_table out (read_table (take t.count area)) ≡ record { answer = stored_with r (excess x); out = last } → w ≡ plus (packed t.overlong) (plus (excess t.cut) (plus (excess x) none)) → stored_table out (tested src n (read_packed src)) ≡ record { answer = stored_with r w; out = last }
   read-raw area t last r x w u e q =
       unjudged
       ∙ read-unpacked return src n area t out last r (excess x) w u (ap (stored_table out) (bind-return (read_table (take t.count area))) ∙ e)

@@ -1,5 +1,5 @@
 -- Applying a delta to a base in lent areas, refusal by refusal, and the count that the check of a form returns. Assumes nothing.
-use Rattle.std.specs.Prelude.{◌≡◌, List, [], ℕ, ◌<◌, ◌≤◌, ℤ}
+use Rattle.std.specs.Prelude.{◌≡◌, List, [], ℕ, ◌<◌, ◌≤◌, ℤ, Result, Ok, Err, Some}
 use Rattle.std.proofs.Common.{◌∙◌}
 use borrow.Author.Tests.{le-leb, lt-leb}
 use Rattle.definitions.specs.Refusals.{not_in_form, scratch_too_short}
@@ -12,13 +12,12 @@ use Rattle.definitions.specs.Deltas.{Delta, delta_in}
 use Rattle.definitions.specs.DeltaCalls.{held_delta}
 use Rattle.definitions.specs.Applying.{apply_delta, applying}
 use Rattle.laws.specs.OutcomeLaws.{after_none}
+use Rattle.format.specs.declared.Error.{Error}
 use Rattle.format.specs.Numbers.{number}
 use Rattle.table.specs.Held.{Held, form_of}
 use Rattle.table.specs.Forms.{formed}
-use Rattle.table.specs.declared.checked.TableForm.TheVariants as table_form
 use Rattle.delta_form.specs.Held.{HeldDelta}
 use Rattle.raw_snap.specs.declared.checked.Areas.{Areas}
-use Rattle.raw_snap.specs.declared.checked.Areas.TheVariants as areas
 
 -- areas in form, with scratch that is long enough
 pub record Holds (base delta : List ℤ) (scratch n k u : ℕ) : Type 0 where
@@ -28,9 +27,9 @@ pub record Holds (base delta : List ℤ) (scratch n k u : ℕ) : Type 0 where
   pub is : applying base delta scratch ≡ apply_delta (items base) (delta_in [] delta)
 
 -- what judging the areas returns
-abbrev pub Judged : List ℤ → List ℤ → ℕ → Areas → Type 0
-Judged base delta scratch (areas.Held n k u) = Holds base delta scratch n k u
-Judged base delta scratch (areas.Refused e) = applying base delta scratch ≡ refuse (number e)
+abbrev pub Judged : List ℤ → List ℤ → ℕ → Result Areas Error → Type 0
+Judged base delta scratch (Ok r) = Holds base delta scratch r.items r.deleted r.updated
+Judged base delta scratch (Err e) = applying base delta scratch ≡ refuse (number e)
 
 module _ (base delta : List ℤ) (scratch : ℕ) where
   -- the base is not in form
@@ -65,5 +64,5 @@ unfolding stored
 refused-leaves out o n e = rw e
 
 -- the check of a form returns the count that is in the area
-pub form-counted : (a : List ℤ) (n k : ℕ) → table_form.Table n k ≡ form_of (table_of a) → table_form.Table (count a) k ≡ form_of (table_of a)
+pub form-counted : (a : List ℤ) (n k : ℕ) → Some (record { items = n; ints = k }) ≡ form_of (table_of a) → Some (record { items = count a; ints = k }) ≡ form_of (table_of a)
 form-counted a n k e = rw (← (formed a n k e).0.count-is) e

@@ -1,5 +1,5 @@
 -- A packed table's ints, unpacked alike for tables and for tables with types. Assumes nothing.
-use Rattle.std.specs.Prelude.{◌≡◌, ◌&&◌, List, ℕ, ◌≤◌, leb, ℤ, length, take}
+use Rattle.std.specs.Prelude.{◌≡◌, ◌&&◌, List, ℕ, ◌≤◌, leb, ℤ, length, take, Result, Ok, Err}
 use Rattle.std.proofs.Common.{sym, ap, ◌∙◌}
 use Rattle.definitions.specs.Refusals.{scratch_too_short, input_too_long}
 use Rattle.definitions.specs.Warnings.{Counts, plus}
@@ -12,11 +12,10 @@ use Rattle.laws.specs.OutcomeLaws.{after-bind}
 use Rattle.format.specs.Totals.{counts}
 use Rattle.format.specs.Answers.{stored_with}
 use Rattle.format.specs.Sources.{excess}
-use Rattle.format.specs.declared.Stored.{Stored}
+use Rattle.format.specs.declared.Error.{Error}
+use Rattle.format.specs.declared.Reading.{Reading}
 use Rattle.packer.specs.declared.checked.Totals.{Totals}
 use Rattle.table_reading.specs.Counted.{told-after}
-use Rattle.raw_snap.specs.declared.checked.Unpacked.{Unpacked}
-use Rattle.raw_snap.specs.declared.checked.Unpacked.TheVariants as unpacked
 
 -- a reading after the tests of scratch with n entries and of the input's length
 abbrev pub tested : List ℕ → ℕ → Outcome Table → Outcome Table
@@ -36,12 +35,12 @@ abbrev pub Answers : List ℕ → ℕ → Outcome ℕ → Type 0
 Answers src n a = (judge : Table → Outcome Table) (out : List ℤ) → stored_table out (tested src n (read_packed src >>= judge)) ≡ record { answer = a; out = out }
 
 -- what an answer says of an area
-abbrev pub UnpacksTo : List ℕ → ℕ → List ℤ → Unpacked → Type 0
-UnpacksTo src n area (unpacked.Ints t) = Unpacks src n area t
-UnpacksTo src n area (unpacked.Refused r) = Answers src n (stored_with r.answer (counts r.warnings))
+abbrev pub UnpacksTo : List ℕ → ℕ → List ℤ → Result Totals Reading → Type 0
+UnpacksTo src n area (Ok t) = Unpacks src n area t
+UnpacksTo src n area (Err r) = Answers src n (stored_with r.answer (counts r.warnings))
 
 -- the table of the ints is read, and then judged
-pub read-unpacked : (judge : Table → Outcome Table) (src : List ℕ) (n : ℕ) (area : List ℤ) (t : Totals) (out last : List ℤ) (r : Stored) (v w : Counts) → Unpacks src n area t → stored_table out (read_table (take t.count area) >>= judge) ≡ record { answer = stored_with r v; out = last } → w ≡ plus (packed t.overlong) (plus (excess t.cut) v) → stored_table out (tested src n (read_packed src >>= judge)) ≡ record { answer = stored_with r w; out = last }
+pub read-unpacked : (judge : Table → Outcome Table) (src : List ℕ) (n : ℕ) (area : List ℤ) (t : Totals) (out last : List ℤ) (r : Result ℕ Error) (v w : Counts) → Unpacks src n area t → stored_table out (read_table (take t.count area) >>= judge) ≡ record { answer = stored_with r v; out = last } → w ≡ plus (packed t.overlong) (plus (excess t.cut) v) → stored_table out (tested src n (read_packed src >>= judge)) ≡ record { answer = stored_with r w; out = last }
 read-unpacked judge src n area t out last r v w u e q =
     let p = packed t.overlong in
     let x = excess t.cut in

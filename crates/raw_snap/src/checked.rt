@@ -1,5 +1,5 @@
 // The steps of reading a packed table and of applying a delta, with their warnings; and copying a table.
-ghost use Rattle.std.specs.Prelude.{◌≡◌, length};
+ghost use Rattle.std.specs.Prelude.{◌≡◌, length, Some};
 ghost use Rattle.definitions.specs.Warnings.{plus};
 ghost use Rattle.definitions.specs.Outcome.{refuse};
 ghost use Rattle.definitions.specs.Tables.{count, table_of};
@@ -11,15 +11,12 @@ ghost use Rattle.format.specs.Totals.{counts};
 ghost use Rattle.format.specs.Answers.{stored_ints, stored_with};
 ghost use Rattle.format.specs.Sources.{excess, uuid_excess};
 ghost use Rattle.table.specs.Held.{form_of};
-ghost use Rattle.table.specs.declared.checked.TableForm.TheVariants as table_form;
 ghost use Rattle.raw_snap.specs.Applied.{Judged};
 ghost use Rattle.raw_snap.specs.Unpacking.{UnpacksTo};
 
 use applying::checked::apply;
-use delta_form::checked::DeltaForm;
-use format::{Error, Reading, Stored, Warnings};
+use format::{Error, Reading, Warnings};
 use packer::checked::Totals;
-use table::checked::TableForm;
 use table_reading::checked::read_table;
 
 // The refusal of a call before anything is read.
@@ -27,39 +24,33 @@ pub fn refused(error: Error) -> Reading
     ensures { refuse (number error) ≡ stored_with result.answer (counts result.warnings) }
 {
     Reading {
-        answer: Stored::Refused(error),
+        answer: Err(error),
         warnings: Warnings::none(),
     }
 }
 
-// A packed table's ints at the front of an area, and what the packer counted; or the answer to a call that can't read them.
-#[derive(Clone, Copy)]
-pub enum Unpacked {
-    Ints(Totals),
-    Refused(Reading),
-}
-
-// Unpacks a packed table into the front of scratch, which needs at least 16,384 entries and one for each byte.
-pub fn unpack(src: &[u8], scratch: &mut [i32]) -> Unpacked
+// Unpacks a packed table into the front of scratch, which needs at least 16,384 entries and one for each byte. Returns what the packer counted,
+// or the answer to a call whose ints can't be read.
+pub fn unpack(src: &[u8], scratch: &mut [i32]) -> Result<Totals, Reading>
     ensures { UnpacksTo src.now (length scratch.old) scratch.new result }
 {
     if scratch.len() < 16384 {
-        return Unpacked::Refused(refused(Error::ScratchTooShort));
+        return Err(refused(Error::ScratchTooShort));
     }
     if scratch.len() < src.len() {
-        return Unpacked::Refused(refused(Error::ScratchTooShort));
+        return Err(refused(Error::ScratchTooShort));
     }
     if 1048576 < src.len() {
-        return Unpacked::Refused(refused(Error::InputTooLong));
+        return Err(refused(Error::InputTooLong));
     }
     let all = packer::checked::scan_all(src, scratch);
     if all.padded {
-        return Unpacked::Refused(Reading {
-            answer: Stored::Refused(Error::NonZeroIntPadding),
+        return Err(Reading {
+            answer: Err(Error::NonZeroIntPadding),
             warnings: Warnings::packed(all.overlong),
         });
     }
-    Unpacked::Ints(all)
+    Ok(all)
 }
 
 // The warnings of reading a packed table: the packer's, and those for a cut integer, for ints left over, and for kinds.
@@ -74,73 +65,56 @@ pub fn packed_warnings(all: Totals, more: bool, kinds: usize) -> Warnings
 pub fn read_packed(src: &[u8], out: &mut [i32], scratch: &mut [i32]) -> Reading
     ensures { read_call src.now out.old (length scratch.old) ≡ record { answer = stored_with result.answer (counts result.warnings); out = out.new } }
 {
-    let unpacked = unpack(src, scratch);
-    match unpacked {
-        Unpacked::Refused(read) => read,
-        Unpacked::Ints(all) => {
-            let count = all.count;
-            let read = read_table(&scratch[..count], out);
-            let answer = read.answer;
+    match unpack(src, scratch) {
+        Err(read) => read,
+        Ok(all) => {
+            let read = read_table(&scratch[..all.count], out);
             Reading {
-                answer,
+                answer: read.answer,
                 warnings: packed_warnings(all, read.excess, 0),
             }
         }
     }
 }
 
-// What a base and a delta hold: so many items, deleted keys and updates; or why they are refused.
+// What a base and a delta hold: so many items, deleted keys and updates.
 #[derive(Clone, Copy)]
-pub enum Areas {
-    Held {
-        items: usize,
-        deleted: usize,
-        updated: usize,
-    },
-    Refused(Error),
+pub struct Areas {
+    pub items: usize,
+    pub deleted: usize,
+    pub updated: usize,
 }
 
 // Judges the forms of a base and a delta; scratch has so many entries.
-pub fn judge_areas(base: &[i32], delta: &[i32], scratch: usize) -> Areas
+pub fn judge_areas(base: &[i32], delta: &[i32], scratch: usize) -> Result<Areas, Error>
     ensures { Judged base.now delta.now scratch result }
 {
-    let TableForm::Table { items, ints: _ } = table::checked::form(base) else {
-        return Areas::Refused(Error::NotInForm);
+    let Some(form) = table::checked::form(base) else {
+        return Err(Error::NotInForm);
     };
-    let DeltaForm::Delta {
-        deleted,
-        updated,
-        ints: _,
-    } = delta_form::checked::form(delta, &delta[..0])
-    else {
-        return Areas::Refused(Error::NotInForm);
+    let Some(changes) = delta_form::checked::form(delta, &delta[..0]) else {
+        return Err(Error::NotInForm);
     };
     if scratch < 16384 {
-        return Areas::Refused(Error::ScratchTooShort);
+        return Err(Error::ScratchTooShort);
     }
-    Areas::Held {
-        items,
-        deleted,
-        updated,
-    }
+    Ok(Areas {
+        items: form.items,
+        deleted: changes.deleted,
+        updated: changes.updated,
+    })
 }
 
 // Applies a delta to its base, into the front of out; scratch has so many entries.
 pub fn apply_delta(base: &[i32], delta: &[i32], out: &mut [i32], scratch: usize) -> Reading
     ensures { raw_read_with_delta_call base.now delta.now out.old scratch ≡ record { answer = stored_with result.answer (counts result.warnings); out = out.new } }
 {
-    let areas = judge_areas(base, delta, scratch);
-    match areas {
-        Areas::Refused(e) => refused(e),
-        Areas::Held {
-            items,
-            deleted,
-            updated,
-        } => {
-            let applied = apply(base, items, delta, deleted, updated, out);
-            let answer = applied.answer;
+    match judge_areas(base, delta, scratch) {
+        Err(e) => refused(e),
+        Ok(areas) => {
+            let applied = apply(base, areas.items, delta, areas.deleted, areas.updated, out);
             Reading {
-                answer,
+                answer: applied.answer,
                 warnings: Warnings::applied(applied.unknown_delete, 0),
             }
         }
@@ -148,12 +122,12 @@ pub fn apply_delta(base: &[i32], delta: &[i32], out: &mut [i32], scratch: usize)
 }
 
 // Copies the table of n ints that an area begins with to the front of out; if it does not fit, out is unchanged.
-pub fn copy_table(area: &[i32], n: usize, out: &mut [i32]) -> Stored
-    requires { table_form.Table (count area.now) n ≡ form_of (table_of area.now) }
+pub fn copy_table(area: &[i32], n: usize, out: &mut [i32]) -> Result<usize, Error>
+    requires { Some (record { items = count area.now; ints = n }) ≡ form_of (table_of area.now) }
     ensures { write_to_ints_call area.now out.old ≡ record { answer = stored_ints result; out = out.new } }
 {
     if ints::copy_into(out, 0, &area[..n]) {
-        return Stored::Ints(n);
+        return Ok(n);
     }
-    Stored::Refused(Error::CapacityError)
+    Err(Error::CapacityError)
 }

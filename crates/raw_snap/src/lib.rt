@@ -6,133 +6,97 @@ ghost use Rattle.definitions.specs.Areas.{cleared};
 ghost use Rattle.definitions.specs.Tables.{key_of};
 ghost use Rattle.definitions.specs.TableCalls.{empty_call, read_call, read_from_ints_call, write_to_ints_call, write_call, num_items_call, has_item_call, item_call, crc_call, walk_key_call, walk_item_call};
 ghost use Rattle.definitions.specs.Applying.{raw_read_with_delta_call};
-ghost use Rattle.packer.specs.Answers.{int_write};
 ghost use Rattle.format.specs.Totals.{counts};
 ghost use Rattle.format.specs.Answers.{stored_ints, stored_with};
 ghost use Rattle.raw_snap.specs.Answers.{item_count, has_item, checksum, walked};
 
-use format::{Error, Reading, Stored, Warnings};
-use packer::IntWrite;
-use table::checked::TableForm;
+use format::{Error, Reading, Warnings};
 
 pub mod checked;
 pub mod raw_builder;
 
-// Whether a table has an item.
-#[derive(Clone, Copy)]
-pub enum Has {
-    Yes,
-    No,
-    Refused(Error),
-}
-
-// How many items a table has.
-#[derive(Clone, Copy)]
-pub enum Count {
-    Items(usize),
-    Refused(Error),
-}
-
-// The sum of a table's data.
-#[derive(Clone, Copy)]
-pub enum Checksum {
-    Sum(i32),
-    Refused(Error),
-}
-
-// The key of an item of a walk, or the end of the walk.
-#[derive(Clone, Copy)]
-pub enum Walked {
-    Key(i32),
-    End,
-    Refused(Error),
-}
-
 // Writes the empty table.
-pub fn empty(out: &mut [i32]) -> Stored
+pub fn empty(out: &mut [i32]) -> Result<usize, Error>
     ensures { empty_call out.old ≡ record { answer = stored_ints result; out = out.new } }
 {
     if out.len() < 2 {
-        return Stored::Refused(Error::CapacityError);
+        return Err(Error::CapacityError);
     }
     out[0] = 0;
     out[1] = 0;
-    Stored::Ints(2)
+    Ok(2)
 }
 
 // How many items a table has.
-pub fn num_items(area: &[i32]) -> Count
+pub fn num_items(area: &[i32]) -> Result<usize, Error>
     ensures { num_items_call area.now ≡ item_count result }
 {
-    let TableForm::Table { items, ints: _ } = table::checked::form(area) else {
-        return Count::Refused(Error::NotInForm);
-    };
-    Count::Items(items)
+    match table::checked::form(area) {
+        Some(form) => Ok(form.items),
+        None => Err(Error::NotInForm),
+    }
 }
 
 // Whether a table has an item.
-pub fn has_item(area: &[i32], raw_type_id: u16, id: u16) -> Has
+pub fn has_item(area: &[i32], raw_type_id: u16, id: u16) -> Result<bool, Error>
     ensures { has_item_call area.now (key_of raw_type_id id) ≡ has_item result }
 {
-    let TableForm::Table { items, ints: _ } = table::checked::form(area) else {
-        return Has::Refused(Error::NotInForm);
+    let Some(form) = table::checked::form(area) else {
+        return Err(Error::NotInForm);
     };
-    if table::checked::find(area, items, format::key(raw_type_id, id)) < items {
-        return Has::Yes;
-    }
-    Has::No
+    Ok(table::checked::find(area, form.items, format::key(raw_type_id, id)) < form.items)
 }
 
 // The data of an item, as a part of the area; empty if there is no such item.
 pub fn item(area: &[i32], raw_type_id: u16, id: u16) -> &[i32]
     ensures { result.now ≡ item_call area.now (key_of raw_type_id id) }
 {
-    let TableForm::Table { items, ints: _ } = table::checked::form(area) else {
+    let Some(form) = table::checked::form(area) else {
         return &area[..0];
     };
-    let at = table::checked::find(area, items, format::key(raw_type_id, id));
-    if at < items {
-        return table::checked::data_at(area, items, at);
+    let at = table::checked::find(area, form.items, format::key(raw_type_id, id));
+    if at < form.items {
+        return table::checked::data_at(area, form.items, at);
     }
     &area[..0]
 }
 
 // The sum of all data ints.
-pub fn crc(area: &[i32]) -> Checksum
+pub fn crc(area: &[i32]) -> Result<i32, Error>
     ensures { crc_call area.now ≡ checksum result }
 {
-    let TableForm::Table { items, ints: _ } = table::checked::form(area) else {
-        return Checksum::Refused(Error::NotInForm);
+    let Some(form) = table::checked::form(area) else {
+        return Err(Error::NotInForm);
     };
-    Checksum::Sum(table::checked::crc(area, items))
+    Ok(table::checked::crc(area, form.items))
 }
 
 // The key of the i-th item in signed key order.
-pub fn walk_key(area: &[i32], i: usize) -> Walked
+pub fn walk_key(area: &[i32], i: usize) -> Result<Option<i32>, Error>
     ensures { walk_key_call area.now i ≡ walked result }
 {
-    let TableForm::Table { items, ints: _ } = table::checked::form(area) else {
-        return Walked::Refused(Error::NotInForm);
+    let Some(form) = table::checked::form(area) else {
+        return Err(Error::NotInForm);
     };
-    if items <= i {
-        return Walked::End;
+    if form.items <= i {
+        return Ok(None);
     }
-    let at = table::checked::walk_place(area, items, i);
-    Walked::Key(table::checked::key_at(area, items, at))
+    let at = table::checked::walk_place(area, form.items, i);
+    Ok(Some(table::checked::key_at(area, form.items, at)))
 }
 
 // The data of the i-th item in that order, as a part of the area; empty past the end.
 pub fn walk_item(area: &[i32], i: usize) -> &[i32]
     ensures { result.now ≡ walk_item_call area.now i }
 {
-    let TableForm::Table { items, ints: _ } = table::checked::form(area) else {
+    let Some(form) = table::checked::form(area) else {
         return &area[..0];
     };
-    if items <= i {
+    if form.items <= i {
         return &area[..0];
     }
-    let at = table::checked::walk_place(area, items, i);
-    table::checked::data_at(area, items, at)
+    let at = table::checked::walk_place(area, form.items, i);
+    table::checked::data_at(area, form.items, at)
 }
 
 // Reads a table from ints into the front of out; returns how many ints it takes there. A refused call leaves out unchanged.
@@ -143,9 +107,8 @@ pub fn read_from_ints(src: &[i32], out: &mut [i32]) -> Reading
         return checked::refused(Error::InputTooLong);
     }
     let read = table_reading::checked::read_table(src, out);
-    let answer = read.answer;
     Reading {
-        answer,
+        answer: read.answer,
         warnings: Warnings::table(0, ints::one_if(read.excess), 0),
     }
 }
@@ -170,21 +133,22 @@ pub fn read_with_delta(base: &[i32], delta: &[i32], out: &mut [i32], scratch: &m
 }
 
 // Writes a table's written form into the front of out; returns the number of ints. If it does not fit, out is unchanged.
-pub fn write_to_ints(area: &[i32], out: &mut [i32]) -> Stored
+pub fn write_to_ints(area: &[i32], out: &mut [i32]) -> Result<usize, Error>
     ensures { write_to_ints_call area.now out.old ≡ record { answer = stored_ints result; out = out.new } }
 {
-    let TableForm::Table { items: _, ints: n } = table::checked::form(area) else {
-        return Stored::Refused(Error::NotInForm);
+    let Some(form) = table::checked::form(area) else {
+        return Err(Error::NotInForm);
     };
-    checked::copy_table(area, n, out)
+    checked::copy_table(area, form.ints, out)
 }
 
 // Packs a table into the front of out; returns the number of bytes. If it does not fit, out is unchanged.
-pub fn write(area: &[i32], out: &mut [u8]) -> IntWrite
-    ensures { write_call area.now out.old ≡ record { answer = int_write result; out = out.new } }
+pub fn write(area: &[i32], out: &mut [u8]) -> Result<usize, Error>
+    ensures { write_call area.now out.old ≡ record { answer = stored_ints result; out = out.new } }
 {
-    let TableForm::Table { items: _, ints: n } = table::checked::form(area) else {
-        return IntWrite::Refused(Error::NotInForm);
-    };
-    packer::pack(&area[..n], out)
+    if let Some(form) = table::checked::form(area) {
+        packer::pack(&area[..form.ints], out)
+    } else {
+        Err(Error::NotInForm)
+    }
 }

@@ -21,6 +21,7 @@ use Rattle.format.specs.Sources.{flagged}
 use Rattle.ticks.specs.declared.Tick.{Tick}
 use Rattle.receiver.specs.declared.checked.Ticks.{Ticks}
 use Rattle.receiver.specs.declared.Received.TheVariants as received
+use Rattle.std.specs.Prelude.{Some, Ok}
 use Rattle.receiver.specs.States.{receiver_with}
 use Rattle.receiver.specs.Answers.{taken, refusing, settled, taking}
 
@@ -111,11 +112,11 @@ module _ (r : Receiver) (tick : ℤ) (distance : Distance) (crc : ℤ) (bytes se
 -- ---- a whole delta was taken
 
 module _ (w : Warnings) (d : Bool) (tick : Tick) (distance : Distance) (b : Tick) (f : Ticks) (e : counts w ≡ flagged d false) (j : b.0 ≡ base_tick tick.0 distance) (v : receiver_with f no_parts ≡ finished_at tick.0) (area : List ℕ) where
-  pub single-settled : (n : ℕ) (s crc : ℤ) (second second' : List ℕ) → s ≡ crc → second' ≡ second → settled (flagged d false) (whole tick.0 distance (some (record { length = n; crc = crc })) area second) ≡ taken (record { answer = received.Delta tick b n s; warnings = w; ticks = f }) no_parts area second'
+  pub single-settled : (n : ℕ) (s crc : ℤ) (second second' : List ℕ) → s ≡ crc → second' ≡ second → settled (flagged d false) (whole tick.0 distance (some (record { length = n; crc = crc })) area second) ≡ taken (record { answer = Ok (Some (received.Delta tick b n s)); warnings = w; ticks = f }) no_parts area second'
   unfolding settled
   single-settled n s crc second second' k l = rw (e, j, k, l, v)
 
-  pub empty-settled : (second : List ℕ) → settled (flagged d false) (whole tick.0 distance none area second) ≡ taken (record { answer = received.Empty tick b; warnings = w; ticks = f }) no_parts area second
+  pub empty-settled : (second : List ℕ) → settled (flagged d false) (whole tick.0 distance none area second) ≡ taken (record { answer = Ok (Some (received.Empty tick b)); warnings = w; ticks = f }) no_parts area second
   unfolding settled
   empty-settled second = rw (e, j, v)
 

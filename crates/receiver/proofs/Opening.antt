@@ -15,10 +15,9 @@ use Rattle.format.specs.declared.Warnings.{Warnings}
 use Rattle.format.specs.declared.Error.TheVariants as error
 use Rattle.format.specs.Sources.{flagged}
 use Rattle.ticks.specs.Ticks.{distance_of, tick_of}
-use Rattle.ticks.specs.declared.OptionTick.{OptionTick}
+use Rattle.std.specs.Prelude.{Option, Some, None, Ok, Err}
 use Rattle.ticks.specs.declared.Tick.{Tick}
 use Rattle.receiver.specs.declared.CurrentDelta.{CurrentDelta}
-use Rattle.receiver.specs.declared.Current.TheVariants as current
 use Rattle.receiver.specs.declared.checked.Ticks.{Ticks}
 use Rattle.receiver.specs.declared.checked.Part.{Part}
 use Rattle.receiver.specs.declared.Received.TheVariants as received
@@ -40,11 +39,11 @@ first_said m b n k = rw (b, n, k)
 
 module _ (r : Ticks) (m : Part) where
   -- no tick is unfinished
-  pub none_open : (o : CurrentDelta) → r.current ≡ current.None → current_in o ≡ Receiver.first_says (part_of m) → Opens r m o
+  pub none_open : (o : CurrentDelta) → r.current ≡ None → current_in o ≡ Receiver.first_says (part_of m) → Opens r m o
   unfolding Receiver.is_current Receiver.opened
   none_open o e f lengths = rw (e, f)
 
-  module _ (c : CurrentDelta) (e : r.current ≡ current.Some c) where
+  module _ (c : CurrentDelta) (e : r.current ≡ Some c) where
     -- it is the unfinished one
     pub still_open : Receiver.same c.tick.0 m.tick.0 ≡ true → Opens r m c
     unfolding Receiver.is_current Receiver.opened
@@ -57,14 +56,14 @@ module _ (r : Ticks) (m : Part) where
 
 -- ---- a part came in
 
-module _ (previous : OptionTick) (o : CurrentDelta) (w : Warnings) (n : ℕ) (lengths area second : List ℕ) (c : n ≡ Receiver.count_in lengths 32) where
+module _ (previous : Option Tick) (o : CurrentDelta) (w : Warnings) (n : ℕ) (lengths area second : List ℕ) (c : n ≡ Receiver.count_in lengths 32) where
   -- some are still missing
-  pub waiting : (n ≡ o.num_parts → ⊥) → settled (counts w) (Receiver.put_part (tick_of previous) (opened_with o lengths) area second) ≡ taken (record { answer = received.NotYet; warnings = w; ticks = record { previous_tick = previous; current = current.Some o } }) lengths area second
+  pub waiting : (n ≡ o.num_parts → ⊥) → settled (counts w) (Receiver.put_part (tick_of previous) (opened_with o lengths) area second) ≡ taken (record { answer = Ok None; warnings = w; ticks = record { previous_tick = previous; current = Some o } }) lengths area second
   unfolding settled Receiver.put_part
   waiting z = rw (ne_eqb (Receiver.count_in lengths 32) o.num_parts (λ q. z (c ∙ q)))
 
   -- it was the last one missing
-  pub all_in : (k : ℕ) (second' : List ℕ) (s : ℤ) (f : Ticks) → n ≡ o.num_parts → k ≡ length (Receiver.joined lengths area 32) → second' ≡ lay (Receiver.joined lengths area 32) second → s ≡ o.crc → receiver_with f Receiver.no_parts ≡ Receiver.finished_at o.tick.0 → settled (counts w) (Receiver.put_part (tick_of previous) (opened_with o lengths) area second) ≡ taken (record { answer = received.Delta o.tick o.delta_tick k s; warnings = w; ticks = f }) Receiver.no_parts area second'
+  pub all_in : (k : ℕ) (second' : List ℕ) (s : ℤ) (f : Ticks) → n ≡ o.num_parts → k ≡ length (Receiver.joined lengths area 32) → second' ≡ lay (Receiver.joined lengths area 32) second → s ≡ o.crc → receiver_with f Receiver.no_parts ≡ Receiver.finished_at o.tick.0 → settled (counts w) (Receiver.put_part (tick_of previous) (opened_with o lengths) area second) ≡ taken (record { answer = Ok (Some (received.Delta o.tick o.delta_tick k s)); warnings = w; ticks = f }) Receiver.no_parts area second'
   unfolding settled Receiver.put_part
   all_in k second' s f z e d u v =
       rw (eq-eqb (Receiver.count_in lengths 32) o.num_parts (sym c ∙ z), e, d, u, v)
@@ -76,7 +75,7 @@ module _ (r : Ticks) (m : Part) (p : ℕ) (lengths bytes area second : List ℕ)
   opens = rw k (q lengths)
 
   -- it is in already
-  pub twice : Receiver.is_in (parts_for b lengths) p ≡ true → taking (receiver_with r lengths) (part_of m) p bytes area second ≡ taken (record { answer = received.Refused error.DuplicatePart; warnings = w; ticks = r }) lengths area second
+  pub twice : Receiver.is_in (parts_for b lengths) p ≡ true → taking (receiver_with r lengths) (part_of m) p bytes area second ≡ taken (record { answer = Err error.DuplicatePart; warnings = w; ticks = r }) lengths area second
   unfolding taking
   twice h = rw (← opens, h, e)
 

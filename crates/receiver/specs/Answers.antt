@@ -1,5 +1,5 @@
 -- What the answers of `receiver` mean: the refusal's number or the value of each case. Assumes nothing.
-use Rattle.std.specs.Prelude.{false, cond, List, ℕ, ◌*◌, ◌<◌, ◌≤◌, length}
+use Rattle.std.specs.Prelude.{false, cond, List, ℕ, ◌*◌, ◌<◌, ◌≤◌, length, Result, Ok, Err, Some, None}
 use Rattle.std.proofs.Math.Option.{Option, some, none}
 use Rattle.definitions.specs.Areas.{lay_at}
 use Rattle.definitions.specs.Refusals.{duplicate_part}
@@ -12,20 +12,20 @@ use Rattle.format.specs.Totals.{counts}
 use Rattle.format.specs.Sources.{flagged}
 use Rattle.receiver.specs.States.{receiver_of, receiver_with}
 use Rattle.receiver.specs.declared.Received.{Received}
-use Rattle.receiver.specs.declared.Received.TheVariants as received
+use Rattle.receiver.specs.declared.Received.TheVariants.{Delta, Empty}
 use Rattle.receiver.specs.declared.Receiving.{Receiving}
 use Rattle.receiver.specs.declared.checked.Part.{Part}
 use Rattle.receiver.specs.declared.checked.Taking.{Taking}
-use Rattle.receiver.specs.declared.checked.Judged.{Judged}
-use Rattle.receiver.specs.declared.checked.Judged.TheVariants as judged
+use Rattle.format.specs.declared.Error.{Error}
+use Rattle.std.specs.Prelude as Prelude
 
 -- an answer with its warning counts
-abbrev pub received_with : Received → Counts → Outcome (Option Receiver.ReceivedDelta)
-received_with received.NotYet w = ok none w
-received_with (received.Delta tick base n crc) w =
+abbrev pub received_with : Result (Prelude.Option Received) Error → Counts → Outcome (Option Receiver.ReceivedDelta)
+received_with (Ok None) w = ok none w
+received_with (Ok (Some (Delta tick base n crc))) w =
     ok (some (record { delta_tick = base.0; tick = tick.0; data_and_crc = some (record { length = n; crc = crc }) })) w
-received_with (received.Empty tick base) w = ok (some (record { delta_tick = base.0; tick = tick.0; data_and_crc = none })) w
-received_with (received.Refused e) w = err (number e) w
+received_with (Ok (Some (Empty tick base))) w = ok (some (record { delta_tick = base.0; tick = tick.0; data_and_crc = none })) w
+received_with (Err e) w = err (number e) w
 
 -- the result of a call, with both areas afterwards
 abbrev pub answered : Receiving → List ℕ → List ℕ → Receiver.Receives
@@ -72,12 +72,12 @@ taking r m p bytes area second =
     (Receiver.put_part r.previous_tick (Receiver.with_part (Receiver.opened r m) p (length bytes)) (lay_at (900 * p) bytes area) second))
 
 -- the result of a part, by how it was judged
-abbrev pub judged_as : Judged → Receiver.Receiver → Receiver.Part → List ℕ → List ℕ → List ℕ → Receiver.Receives
-judged_as (judged.Part p) r m bytes area second = taking r m p bytes area second
-judged_as (judged.Refused e) r m bytes area second = refusing (number e) r area second
+abbrev pub judged_as : Result ℕ Error → Receiver.Receiver → Receiver.Part → List ℕ → List ℕ → List ℕ → Receiver.Receives
+judged_as (Ok p) r m bytes area second = taking r m p bytes area second
+judged_as (Err e) r m bytes area second = refusing (number e) r area second
 
 -- what is known about a part that can be taken
-abbrev pub Fits : Judged → Part → List ℕ → List ℕ → List ℕ → Type 0
-Fits (judged.Part p) m bytes area second =
+abbrev pub Fits : Result ℕ Error → Part → List ℕ → List ℕ → List ℕ → Type 0
+Fits (Ok p) m bytes area second =
     (num m.num_parts ≤ 32) × (p < 32) × (length bytes ≤ 900) × (28800 ≤ length area) × (28800 ≤ length second)
-Fits (judged.Refused e) m bytes area second = Unit {0}
+Fits (Err e) m bytes area second = Unit {0}

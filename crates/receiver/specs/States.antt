@@ -1,10 +1,9 @@
 -- What the code's receiver holds. Assumes nothing.
-use Rattle.std.specs.Prelude.{◌≡◌, Bool, cond, List, ℕ}
+use Rattle.std.specs.Prelude.{◌≡◌, Bool, cond, List, ℕ, Some, None}
 use Rattle.std.proofs.Math.Option.{Option, some, none}
 use Rattle.definitions.specs.Receiver as Receiver
 use Rattle.ticks.specs.Ticks.{distance_of, tick_of}
-use Rattle.receiver.specs.declared.Current.{Current}
-use Rattle.receiver.specs.declared.Current.TheVariants as current
+use Rattle.std.specs.Prelude as Prelude
 use Rattle.receiver.specs.declared.CurrentDelta.{CurrentDelta}
 use Rattle.receiver.specs.declared.DeltaReceiver.{DeltaReceiver}
 use Rattle.receiver.specs.declared.checked.Ticks.{Ticks}
@@ -16,9 +15,9 @@ current_in c =
     record { tick = c.tick.0; delta_tick = c.delta_tick.0; num_parts = c.num_parts; crc = c.crc }
 
 -- the unfinished tick, if any
-abbrev pub current_of : Current → Option Receiver.Current
-current_of (current.Some c) = some (current_in c)
-current_of current.None = none
+abbrev pub current_of : Prelude.Option CurrentDelta → Option Receiver.Current
+current_of (Some c) = some (current_in c)
+current_of None = none
 
 -- the receiver with these ticks and lengths
 abbrev pub receiver_with : Ticks → List ℕ → Receiver.Receiver

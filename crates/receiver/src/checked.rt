@@ -11,30 +11,23 @@ ghost use Rattle.format.specs.Sources.{flagged};
 ghost use Rattle.receiver.specs.States.{ticks_of, receiver_of, receiver_with, current_in, opened_with, parts_for, part_of, Opens};
 ghost use Rattle.receiver.specs.Answers.{refusing, settled, taking, answered, taken, judged_as, Fits};
 
-use super::{Current, CurrentDelta, DeltaReceiver, Received, Receiving};
+use super::{CurrentDelta, DeltaReceiver, Received, Receiving};
 use format::{Error, Warnings};
-use ticks::{Distance, OptionTick, Tick};
+use ticks::{Distance, Tick};
 
 // The ticks of a receiver, without the lengths of its parts.
 #[derive(Clone, Copy)]
 pub struct Ticks {
-    pub previous_tick: OptionTick,
-    pub current: Current,
+    pub previous_tick: Option<Tick>,
+    pub current: Option<CurrentDelta>,
 }
 
 // The result of a message whose lengths are changed in place.
 #[derive(Clone, Copy)]
 pub struct Taking {
-    pub answer: Received,
+    pub answer: Result<Option<Received>, Error>,
     pub warnings: Warnings,
     pub ticks: Ticks,
-}
-
-// The number of a part that can be taken, or why it is refused.
-#[derive(Clone, Copy)]
-pub enum Judged {
-    Part(usize),
-    Refused(Error),
 }
 
 // The numbers of a part.
@@ -51,11 +44,9 @@ pub struct Part {
 pub fn ticks_of(r: DeltaReceiver) -> Ticks
     ensures { result ≡ ticks_of r }
 {
-    let previous_tick = r.previous_tick;
-    let current = r.current;
     Ticks {
-        previous_tick,
-        current,
+        previous_tick: r.previous_tick,
+        current: r.current,
     }
 }
 
@@ -63,11 +54,9 @@ pub fn ticks_of(r: DeltaReceiver) -> Ticks
 pub fn with_lengths(t: Ticks, parts: [u16; 32]) -> DeltaReceiver
     ensures { receiver_of result ≡ receiver_with t parts }
 {
-    let previous_tick = t.previous_tick;
-    let current = t.current;
     DeltaReceiver {
-        previous_tick,
-        current,
+        previous_tick: t.previous_tick,
+        current: t.current,
         parts,
     }
 }
@@ -76,14 +65,10 @@ pub fn with_lengths(t: Ticks, parts: [u16; 32]) -> DeltaReceiver
 pub fn receiving(a: Taking, lengths: [u16; 32]) -> Receiving
     ensures { (area second : List ℕ) → taken a lengths area second ≡ answered result area second }
 {
-    let answer = a.answer;
-    let warnings = a.warnings;
-    let t = a.ticks;
-    let receiver = with_lengths(t, lengths);
     Receiving {
-        answer,
-        warnings,
-        receiver,
+        answer: a.answer,
+        warnings: a.warnings,
+        receiver: with_lengths(a.ticks, lengths),
     }
 }
 
@@ -92,19 +77,19 @@ pub fn refused(error: Error, r: Ticks) -> Taking
     ensures { (lengths area second : List ℕ) → refusing (number error) (receiver_with r lengths) area second ≡ taken result lengths area second }
 {
     Taking {
-        answer: Received::Refused(error),
+        answer: Err(error),
         warnings: Warnings::none(),
         ticks: r,
     }
 }
 
 // The ticks of a receiver without an unfinished one.
-pub fn without_current(previous_tick: OptionTick) -> Ticks
+pub fn without_current(previous_tick: Option<Tick>) -> Ticks
     ensures { (lengths : List ℕ) → receiver_with result lengths ≡ record { previous_tick = tick_of previous_tick; current = none; parts = lengths } }
 {
     Ticks {
         previous_tick,
-        current: Current::None,
+        current: None,
     }
 }
 
@@ -114,37 +99,32 @@ pub fn count_in(lengths: &[u16]) -> usize
     ensures { (result ≡ Receiver.count_in lengths.now 32) × (result ≤ 32) }
 {
     let mut n: u16 = 0;
-    let mut i: usize = 0;
-    while i < DeltaReceiver::MAX_PARTS {
-        if lengths[i] as usize <= DeltaReceiver::PART_SIZE {
+    for len in lengths {
+        if *len as usize <= DeltaReceiver::PART_SIZE {
             n += 1;
         }
-        i += 1;
     }
     n as usize
 }
 
 // Whether a tick is above the last finished one.
-pub fn above_previous(previous: OptionTick, tick: Tick) -> bool
+pub fn above_previous(previous: Option<Tick>, tick: Tick) -> bool
     ensures { result ≡ Receiver.above_previous (tick_of previous) tick.0 }
 {
-    let OptionTick::Some(finished) = previous else {
+    let Some(finished) = previous else {
         return true;
     };
-    finished.is_before(tick)
+    finished < tick
 }
 
 // Whether a receiver with n parts in is in form.
 pub fn ticks_form(r: Ticks, n: usize) -> bool
     ensures { (lengths : List ℕ) → n ≡ Receiver.count_in lengths 32 → result ≡ Receiver.receiver_form (receiver_with r lengths) }
 {
-    let current = r.current;
-    let Current::Some(c) = current else {
+    let Some(c) = r.current else {
         return n == 0;
     };
-    let previous = r.previous_tick;
-    let tick = c.tick;
-    if !above_previous(previous, tick) {
+    if !above_previous(r.previous_tick, c.tick) {
         return false;
     }
     let k = c.num_parts as usize;
@@ -161,34 +141,27 @@ pub fn ticks_form(r: Ticks, n: usize) -> bool
 pub fn in_form(r: DeltaReceiver) -> bool
     ensures { result ≡ Receiver.receiver_form (receiver_of r) }
 {
-    let lengths = r.parts;
-    let n = count_in(&lengths);
-    ticks_form(ticks_of(r), n)
+    ticks_form(ticks_of(r), count_in(&r.parts))
 }
 
 // Whether a tick is old.
 pub fn is_old(r: Ticks, tick: Tick) -> bool
     ensures { (lengths : List ℕ) → result ≡ Receiver.is_old (receiver_with r lengths) tick.0 }
 {
-    let current = r.current;
-    let Current::Some(c) = current else {
-        let previous = r.previous_tick;
-        return !above_previous(previous, tick);
+    let Some(c) = r.current else {
+        return !above_previous(r.previous_tick, tick);
     };
-    let unfinished = c.tick;
-    tick.is_before(unfinished)
+    tick < c.tick
 }
 
 // Whether a tick is the unfinished one.
 pub fn is_current(r: Ticks, tick: Tick) -> bool
     ensures { (lengths : List ℕ) → result ≡ Receiver.is_current (receiver_with r lengths) tick.0 }
 {
-    let current = r.current;
-    let Current::Some(c) = current else {
+    let Some(c) = r.current else {
         return false;
     };
-    let unfinished = c.tick;
-    unfinished.is_same(tick)
+    c.tick == tick
 }
 
 // What a part fixes if it is the first one of its tick.
@@ -196,14 +169,10 @@ pub fn first_says(m: Part) -> CurrentDelta
     requires { Tables.num m.num_parts ≤ 32 }
     ensures { current_in result ≡ Receiver.first_says (part_of m) }
 {
-    let tick = m.tick;
-    let distance = m.delta_tick;
-    let delta_tick = tick.minus(distance);
-    let num_parts = ints::num(m.num_parts) as u32;
     CurrentDelta {
-        tick,
-        delta_tick,
-        num_parts,
+        tick: m.tick,
+        delta_tick: m.tick.minus(m.delta_tick),
+        num_parts: ints::num(m.num_parts) as u32,
         crc: m.crc,
     }
 }
@@ -213,34 +182,25 @@ pub fn opened(r: Ticks, m: Part) -> CurrentDelta
     requires { Tables.num m.num_parts ≤ 32 }
     ensures { Opens r m result }
 {
-    let current = r.current;
-    let Current::Some(c) = current else {
-        return first_says(m);
-    };
-    let unfinished = c.tick;
-    let tick = m.tick;
-    if unfinished.is_same(tick) {
-        return c;
+    match r.current {
+        Some(c) if c.tick.is_same(m.tick) => c,
+        _ => first_says(m),
     }
-    first_says(m)
 }
 
 // Whether a part's base, count or sum is not the first part's.
 pub fn differs(o: CurrentDelta, m: Part) -> bool
     ensures { result ≡ Receiver.differs (current_in o) (part_of m) }
 {
-    let tick = m.tick;
-    let distance = m.delta_tick;
-    let base = tick.minus(distance);
-    let first_base = o.delta_tick;
-    if !base.is_same(first_base) {
+    let base = m.tick.minus(m.delta_tick);
+    if base != o.delta_tick {
         return true;
     }
     let k = o.num_parts as usize;
     if ints::num(m.num_parts) != k {
         return true;
     }
-    !ints::same(m.crc, o.crc)
+    m.crc != o.crc
 }
 
 // Whether part p is in already; none is if the tick is new.
@@ -248,10 +208,7 @@ pub fn is_in(current: bool, lengths: &[u16], p: usize) -> bool
     requires { (p < 32) × (length lengths.now ≡ 32) }
     ensures { result ≡ Receiver.is_in (parts_for current lengths.now) p }
 {
-    if current {
-        return lengths[p] as usize <= DeltaReceiver::PART_SIZE;
-    }
-    false
+    current && lengths[p] as usize <= DeltaReceiver::PART_SIZE
 }
 
 // Records part p of n bytes; the parts of an older tick are dropped.
@@ -270,10 +227,7 @@ pub fn count_with(current: bool, n: usize) -> usize
     requires { n ≤ 32 }
     ensures { result ≡ cond current n 0 + 1 }
 {
-    if current {
-        return n + 1;
-    }
-    1
+    if current { n + 1 } else { 1 }
 }
 
 // Copies bytes through an array, so that the compiler can move them all at once.
@@ -291,14 +245,12 @@ pub fn full_parts(lengths: &[u16]) -> usize
     requires { length lengths.now ≡ 32 }
     ensures { (result ≤ 32) × ((area : List ℕ) → Receiver.joined lengths.now area result ≡ take (900 * result) area) }
 {
-    let mut i: usize = 0;
-    while i < DeltaReceiver::MAX_PARTS {
-        if lengths[i] as usize != DeltaReceiver::PART_SIZE {
+    for (i, len) in lengths.iter().enumerate() {
+        if *len as usize != DeltaReceiver::PART_SIZE {
             return i;
         }
-        i += 1;
     }
-    i
+    DeltaReceiver::MAX_PARTS
 }
 
 // Copies part i, if it is in, to a place of the second area. Returns the place after it.
@@ -320,19 +272,18 @@ pub fn join(lengths: &[u16], parts: &[u8], joined: &mut [u8]) -> usize
     requires { (length lengths.now ≡ 32) × (28800 ≤ length parts.now) × (28800 ≤ length joined.old) }
     ensures { (result ≡ length (Receiver.joined lengths.now parts.now 32)) × (joined.new ≡ lay (Receiver.joined lengths.now parts.now 32) joined.old) }
 {
-    let mut i = full_parts(lengths);
-    let mut at = DeltaReceiver::PART_SIZE * i;
+    let full = full_parts(lengths);
+    let mut at = DeltaReceiver::PART_SIZE * full;
     put_bytes(joined, 0, &parts[..at]);
-    while i < DeltaReceiver::MAX_PARTS {
+    for i in full..DeltaReceiver::MAX_PARTS {
         at = join_part(lengths, i, at, parts, joined);
-        i += 1;
     }
     at
 }
 
 // Finishes the tick if the part just taken was the last one missing; n parts are in.
 pub fn put_part(
-    previous_tick: OptionTick,
+    previous_tick: Option<Tick>,
     o: CurrentDelta,
     n: usize,
     warnings: Warnings,
@@ -345,30 +296,27 @@ pub fn put_part(
 {
     let k = o.num_parts as usize;
     if n != k {
-        let ticks = Ticks {
-            previous_tick,
-            current: Current::Some(o),
-        };
         return Taking {
-            answer: Received::NotYet,
+            answer: Ok(None),
             warnings,
-            ticks,
+            ticks: Ticks {
+                previous_tick,
+                current: Some(o),
+            },
         };
     }
     let len = join(lengths, parts, joined);
     *lengths = [901u16; 32];
-    let tick = o.tick;
-    let delta_tick = o.delta_tick;
-    let answer = Received::Delta {
-        tick,
-        delta_tick,
+    let delta = Received::Delta {
+        tick: o.tick,
+        delta_tick: o.delta_tick,
         len,
         crc: o.crc,
     };
     Taking {
-        answer,
+        answer: Ok(Some(delta)),
         warnings,
-        ticks: without_current(OptionTick::Some(tick)),
+        ticks: without_current(Some(o.tick)),
     }
 }
 
@@ -387,54 +335,58 @@ pub fn take(
     requires n_value { (n ≡ Receiver.count_in lengths.old 32) × (n ≤ 32) }
     ensures { taking (receiver_with r lengths.old) (part_of m) p «data».now parts.old joined.old ≡ taken result lengths.new parts.new joined.new }
 {
-    let tick = m.tick;
-    let current = is_current(r, tick);
+    let current = is_current(r, m.tick);
     let o = opened(r, m);
     let w = Warnings::received(false, differs(o, m));
     if is_in(current, lengths, p) {
         return Taking {
-            answer: Received::Refused(Error::DuplicatePart),
+            answer: Err(Error::DuplicatePart),
             warnings: w,
             ticks: r,
         };
     }
     put_length(current, lengths, p, data.len());
     put_bytes(parts, DeltaReceiver::PART_SIZE * p, data);
-    let previous_tick = r.previous_tick;
     let n = count_with(current, n);
-    put_part(previous_tick, o, n, w, lengths, parts, joined)
+    put_part(r.previous_tick, o, n, w, lengths, parts, joined)
 }
 
-// Judges a part by the receiver's form, the areas and the part's numbers; n parts are in.
-pub fn judge(r: Ticks, n: usize, m: Part, data: &[u8], parts: &[u8], joined: &[u8]) -> Judged
+// Judges a part by the receiver's form, the areas and the part's numbers; n parts are in. Returns the part's number.
+pub fn judge(
+    r: Ticks,
+    n: usize,
+    m: Part,
+    data: &[u8],
+    parts: &[u8],
+    joined: &[u8],
+) -> Result<usize, Error>
     ensures by_index { (lengths : List ℕ) → n ≡ Receiver.count_in lengths 32 → Receiver.snap_call (receiver_with r lengths) (part_of m) «data».now parts.now joined.now ≡ judged_as result (receiver_with r lengths) (part_of m) «data».now parts.now joined.now }
     ensures fits { Fits result m «data».now parts.now joined.now }
 {
     if !ticks_form(r, n) {
-        return Judged::Refused(Error::NotInForm);
+        return Err(Error::NotInForm);
     }
     if parts.len() < DeltaReceiver::AREA_SIZE {
-        return Judged::Refused(Error::ScratchTooShort);
+        return Err(Error::ScratchTooShort);
     }
     if joined.len() < DeltaReceiver::AREA_SIZE {
-        return Judged::Refused(Error::ScratchTooShort);
+        return Err(Error::ScratchTooShort);
     }
     if DeltaReceiver::PART_SIZE < data.len() {
-        return Judged::Refused(Error::PartTooLong);
+        return Err(Error::PartTooLong);
     }
-    let tick = m.tick;
-    if is_old(r, tick) {
-        return Judged::Refused(Error::OldDelta);
+    if is_old(r, m.tick) {
+        return Err(Error::OldDelta);
     }
     let k = ints::num(m.num_parts);
     if DeltaReceiver::MAX_PARTS < k {
-        return Judged::Refused(Error::InvalidNumParts);
+        return Err(Error::InvalidNumParts);
     }
     let p = ints::num(m.part);
     if k <= p {
-        return Judged::Refused(Error::InvalidPart);
+        return Err(Error::InvalidPart);
     }
-    Judged::Part(p)
+    Ok(p)
 }
 
 // Takes a part of a delta; the lengths are changed in place.
@@ -449,9 +401,8 @@ pub fn receive(
     ensures { Receiver.snap_call (receiver_with r lengths.old) (part_of m) «data».now parts.old joined.old ≡ taken result lengths.new parts.new joined.new }
 {
     let n = count_in(lengths);
-    let j = judge(r, n, m, data, parts, joined);
-    match j {
-        Judged::Part(p) => take(r, n, m, p, lengths, data, parts, joined),
-        Judged::Refused(e) => refused(e, r),
+    match judge(r, n, m, data, parts, joined) {
+        Ok(p) => take(r, n, m, p, lengths, data, parts, joined),
+        Err(e) => refused(e, r),
     }
 }

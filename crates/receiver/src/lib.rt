@@ -10,7 +10,7 @@ ghost use Rattle.receiver.specs.Answers.{received_with};
 
 use checked::Part;
 use format::{Error, Warnings};
-use ticks::{Distance, OptionTick, Tick};
+use ticks::{Distance, Tick};
 
 pub mod checked;
 pub mod whole;
@@ -24,25 +24,17 @@ pub struct CurrentDelta {
     pub crc: i32,
 }
 
-// An unfinished tick, if there is one.
-#[derive(Clone, Copy)]
-pub enum Current {
-    Some(CurrentDelta),
-    None,
-}
-
 // The last finished tick and the unfinished one, if any, and the length of each part, above 900 if it is not in.
 #[derive(Clone, Copy)]
 pub struct DeltaReceiver {
-    pub previous_tick: OptionTick,
-    pub current: Current,
+    pub previous_tick: Option<Tick>,
+    pub current: Option<CurrentDelta>,
     pub parts: [u16; 32],
 }
 
-// The answer to a message: no delta yet; a delta's tick and base, with its joined bytes' count and its sum; an empty delta; or why it is refused.
+// A delta that was received: its tick and base, and unless it is empty, its joined bytes' count and its sum.
 #[derive(Clone, Copy)]
 pub enum Received {
-    NotYet,
     Delta {
         tick: Tick,
         delta_tick: Tick,
@@ -53,13 +45,12 @@ pub enum Received {
         tick: Tick,
         delta_tick: Tick,
     },
-    Refused(Error),
 }
 
-// The answer of a call on a receiver, with the warnings counted and the receiver afterwards.
+// The answer of a call on a receiver (a delta, none yet, or why the message is refused), with the warnings counted and the receiver afterwards.
 #[derive(Clone, Copy)]
 pub struct Receiving {
-    pub answer: Received,
+    pub answer: Result<Option<Received>, Error>,
     pub warnings: Warnings,
     pub receiver: DeltaReceiver,
 }
@@ -78,7 +69,7 @@ impl DeltaReceiver {
     pub fn new() -> DeltaReceiver
         ensures { receiver_of result ≡ fresh_receiver }
     {
-        let t = checked::without_current(OptionTick::None);
+        let t = checked::without_current(None);
         checked::with_lengths(t, [901u16; 32])
     }
 
@@ -86,9 +77,7 @@ impl DeltaReceiver {
     pub fn reset(self) -> DeltaReceiver
         ensures { receiver_of result ≡ fresh_receiver }
     {
-        let previous_tick = OptionTick::None;
-        let t = checked::without_current(previous_tick);
-        checked::with_lengths(t, [901u16; 32])
+        DeltaReceiver::new()
     }
 
     // Takes a part of a delta; the last one missing joins them all in joined.

@@ -8,7 +8,7 @@ ghost use Rattle.receiver.specs.Answers.{taken};
 use super::checked::{Taking, Ticks};
 use super::{DeltaReceiver, Received, checked};
 use format::{Error, Warnings};
-use ticks::{Distance, OptionTick, Tick};
+use ticks::{Distance, Tick};
 
 // Takes a single message, its bytes copied to joined; the lengths are changed in place.
 pub fn receive_single(
@@ -39,16 +39,16 @@ pub fn receive_single(
     *lengths = [901u16; 32];
     checked::put_bytes(joined, 0, data);
     let base = tick.minus(delta_tick);
-    let answer = Received::Delta {
+    let delta = Received::Delta {
         tick,
         delta_tick: base,
         len: data.len(),
         crc,
     };
     Taking {
-        answer,
+        answer: Ok(Some(delta)),
         warnings,
-        ticks: checked::without_current(OptionTick::Some(tick)),
+        ticks: checked::without_current(Some(tick)),
     }
 }
 
@@ -67,13 +67,13 @@ pub fn receive_empty(r: Ticks, tick: Tick, delta_tick: Distance, lengths: &mut [
     let warnings = Warnings::received(duplicate, false);
     let base = tick.minus(delta_tick);
     *lengths = [901u16; 32];
-    let answer = Received::Empty {
+    let empty = Received::Empty {
         tick,
         delta_tick: base,
     };
     Taking {
-        answer,
+        answer: Ok(Some(empty)),
         warnings,
-        ticks: checked::without_current(OptionTick::Some(tick)),
+        ticks: checked::without_current(Some(tick)),
     }
 }

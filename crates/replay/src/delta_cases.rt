@@ -10,18 +10,17 @@
 use crate::fields::{
     differing, letter, odd, part, reading, refused, room, room_for_bytes, stored_ints, written,
 };
-use delta_making::Made;
-use format::Stored;
+use delta_making::MakeError;
 use replay_text::areas::scratch;
 use replay_text::line::Line;
 use replay_text::words::{number, word};
 
 // How many ints a delta takes, and the ints; or the refusal, with the key if two lengths differ.
-fn made(answer: Made, area: &[i32]) -> Line {
+fn made(answer: Result<usize, MakeError>, area: &[i32]) -> Line {
     match answer {
-        Made::Ints(count) => stored_ints(Stored::Ints(count), area),
-        Made::DifferingSizes(key) => differing(Line::new(), key),
-        Made::Refused(e) => refused(e),
+        Ok(count) => stored_ints(Ok(count), area),
+        Err(MakeError::DifferingSizes(key)) => differing(Line::new(), key),
+        Err(MakeError::Refused(e)) => refused(e),
     }
 }
 
@@ -64,9 +63,8 @@ fn apply_item(has: bool, base: &[i32], differences: &[i32], area: &mut [i32]) ->
 
 // Answers a case, with its two lists and an area of ROOM ints.
 fn fill(case: &[u8], first: &[i32], second: &[i32], area: &mut [i32]) -> Line {
-    let letter = letter(case);
     let has = number(case, 2) == 1;
-    match letter {
+    match letter(case) {
         b'e' => clear(area),
         b'c' => create(first, second, area),
         b'i' => write_to_ints(first, second, area),
@@ -136,8 +134,7 @@ fn packed_case(case: &[u8]) -> Line {
 
 // Answers a case.
 pub fn answer(case: &[u8]) -> Line {
-    let letter = letter(case);
-    match letter {
+    match letter(case) {
         b'b' => bytes_case(case),
         b'p' => packed_case(case),
         b'm' | b'a' => ints_case(case, 3),

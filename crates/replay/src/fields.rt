@@ -2,18 +2,17 @@
 ghost use Rattle.io.specs.Counts.{IsPrefixLen};
 ghost use Rattle.replay_text.specs.Buffer.{CountsInts};
 
-use format::{Error, Reading, Stored, WARNING_KINDS, Warnings, row};
-use packer::IntWrite;
+use format::{Error, Reading, Warnings, row};
 use replay_text::line::Line;
 use replay_text::words::{int, number};
-use ticks::{Distance, OptionTick, Tick};
+use ticks::{Distance, Tick};
 
 // The letter of a case, or a zero for an empty line.
 pub fn letter(case: &[u8]) -> u8 {
-    if case.len() == 0 {
-        return 0;
+    match case {
+        [letter, ..] => *letter,
+        [] => 0,
     }
-    case[0]
 }
 
 // The type or the id that is the i-th word of a case.
@@ -65,8 +64,8 @@ pub fn none() -> Line {
 
 // Adds a refusal.
 pub fn refusal(line: Line, e: Error) -> Line {
-    let number = format::error_number(e);
-    line.next_text(b"refused").next_number(number as usize)
+    line.next_text(b"refused")
+        .next_number(u32::from(e) as usize)
 }
 
 // The answer that is a refusal.
@@ -95,10 +94,10 @@ pub fn next_tick(line: Line, tick: Tick) -> Line {
 }
 
 // Adds a tick, or a minus if there is none.
-pub fn tick_or_none(line: Line, tick: OptionTick) -> Line {
+pub fn tick_or_none(line: Line, tick: Option<Tick>) -> Line {
     match tick {
-        OptionTick::Some(tick) => next_tick(line, tick),
-        OptionTick::None => line.next_text(b"-"),
+        Some(tick) => next_tick(line, tick),
+        None => line.next_text(b"-"),
     }
 }
 
@@ -108,54 +107,40 @@ pub fn item(data: &[i32]) -> Line {
 }
 
 // How many ints were stored, or the refusal.
-pub fn stored(answer: Stored) -> Line {
+pub fn stored(answer: Result<usize, Error>) -> Line {
     match answer {
-        Stored::Ints(count) => Line::new().number(count),
-        Stored::Refused(e) => refused(e),
-    }
-}
-
-// How many ints were stored; none if the call was refused.
-fn count_or_none(answer: Stored) -> usize {
-    match answer {
-        Stored::Ints(count) => count,
-        Stored::Refused(_) => 0,
+        Ok(count) => Line::new().number(count),
+        Err(e) => refused(e),
     }
 }
 
 // How many ints were stored, and the ints; or the refusal.
-pub fn stored_ints(answer: Stored, area: &[i32]) -> Line {
-    stored(answer).ints(area, count_or_none(answer))
+pub fn stored_ints(answer: Result<usize, Error>, area: &[i32]) -> Line {
+    stored(answer).ints(area, answer.unwrap_or(0))
 }
 
 // How many bytes were written, and the bytes; or the refusal.
-pub fn written(answer: IntWrite, area: &[u8]) -> Line {
+pub fn written(answer: Result<usize, Error>, area: &[u8]) -> Line {
     match answer {
-        IntWrite::Next(len) => Line::new().number(len).bytes(area, len),
-        IntWrite::Refused(e) => refused(e),
+        Ok(len) => Line::new().number(len).bytes(area, len),
+        Err(e) => refused(e),
     }
-}
-
-// The k-th count.
-fn count_at(counts: &[usize; WARNING_KINDS], k: usize) -> usize {
-    if k < WARNING_KINDS { counts[k] } else { 0 }
 }
 
 // Adds the counts of warnings whose places in the row are listed.
 pub fn warnings(line: Line, w: Warnings, shown: &[usize]) -> Line {
     let counts = row(w);
     let mut l = line;
-    let mut i: usize = 0;
-    while i < shown.len() {
-        l = l.next_number(count_at(&counts, shown[i]));
-        i += 1;
+    for k in shown {
+        if let Some(count) = counts.get(*k) {
+            l = l.next_number(*count);
+        }
     }
     l
 }
 
 // The answer of a call that reads: how many ints were stored, or the refusal; the counts that are shown; and the ints.
 pub fn reading(read: Reading, area: &[i32], shown: &[usize]) -> Line {
-    let answer = read.answer;
-    let line = warnings(stored(answer), read.warnings, shown);
-    line.ints(area, count_or_none(answer))
+    let line = warnings(stored(read.answer), read.warnings, shown);
+    line.ints(area, read.answer.unwrap_or(0))
 }

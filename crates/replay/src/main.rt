@@ -16,7 +16,7 @@ mod state;
 mod storage_cases;
 mod table_cases;
 
-use fields::{letter, odd};
+use fields::odd;
 use replay_text::areas::part_area;
 use replay_text::input::read_full;
 use replay_text::words::word;
@@ -35,65 +35,46 @@ enum Subject {
     Receiver,
     Storage,
     Manager,
-    None,
 }
 
-// Snaps or storage, by the second letter.
-fn snaps_or_storage(name: &[u8]) -> Subject {
-    if name.len() < 2 {
-        return Subject::None;
-    }
-    match name[1] {
-        b'n' => Subject::Snaps,
-        b't' => Subject::Storage,
-        _ => Subject::None,
-    }
-}
-
-// Receiver or rules, by the second letter.
-fn receiver_or_rules(name: &[u8]) -> Subject {
-    if name.len() < 2 {
-        return Subject::None;
-    }
-    match name[1] {
-        b'e' => Subject::Receiver,
-        b'u' => Subject::Rules,
-        _ => Subject::None,
-    }
-}
-
-// The subject with a name, by its first letter.
-fn subject_of(name: &[u8]) -> Subject {
-    let letter = letter(name);
-    match letter {
-        b'p' => Subject::Packer,
-        b't' => Subject::Tables,
-        b'd' => Subject::Deltas,
-        b'r' => receiver_or_rules(name),
-        b'm' => Subject::Manager,
-        b's' => snaps_or_storage(name),
-        _ => Subject::None,
+// The subject with a name, by its first letters.
+fn subject_of(name: &[u8]) -> Option<Subject> {
+    match name {
+        [b'p', ..] => Some(Subject::Packer),
+        [b't', ..] => Some(Subject::Tables),
+        [b'd', ..] => Some(Subject::Deltas),
+        [b'm', ..] => Some(Subject::Manager),
+        [b'r', b'e', ..] => Some(Subject::Receiver),
+        [b'r', b'u', ..] => Some(Subject::Rules),
+        [b's', b'n', ..] => Some(Subject::Snaps),
+        [b's', b't', ..] => Some(Subject::Storage),
+        _ => None,
     }
 }
 
 // Answers a case.
 fn answer(
     state: State,
-    subject: Subject,
+    subject: Option<Subject>,
     case: &[u8],
     parts: &mut [u8; 28800],
     area: &mut [i32; 1024],
 ) -> Answered {
     let line = match subject {
-        Subject::Packer => packer_cases::answer(case),
-        Subject::Tables => table_cases::answer(case),
-        Subject::Rules => rule_cases::answer(case),
-        Subject::Deltas => delta_cases::answer(case),
-        Subject::Snaps => snap_cases::answer(case),
-        Subject::Receiver => return receiver_cases::answer(state, case, parts),
-        Subject::Storage => return storage_cases::answer(state.resized(case), case, area),
-        Subject::Manager => return manager_cases::answer(state.resized(case), case, parts, area),
-        Subject::None => odd(),
+        Some(Subject::Packer) => packer_cases::answer(case),
+        Some(Subject::Tables) => table_cases::answer(case),
+        Some(Subject::Rules) => rule_cases::answer(case),
+        Some(Subject::Deltas) => delta_cases::answer(case),
+        Some(Subject::Snaps) => snap_cases::answer(case),
+        Some(Subject::Receiver) => return receiver_cases::answer(state, case, parts),
+        Some(Subject::Storage) => return storage_cases::answer(state.resized(case), case, area),
+        Some(Subject::Manager) => return manager_cases::answer(
+            state.resized(case),
+            case,
+            parts,
+            area,
+        ),
+        None => odd(),
     };
     Answered { state, line }
 }
@@ -121,11 +102,8 @@ fn replay(
     area: &mut [i32; 1024],
 ) -> Result<()> {
     let mut state = State::new();
-    let mut at: usize = 0;
-    while at < cases.len() {
-        let line = replay_text::until(&cases[at..], b'\n');
-        state = step(rt, state, line, parts, area)?;
-        at += line.len() + 1;
+    for line in cases.split_inclusive(|b| *b == b'\n') {
+        state = step(rt, state, replay_text::until(line, b'\n'), parts, area)?;
     }
     Ok(())
 }

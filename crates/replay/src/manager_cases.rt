@@ -11,12 +11,13 @@ use crate::fields::{
 };
 use crate::state::{Answered, State};
 use crate::storage_cases::look;
-use format::Warnings;
-use manager::{Handled, Handling, Manager};
+use format::{Error, Warnings};
+use manager::{Handling, Manager};
 use replay_text::areas::{part_area, scratch};
 use replay_text::line::Line;
 use replay_text::words::{int, word};
 use storage::Storage;
+use ticks::Tick;
 
 // The warnings of a message and the store's numbers.
 fn head(w: Warnings, s: Storage) -> Line {
@@ -26,18 +27,18 @@ fn head(w: Warnings, s: Storage) -> Line {
 }
 
 // Adds the result of a message.
-fn handled(line: Line, answer: Handled) -> Line {
+fn handled(line: Line, answer: Result<Option<Tick>, Error>) -> Line {
     match answer {
-        Handled::Tick(tick) => next_tick(line.next_text(b"tick"), tick),
-        Handled::NotYet => line.next_text(b"more"),
-        Handled::Refused(e) => refusal(line, e),
+        Ok(Some(tick)) => next_tick(line.next_text(b"tick"), tick),
+        Ok(None) => line.next_text(b"more"),
+        Err(e) => refusal(line, e),
     }
 }
 
 // A manager without a message.
 fn quiet(manager: Manager) -> Handling {
     Handling {
-        answer: Handled::NotYet,
+        answer: Ok(None),
         warnings: Warnings::none(),
         manager,
     }
@@ -153,8 +154,7 @@ fn message(
     delta: &mut [i32],
     area: &mut [i32],
 ) -> Handling {
-    let letter = letter(case);
-    match letter {
+    match letter(case) {
         b'n' => fresh(area),
         b'r' => quiet(m.reset(area)),
         b's' => packed(m, case, 6, parts, delta, area),

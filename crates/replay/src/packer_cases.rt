@@ -4,8 +4,9 @@
 //     i AT INT..      the same by a reader over the ints
 //     w ROOM AT INT   an int is written into ROOM bytes aa, at most 16: NEXT HEX, or refused 40 HEX
 //     u ROOM HEX      all ints are unpacked into ROOM ints, at most 64: COUNT CUT OVERLONG INT.., or refused NUMBER OVERLONG
-use crate::fields::{letter, odd, part, refused, room, room_for_bytes, warnings};
-use packer::{IntRead, IntWrite, IntsRead, ReaderAnswer, Unpacked};
+use crate::fields::{letter, odd, part, refused, room, room_for_bytes, stored, warnings};
+use format::Error;
+use packer::{IntRead, ReaderAnswer, Unpacked};
 use replay_text::line::Line;
 use replay_text::words::{int, number, word};
 
@@ -15,14 +16,13 @@ fn flag(line: Line, b: bool) -> Line {
 }
 
 // The int that was read, or the refusal.
-fn int_read(read: IntRead) -> Line {
+fn int_read(read: Result<IntRead, Error>) -> Line {
     match read {
-        IntRead::Int {
-            value,
-            next,
-            overlong,
-        } => flag(Line::new().int(value).next_number(next), overlong),
-        IntRead::Refused(e) => refused(e),
+        Ok(int) => flag(
+            Line::new().int(int.value).next_number(int.next),
+            int.overlong,
+        ),
+        Err(e) => refused(e),
     }
 }
 
@@ -40,14 +40,9 @@ fn standing(line: Line, r: ReaderAnswer) -> Line {
 
 // The answer of a reader.
 fn reader_read(r: ReaderAnswer) -> Line {
-    let read = r.read;
-    match read {
-        IntRead::Int {
-            value,
-            next: _,
-            overlong,
-        } => flag(standing(Line::new().int(value), r), overlong),
-        IntRead::Refused(e) => standing(refused(e), r),
+    match r.read {
+        Ok(int) => flag(standing(Line::new().int(int.value), r), int.overlong),
+        Err(e) => standing(refused(e), r),
     }
 }
 
@@ -65,18 +60,10 @@ fn ints_case(case: &[u8]) -> Line {
     reader_read(packer::read_ints(part(&given, 1, count), number(case, 1)))
 }
 
-// Where a write ended, or the refusal.
-fn int_written(answer: IntWrite) -> Line {
-    match answer {
-        IntWrite::Next(next) => Line::new().number(next),
-        IntWrite::Refused(e) => refused(e),
-    }
-}
-
 // Answers w ROOM AT INT, with an area of ROOM bytes.
 fn write_into(case: &[u8], area: &mut [u8]) -> Line {
     let answer = packer::write_int(area, number(case, 2), int(case, 3));
-    int_written(answer).bytes(area, area.len())
+    stored(answer).bytes(area, area.len())
 }
 
 // Answers w ROOM AT INT.
@@ -88,13 +75,12 @@ fn write_case(case: &[u8]) -> Line {
 
 // The ints that were unpacked, or the refusal.
 fn all_unpacked(unpacked: Unpacked, area: &[i32]) -> Line {
-    let answer = unpacked.answer;
-    match answer {
-        IntsRead::Ints { count, cut } => {
-            let line = flag(Line::new().number(count), cut);
-            warnings(line, unpacked.warnings, &[0]).ints(area, count)
+    match unpacked.answer {
+        Ok(read) => {
+            let line = flag(Line::new().number(read.count), read.cut);
+            warnings(line, unpacked.warnings, &[0]).ints(area, read.count)
         }
-        IntsRead::Refused(e) => warnings(refused(e), unpacked.warnings, &[0]),
+        Err(e) => warnings(refused(e), unpacked.warnings, &[0]),
     }
 }
 
@@ -115,8 +101,7 @@ fn unpack_case(case: &[u8]) -> Line {
 
 // Answers a case.
 pub fn answer(case: &[u8]) -> Line {
-    let letter = letter(case);
-    match letter {
+    match letter(case) {
         b'r' => read_case(case),
         b'b' => bytes_case(case),
         b'i' => ints_case(case),

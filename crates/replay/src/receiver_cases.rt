@@ -7,36 +7,40 @@
 // An answer is DUPLICATE DIFFERING, the two warning counts, and then more, delta TICK BASE CRC LEN HEX, empty TICK BASE, or refused NUMBER.
 use crate::fields::{distance, letter, next_tick, refusal, tick, warnings};
 use crate::state::{Answered, State, with_receiver};
-use format::Warnings;
+use format::{Error, Warnings};
 use receiver::{DeltaReceiver, Received, Receiving};
 use replay_text::areas::part_area;
 use replay_text::line::Line;
 use replay_text::words::{int, word};
 
 // Adds what a message brought.
-fn received(line: Line, a: Received, joined: &[u8]) -> Line {
+fn received(line: Line, a: Result<Option<Received>, Error>, joined: &[u8]) -> Line {
     match a {
-        Received::NotYet => line.next_text(b"more"),
-        Received::Delta {
-            tick,
-            delta_tick,
-            len,
-            crc,
-        } => {
+        Ok(None) => line.next_text(b"more"),
+        Ok(
+            Some(
+                Received::Delta {
+                    tick,
+                    delta_tick,
+                    len,
+                    crc,
+                },
+            ),
+        ) => {
             let line = next_tick(next_tick(line.next_text(b"delta"), tick), delta_tick);
             line.next_int(crc).next_number(len).bytes(joined, len)
         }
-        Received::Empty { tick, delta_tick } => {
+        Ok(Some(Received::Empty { tick, delta_tick })) => {
             next_tick(next_tick(line.next_text(b"empty"), tick), delta_tick)
         }
-        Received::Refused(e) => refusal(line, e),
+        Err(e) => refusal(line, e),
     }
 }
 
 // A receiver without a message.
 fn quiet(receiver: DeltaReceiver) -> Receiving {
     Receiving {
-        answer: Received::NotYet,
+        answer: Ok(None),
         warnings: Warnings::none(),
         receiver,
     }
@@ -73,8 +77,7 @@ fn empty(r: DeltaReceiver, case: &[u8]) -> Receiving {
 
 // Handles the call of a case.
 fn call(r: DeltaReceiver, case: &[u8], parts: &mut [u8; 28800], joined: &mut [u8]) -> Receiving {
-    let letter = letter(case);
-    match letter {
+    match letter(case) {
         b'n' => quiet(DeltaReceiver::new()),
         b'r' => quiet(r.reset()),
         b's' => snap(r, case, parts, joined),

@@ -1,16 +1,17 @@
 // Cases on rules. A case names at most 8 types.
 //     w INGREDIENT COUNT TYPE.. INT..  the winner for an ingredient among the items of COUNT types of an area: KEY ACTION, or none, or refused NUMBER
 use crate::fields::{id, letter, none, odd, part, refused};
+use format::Error;
 use replay_text::line::Line;
 use replay_text::words::{int, number};
 use rules::Won;
 
 // The key and the action of the winner, or that there is none, or the refusal.
-fn won(answer: Won) -> Line {
+fn won(answer: Result<Option<Won>, Error>) -> Line {
     match answer {
-        Won::Rule { key, action } => Line::new().int(key).next_int(action),
-        Won::Nothing => none(),
-        Won::Refused(e) => refused(e),
+        Ok(Some(won)) => Line::new().int(won.key).next_int(won.action),
+        Ok(None) => none(),
+        Err(e) => refused(e),
     }
 }
 
@@ -43,8 +44,7 @@ fn winner_case(case: &[u8]) -> Line {
 
 // Answers a case.
 pub fn answer(case: &[u8]) -> Line {
-    let letter = letter(case);
-    match letter {
+    match letter(case) {
         b'w' => winner_case(case),
         _ => odd(),
     }

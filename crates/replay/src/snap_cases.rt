@@ -14,12 +14,11 @@
 use crate::fields::{
     id, item, letter, none, odd, part, reading, refused, room, stored, stored_ints,
 };
-use format::Reading;
-use raw_snap::Has;
+use format::{Error, Reading};
 use replay_text::areas::scratch;
 use replay_text::line::Line;
 use replay_text::words::{int, number, word};
-use snap::{RawTypeId, TypeFound, TypeId};
+use snap::TypeId;
 
 // The answer of a call that reads or applies, with COUNTS.
 fn made(read: Reading, area: &[i32]) -> Line {
@@ -89,11 +88,11 @@ fn packed_case(case: &[u8]) -> Line {
 }
 
 // The raw type of a type, or that there is none, or the refusal.
-fn raw_type(answer: RawTypeId) -> Line {
+fn raw_type(answer: Result<Option<u16>, Error>) -> Line {
     match answer {
-        RawTypeId::Raw(number) => Line::new().text(b"raw ").number(number as usize),
-        RawTypeId::Unknown => none(),
-        RawTypeId::Refused(e) => refused(e),
+        Ok(Some(number)) => Line::new().text(b"raw ").number(number as usize),
+        Ok(None) => none(),
+        Err(e) => refused(e),
     }
 }
 
@@ -111,12 +110,12 @@ fn kind(a: i32, b: i32, c: i32, d: i32) -> Line {
 }
 
 // The type of a raw type, or that there is none, or the refusal.
-fn type_found(answer: TypeFound) -> Line {
+fn type_found(answer: Result<Option<TypeId>, Error>) -> Line {
     match answer {
-        TypeFound::Ordinal(number) => Line::new().text(b"number ").number(number as usize),
-        TypeFound::Uuid(a, b, c, d) => kind(a, b, c, d),
-        TypeFound::Unknown => none(),
-        TypeFound::Refused(e) => refused(e),
+        Ok(Some(TypeId::Ordinal(number))) => Line::new().text(b"number ").number(number as usize),
+        Ok(Some(TypeId::Uuid(a, b, c, d))) => kind(a, b, c, d),
+        Ok(None) => none(),
+        Err(e) => refused(e),
     }
 }
 
@@ -129,11 +128,10 @@ fn type_case(case: &[u8]) -> Line {
 
 // The data of an item of an area, or that there is none, or the refusal.
 fn find(area: &[i32], type_id: TypeId, id: u16) -> Line {
-    let answer = snap::has_item(area, type_id, id);
-    match answer {
-        Has::Yes => item(snap::item(area, type_id, id)),
-        Has::No => none(),
-        Has::Refused(e) => refused(e),
+    match snap::has_item(area, type_id, id) {
+        Ok(true) => item(snap::item(area, type_id, id)),
+        Ok(false) => none(),
+        Err(e) => refused(e),
     }
 }
 
@@ -184,8 +182,7 @@ fn finish_case(case: &[u8]) -> Line {
 
 // Answers a case.
 pub fn answer(case: &[u8]) -> Line {
-    let letter = letter(case);
-    match letter {
+    match letter(case) {
         b'r' => delta_case(case, false),
         b'd' => delta_case(case, true),
         b'i' => ints_case(case),

@@ -12,11 +12,12 @@ use crate::fields::{
     warnings,
 };
 use crate::state::{Answered, State, with_storage};
-use format::Warnings;
+use delta_making::MakeError;
+use format::{Error, Warnings};
 use replay_text::areas::scratch;
 use replay_text::line::Line;
 use replay_text::words::{int, number};
-use storage::{Added, HeldTick, Set, Storage, Taken};
+use storage::{Added, Storage};
 use ticks::Tick;
 
 // A store after a call, and the answer.
@@ -33,36 +34,36 @@ fn head(w: Warnings, s: Storage) -> Line {
 }
 
 // Adds the result of adding a table.
-fn added(line: Line, answer: Added, delta: &[i32]) -> Line {
+fn added(line: Line, answer: Result<Added, MakeError>, delta: &[i32]) -> Line {
     match answer {
-        Added::Delta { base, ints } => {
+        Ok(Added { base, ints }) => {
             let line = next_tick(line.next_text(b"delta"), base).next_number(ints);
             line.ints(delta, ints)
         }
-        Added::DifferingSizes(key) => differing(line, key),
-        Added::Refused(e) => refusal(line, e),
+        Err(MakeError::DifferingSizes(key)) => differing(line, key),
+        Err(MakeError::Refused(e)) => refusal(line, e),
     }
 }
 
 // Adds the tick of a table that was taken, or the refusal.
-fn taken(line: Line, answer: Taken) -> Line {
+fn taken(line: Line, answer: Result<Tick, Error>) -> Line {
     match answer {
-        Taken::Tick(tick) => next_tick(line.next_text(b"tick"), tick),
-        Taken::Refused(e) => refusal(line, e),
+        Ok(tick) => next_tick(line.next_text(b"tick"), tick),
+        Err(e) => refusal(line, e),
     }
 }
 
 // Adds whether a base tick was set.
-fn base_set(line: Line, answer: Set) -> Line {
+fn base_set(line: Line, answer: Result<(), Error>) -> Line {
     match answer {
-        Set::Done => line.next_text(b"done"),
-        Set::Refused(e) => refusal(line, e),
+        Ok(()) => line.next_text(b"done"),
+        Err(e) => refusal(line, e),
     }
 }
 
 // Answers a call that only changes the store.
 fn done(storage: Storage) -> Called {
-    let line = base_set(head(Warnings::none(), storage), Set::Done);
+    let line = base_set(head(Warnings::none(), storage), Ok(()));
     Called { storage, line }
 }
 
@@ -128,21 +129,19 @@ fn add_delta(s: Storage, case: &[u8], area: &mut [i32]) -> Called {
 // Answers l.
 pub fn look(s: Storage, case: &[u8], area: &[i32]) -> Line {
     let i = number(case, 1);
-    let held = s.snap_tick(area, i);
-    match held {
-        HeldTick::At(tick) => {
+    match s.snap_tick(area, i) {
+        Ok(Some(tick)) => {
             let table = s.snap(area, i);
             Line::new().int(tick.0).ints(table, table.len())
         }
-        HeldTick::End => Line::new().text(b"end"),
-        HeldTick::Refused(e) => refused(e),
+        Ok(None) => Line::new().text(b"end"),
+        Err(e) => refused(e),
     }
 }
 
 // Answers a call, with the area.
 fn call(s: Storage, case: &[u8], area: &mut [i32]) -> Called {
-    let letter = letter(case);
-    let line = match letter {
+    let line = match letter(case) {
         b'n' => return fresh(area),
         b'r' => return done(s.reset(area)),
         b'b' => return set_delta_tick(s, case, area),

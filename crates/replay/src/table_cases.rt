@@ -6,7 +6,7 @@
 //     l TYPE ID INT..            an item of an area is looked up: item INT.., or none, or refused NUMBER
 //     a TYPE ID LEN INT.. INT..  an item with LEN ints is added to an area: COUNT, or refused NUMBER; then the whole area
 use crate::fields::{id, item, letter, none, odd, part, reading, refused, room, stored, written};
-use raw_snap::{Checksum, Count, Has, Walked, raw_builder};
+use raw_snap::raw_builder;
 use replay_text::areas::scratch;
 use replay_text::line::Line;
 use replay_text::words::word;
@@ -53,37 +53,34 @@ fn write_case(case: &[u8]) -> Line {
 
 // Adds the sum of a table's data.
 fn sum(line: Line, area: &[i32]) -> Line {
-    let Checksum::Sum(n) = raw_snap::crc(area) else {
-        return line;
-    };
-    line.next_int(n)
+    match raw_snap::crc(area) {
+        Ok(sum) => line.next_int(sum),
+        Err(_) => line,
+    }
 }
 
 // Adds the key of the i-th item of a walk; nothing past its end.
 fn key(line: Line, area: &[i32], i: usize) -> Line {
-    let Walked::Key(k) = raw_snap::walk_key(area, i) else {
-        return line;
-    };
-    line.next_int(k)
+    match raw_snap::walk_key(area, i) {
+        Ok(Some(key)) => line.next_int(key),
+        _ => line,
+    }
 }
 
 // Adds the keys of a walk. It goes on past the end, where there must be none.
 fn keys(line: Line, area: &[i32]) -> Line {
     let mut l = line;
-    let mut i: usize = 0;
-    while i < area.len() {
+    for i in 0..area.len() {
         l = key(l, area, i);
-        i += 1;
     }
     l
 }
 
 // The count of a table's items, their sum and keys; or the refusal.
 fn walk(area: &[i32]) -> Line {
-    let answer = raw_snap::num_items(area);
-    match answer {
-        Count::Items(items) => keys(sum(Line::new().number(items), area), area),
-        Count::Refused(e) => refused(e),
+    match raw_snap::num_items(area) {
+        Ok(items) => keys(sum(Line::new().number(items), area), area),
+        Err(e) => refused(e),
     }
 }
 
@@ -96,11 +93,10 @@ fn walk_case(case: &[u8]) -> Line {
 
 // The data of an item of an area, or that there is none, or the refusal.
 fn find(area: &[i32], raw_type_id: u16, id: u16) -> Line {
-    let answer = raw_snap::has_item(area, raw_type_id, id);
-    match answer {
-        Has::Yes => item(raw_snap::item(area, raw_type_id, id)),
-        Has::No => none(),
-        Has::Refused(e) => refused(e),
+    match raw_snap::has_item(area, raw_type_id, id) {
+        Ok(true) => item(raw_snap::item(area, raw_type_id, id)),
+        Ok(false) => none(),
+        Err(e) => refused(e),
     }
 }
 
@@ -131,8 +127,7 @@ fn add_case(case: &[u8]) -> Line {
 
 // Answers a case.
 pub fn answer(case: &[u8]) -> Line {
-    let letter = letter(case);
-    match letter {
+    match letter(case) {
         b'i' => ints_case(case),
         b'b' => bytes_case(case),
         b'w' => write_case(case),

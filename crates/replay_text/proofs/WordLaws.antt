@@ -8,7 +8,8 @@ use native.Mathlib.Omega.{arith}
 use borrow.Author.Tests.{eq-eqb, ne_eqb}
 use lib.Dec.{eqb}
 use lib.ListN.{length, take, drop, get_or, drop_of_length-le}
-use lib.Seq.{drop-cons}
+use Rattle.std.specs.Prelude.{Option, Some, None, MatchOption, HoldsAt, unwrap_or}
+use Rattle.std.specs.List.{AllWithin}
 use Rattle.replay_text.specs.Words.{until, after, word}
 
 module _ (b : ℕ) where
@@ -42,24 +43,27 @@ module _ (b : ℕ) where
     behind e = rw (e, add-one) (back l)
 
     -- there is none
-    pub nothing-behind : i ≡ length (until b l) → length l ≤ i → drop i l ≡ after b l
+    pub nothing-behind : i ≡ length (until b l) → length l ≤ i → [] ≡ after b l
     nothing-behind e h =
         let k : length l ≤ suc (length (until b l)) = omega arith in
-        drop_of_length-le l h ∙ sym (drop_of_length-le l k) ∙ back l
+        sym (drop_of_length-le l k) ∙ back l
 
-    pub at-end : length l ≤ i → length (until b (drop i l)) ≡ 0
-    at-end h = rw (drop_of_length-le l h)
+  -- all before place i are other bytes, and at i there is b or the end
+  first-place : (l : List ℕ) (i : ℕ) → i ≤ length l → ((k : ℕ) → k < i → get_or l k 0 ≡ b → ⊥) → (i < length l → get_or l i 0 ≡ b) → i ≡ length (until b l)
+  first-place [] zero h n e = refl
+  first-place [] (suc i) h n e = let z : ⊥ = omega arith in absurd z
+  first-place (x ∷ l) zero h n e = let f : x ≡ b = e (omega arith) in rw (eq-eqb x b f)
+  first-place (x ∷ l) (suc i) h n e =
+      let f : x ≡ b → ⊥ = n 0 (omega arith) in
+      let r : i ≡ length (until b l) = first-place l i (omega arith) (λ k g. n (suc k) (omega arith)) (λ g. e (omega arith)) in
+      rw (ne_eqb x b f) (ap suc r)
 
-    pub at-found : i < length l → get_or l i 0 ≡ b → length (until b (drop i l)) ≡ 0
-    at-found h e = rw (drop-cons l i 0 h, eq-eqb (get_or l i 0) b e)
+  -- the place of the first b, or how many bytes there are
+  pub place : (l : List ℕ) (r : Option ℕ) → MatchOption r (AllWithin (λ x. x ≡ b → ⊥) l 0 (length l)) (λ i. (i < length l) × HoldsAt (λ x. x ≡ b) l i × AllWithin (λ x. x ≡ b → ⊥) l 0 i) → (unwrap_or r (length l) ≡ length (until b l)) × (unwrap_or r (length l) ≤ length l)
+  place l None m = (first-place l (length l) (omega arith) (λ k h. m k 0 (omega arith) h) (λ h. let z : ⊥ = omega arith in absurd z), omega arith)
+  place l (Some i) m = (first-place l i (omega (arith, m.0)) (λ k h. m.2 k 0 (omega arith) h) (λ h. m.1 0), omega (arith, m.0))
 
-    pub at_other : i < length l → (get_or l i 0 ≡ b → ⊥) → length (until b (drop i l)) ≡ suc (length (until b (drop (i + 1) l)))
-    at_other h n = rw (drop-cons l i 0 h, ne_eqb (get_or l i 0) b n, add-one)
-
--- the first word, and a later one
-pub first_word : (n : ℕ) (l : List ℕ) → n ≡ 0 → word n l ≡ until 32 l
-first_word n l e = rw e
-
+-- a later word than the first
 pub later-word : (n : ℕ) (l : List ℕ) → (n ≡ 0 → ⊥) → word n l ≡ word (n - 1) (after 32 l)
 later-word zero l h = absurd (h refl)
 later-word (suc n) l h =

@@ -9,6 +9,7 @@ pub fn read_full(rt: &impl Input, area: &mut [u8]) -> Result<usize>
 {
     let mut reader = rt.reader();
     let mut len: usize = 0;
+    // How many bytes a read gives is not known before it, so no range has the turns.
     while len < area.len() {
         let n = reader.read(&mut area[len..])?;
         if n == 0 {

@@ -21,14 +21,7 @@ pub mod words;
 fn count_until(src: &[u8], b: u8) -> usize
     ensures { (result ≡ length (Words.until b src.now)) × (result ≤ length src.now) }
 {
-    let mut i: usize = 0;
-    while i < src.len() {
-        if src[i] == b {
-            return i;
-        }
-        i += 1;
-    }
-    i
+    src.iter().position(|x| *x == b).unwrap_or(src.len())
 }
 
 // The bytes before the first b, or all.
@@ -44,20 +37,18 @@ pub fn after(src: &[u8], b: u8) -> &[u8]
     ensures { result.now ≡ Words.after b src.now }
 {
     let n = count_until(src, b);
-    if n < src.len() {
-        return &src[n + 1..];
-    }
-    &src[n..]
+    if n < src.len() { &src[n + 1..] } else { &[] }
 }
 
 // The word of a line with this number, from 0 on; one space separates two words.
 pub fn word(line: &[u8], number: usize) -> &[u8]
     ensures { result.now ≡ Words.word number line.now }
 {
-    if number == 0 {
-        return until(line, b' ');
+    let mut rest = line;
+    for _ in 0..number {
+        rest = after(rest, b' ');
     }
-    word(after(line, b' '), number - 1)
+    until(rest, b' ')
 }
 
 // The value of a digit: the last four bits of its character, and 9 more for a letter.
@@ -72,10 +63,8 @@ pub fn number(text: &[u8]) -> usize
     ensures { result ≡ Numbers.number text.now }
 {
     let mut value: usize = 0;
-    let mut i: usize = 0;
-    while i < text.len() {
-        value = value % 1000000000000000000 * 10 + digit(text[i]) as usize;
-        i += 1;
+    for b in text {
+        value = value % 1000000000000000000 * 10 + usize::from(digit(*b));
     }
     value
 }
@@ -84,18 +73,20 @@ pub fn number(text: &[u8]) -> usize
 pub fn int(text: &[u8]) -> i32
     ensures { result ≡ Numbers.int text.now }
 {
-    if text.len() == 0 {
-        return 0;
+    match text {
+        [b'-', digits @ ..] => {
+            let size = number(digits) % 4294967296;
+            ints::wrapping_sub(0, ints::from_bits(size as u32))
+        }
+        _ => {
+            let size = number(text) % 4294967296;
+            ints::from_bits(size as u32)
+        }
     }
-    if text[0] == b'-' {
-        let size = number(&text[1..]) % 4294967296;
-        return ints::wrapping_sub(0, ints::from_bits(size as u32));
-    }
-    let size = number(text) % 4294967296;
-    ints::from_bits(size as u32)
 }
 
 // Writes an int into an area at a place; returns the place after it. A full area is unchanged.
+#[tactic(auto, unfolding(crate::specs::Buffer::put_value))]
 fn put_value(out: &mut [i32], at: usize, value: i32) -> usize
     ensures out_value { put_value value (record { next = at; out = out.old }) ≡ record { next = result; out = out.new } }
     ensures counts_ints { CountsInts result out.new }
@@ -113,14 +104,10 @@ pub fn ints(line: &[u8], out: &mut [i32]) -> usize
     ensures counts_ints { CountsInts result out.new }
 {
     let mut next: usize = 0;
-    let mut i: usize = 0;
-    while i < line.len() {
-        let b = line[i];
-        i += 1;
-        if b != b' ' {
-            continue;
+    for (i, b) in line.iter().enumerate() {
+        if *b == b' ' {
+            next = put_value(out, next, int(until(&line[i + 1..], b' ')));
         }
-        next = put_value(out, next, int(until(&line[i..], b' ')));
     }
     next
 }
@@ -131,15 +118,14 @@ pub fn bytes(text: &[u8], out: &mut [u8]) -> usize
     ensures prefix_len { IsPrefixLen result out.new }
 {
     let mut next: usize = 0;
-    let mut i: usize = 0;
-    while i + 1 < text.len() {
-        next = put_byte(out, next, digit(text[i]) * 16 + digit(text[i + 1]));
-        i += 2;
+    for i in 0..text.len() / 2 {
+        next = put_byte(out, next, digit(text[2 * i]) * 16 + digit(text[2 * i + 1]));
     }
     next
 }
 
 // Writes a byte into a buffer at a place; returns the place after it. A full buffer is unchanged.
+#[tactic(auto, unfolding(crate::specs::Buffer::put_byte))]
 pub fn put_byte(out: &mut [u8], at: usize, b: u8) -> usize
     ensures out_value { put_byte b (record { next = at; out = out.old }) ≡ record { next = result; out = out.new } }
     ensures prefix_len { IsPrefixLen result out.new }
@@ -156,10 +142,8 @@ pub fn put(out: &mut [u8], at: usize, text: &[u8]) -> usize
     ensures { puts text.now (record { next = at; out = out.old }) ≡ record { next = result; out = out.new } }
 {
     let mut next = at;
-    let mut i: usize = 0;
-    while i < text.len() {
-        next = put_byte(out, next, text[i]);
-        i += 1;
+    for b in text {
+        next = put_byte(out, next, *b);
     }
     next
 }
@@ -189,14 +173,9 @@ pub fn put_ints(out: &mut [u8], at: usize, area: &[i32], count: usize) -> usize
     ensures { puts (Numbers.list (take count area.now)) (record { next = at; out = out.old }) ≡ record { next = result; out = out.new } }
 {
     let mut next = at;
-    let mut i: usize = 0;
-    while i < count {
-        if area.len() <= i {
-            return next;
-        }
+    for n in &area[..count.min(area.len())] {
         next = put_byte(out, next, b' ');
-        next = put_int(out, next, area[i]);
-        i += 1;
+        next = put_int(out, next, *n);
     }
     next
 }
@@ -217,12 +196,9 @@ pub fn put_hex(out: &mut [u8], at: usize, bytes: &[u8]) -> usize
         return put_byte(out, at, b'-');
     }
     let mut next = at;
-    let mut i: usize = 0;
-    while i < bytes.len() {
-        let b = bytes[i];
-        next = put_byte(out, next, glyph(b / 16));
-        next = put_byte(out, next, glyph(b % 16));
-        i += 1;
+    for b in bytes {
+        next = put_byte(out, next, glyph(*b / 16));
+        next = put_byte(out, next, glyph(*b % 16));
     }
     next
 }
@@ -232,10 +208,7 @@ pub fn put_bytes(out: &mut [u8], at: usize, area: &[u8], count: usize) -> usize
     ensures { puts (Answers.bytes (take count area.now)) (record { next = at; out = out.old }) ≡ record { next = result; out = out.new } }
 {
     let next = put_byte(out, at, b' ');
-    if area.len() < count {
-        return put_hex(out, next, area);
-    }
-    put_hex(out, next, &area[..count])
+    put_hex(out, next, &area[..count.min(area.len())])
 }
 
 // Writes a space and a number into a buffer at a place; returns the place after them.
@@ -251,7 +224,7 @@ pub fn put_refused(out: &mut [u8], e: Error) -> usize
     ensures { puts (Answers.refused (number e)) (record { next = 0; out = out.old }) ≡ record { next = result; out = out.new } }
 {
     let next = put(out, 0, b"refused");
-    put_next(out, next, format::error_number(e) as usize)
+    put_next(out, next, u32::from(e) as usize)
 }
 
 // Writes the answer for a line that is no case at the front of a buffer; returns the place after it.

@@ -17,6 +17,7 @@ pub struct Line {
 
 impl Line {
     // An empty line.
+    #[tactic(auto, unfolding(crate::specs::Lines::no_text))]
     pub fn new() -> Line
         ensures { line_of result ≡ no_text }
     {
@@ -36,6 +37,7 @@ impl Line {
     }
 
     // Adds a text.
+    #[tactic(auto, unfolding(crate::specs::Lines::adds))]
     pub fn text(self, words: &[u8]) -> Line
         ensures { adds words.now (line_of self) ≡ line_of result }
     {
@@ -45,6 +47,7 @@ impl Line {
     }
 
     // Adds a number.
+    #[tactic(auto, unfolding(crate::specs::Lines::adds))]
     pub fn number(self, n: usize) -> Line
         ensures { adds (Numbers.decimal n) (line_of self) ≡ line_of result }
     {
@@ -54,6 +57,7 @@ impl Line {
     }
 
     // Adds an int.
+    #[tactic(auto, unfolding(crate::specs::Lines::adds))]
     pub fn int(self, n: i32) -> Line
         ensures { adds (Numbers.signed n) (line_of self) ≡ line_of result }
     {
@@ -63,6 +67,7 @@ impl Line {
     }
 
     // Adds the first ints of an area, a space before each.
+    #[tactic(auto, unfolding(crate::specs::Lines::adds))]
     pub fn ints(self, area: &[i32], count: usize) -> Line
         ensures { adds (Numbers.list (take count area.now)) (line_of self) ≡ line_of result }
     {
@@ -72,6 +77,7 @@ impl Line {
     }
 
     // Adds a space and the first bytes of an area in hexadecimal digits, or a minus if there are none.
+    #[tactic(auto, unfolding(crate::specs::Lines::adds))]
     pub fn bytes(self, area: &[u8], count: usize) -> Line
         ensures { adds (Answers.bytes (take count area.now)) (line_of self) ≡ line_of result }
     {
@@ -81,6 +87,7 @@ impl Line {
     }
 
     // Adds a space, unless the line is empty.
+    #[tactic(auto, unfolding(crate::specs::Lines::gapped))]
     pub fn gap(self) -> Line
         ensures { gapped (line_of self) ≡ line_of result }
     {

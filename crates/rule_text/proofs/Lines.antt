@@ -12,8 +12,6 @@ use Rattle.definitions.specs.TableCalls.{held}
 use Rattle.definitions.specs.Rules.{Winner, winner_for, winner_call}
 use Rattle.replay_text.specs.Buffer.{Put, put_byte, puts}
 use Rattle.replay_text.specs.Numbers.{signed}
-use Rattle.rules.specs.Answers.{won}
-use Rattle.rules.specs.declared.Won.{Won}
 use Rattle.table_text.specs.Reading.{tabled, unwarned}
 use Rattle.table_text.proofs.Texts.{both-put}
 use Rattle.rule_text.specs.RuleLine.{winner_text, won_text, rule_line}
@@ -28,10 +26,6 @@ winner-put k a p {q₁} ek ea e₁ e₂ e₃ e₄ =
     ∙ both-put (signed k ++ (32 ∷ signed a)) (10 ∷ []) p
     (both-put (signed k) (32 ∷ signed a) p e₁ (both-put (32 ∷ []) (signed a) q₁ e₂ e₃))
     e₄
-
--- the line of an answer whose case is known
-pub answer-put : {x y : Won} (p : Put) {w : Put} → x ≡ y → puts (won_text (won y)) p ≡ w → puts (won_text (won x)) p ≡ w
-answer-put p e f = ap (λ (a : Won). puts (won_text (won a)) p) e ∙ f
 
 -- no line shows warnings
 text-after : (w : Counts) (o : Outcome (Option Winner)) → won_text (after w o) ≡ won_text o

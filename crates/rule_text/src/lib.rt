@@ -7,7 +7,7 @@ ghost use Rattle.replay_text.specs.Buffer.{puts};
 ghost use Rattle.rules.specs.Answers.{won};
 ghost use Rattle.rule_text.specs.RuleLine.{winner_text, won_text, rule_line};
 
-use format::Stored;
+use format::Error;
 use replay_text::{put, put_byte, put_int};
 use rules::Won;
 use table_text::put_refusal;
@@ -25,13 +25,13 @@ fn put_winner(out: &mut [u8], key: i32, action: i32) -> usize
 }
 
 // Writes the line of an answer at the front of a buffer.
-fn put_won(out: &mut [u8], answer: Won) -> usize
+fn put_won(out: &mut [u8], answer: Result<Option<Won>, Error>) -> usize
     ensures { puts (won_text (won answer)) (record { next = 0; out = out.old }) ≡ record { next = result; out = out.new } }
 {
     match answer {
-        Won::Rule { key, action } => put_winner(out, key, action),
-        Won::Nothing => put(out, 0, b"no rule\n"),
-        Won::Refused(e) => put_refusal(out, e),
+        Ok(Some(won)) => put_winner(out, won.key, won.action),
+        Ok(None) => put(out, 0, b"no rule\n"),
+        Err(e) => put_refusal(out, e),
     }
 }
 
@@ -41,9 +41,8 @@ pub fn rule_line(src: &[u8], types: &[u16], ingredient: i32, out: &mut [u8]) -> 
     ensures prefix_len { IsPrefixLen result out.new }
 {
     let mut area = [0i32; 16384];
-    let read = table_text::checked::read_table(src, &mut area);
-    match read {
-        Stored::Ints(_) => put_won(out, rules::winner(&area, types, ingredient)),
-        Stored::Refused(e) => put_refusal(out, e),
+    match table_text::checked::read_table(src, &mut area) {
+        Ok(_) => put_won(out, rules::winner(&area, types, ingredient)),
+        Err(e) => put_refusal(out, e),
     }
 }

@@ -4,7 +4,6 @@
 ghost use Rattle.io.specs.Counts.{IsPrefixLen};
 
 use replay_text::input::read_full;
-use rule_text::arguments::{IntWord, TypeWord};
 use std::env::{Env, FillError};
 use std::io::{Input, Result};
 use std::rt::HostRuntime;
@@ -13,18 +12,12 @@ use std::rt::HostRuntime;
 fn arg(rt: &impl Env, i: usize, area: &mut [u8]) -> usize
     ensures { IsPrefixLen result area.new }
 {
-    match rt.arg(i, area) {
-        Ok(len) => len,
-        Err(_) => 0,
-    }
+    rt.arg(i, area).unwrap_or(0)
 }
 
 // Whether there is no argument with this number, from 0 on.
 fn is_missing(rt: &impl Env, i: usize) -> bool {
-    match rt.arg(i, &mut []) {
-        Err(FillError::NotPresent) => true,
-        _ => false,
-    }
+    matches!(rt.arg(i, &mut []), Err(FillError::NotPresent))
 }
 
 // How many arguments there are, or 1,027 if there are more. The program's name is counted as an argument.
@@ -38,14 +31,14 @@ fn arg_count(rt: &impl Env) -> usize {
 }
 
 // The type that an argument names. An argument that is too long is read as empty, so it is no type.
-fn type_at(rt: &impl Env, i: usize) -> TypeWord {
+fn type_at(rt: &impl Env, i: usize) -> Option<u16> {
     let mut word = io::buffer();
     let len = arg(rt, i, &mut word);
     rule_text::arguments::type_of(&word[..len])
 }
 
 // The int that an argument is.
-fn int_at(rt: &impl Env, i: usize) -> IntWord {
+fn int_at(rt: &impl Env, i: usize) -> Option<i32> {
     let mut word = io::buffer();
     let len = arg(rt, i, &mut word);
     rule_text::arguments::int_of(&word[..len])
@@ -53,13 +46,11 @@ fn int_at(rt: &impl Env, i: usize) -> IntWord {
 
 // Reads as many types as there is room for, from the first argument on; returns whether all are types.
 fn read_types(rt: &impl Env, types: &mut [u16]) -> bool {
-    let mut i: usize = 0;
-    while i < types.len() {
-        let TypeWord::Type(t) = type_at(rt, i + 1) else {
+    for (i, slot) in types.iter_mut().enumerate() {
+        let Some(t) = type_at(rt, i + 1) else {
             return false;
         };
-        types[i] = t;
-        i += 1;
+        *slot = t;
     }
     true
 }
@@ -91,7 +82,7 @@ fn has_replied(rt: &(impl Env + Input + Print)) -> Result<bool> {
     if 1026 < count {
         return Ok(false);
     }
-    let IntWord::Int(ingredient) = int_at(rt, count - 1) else {
+    let Some(ingredient) = int_at(rt, count - 1) else {
         return Ok(false);
     };
     let mut types = [0u16; 1024];

@@ -8,6 +8,8 @@ use borrow.Author.Tests.{le-ltb}
 use Rattle.definitions.specs.Ints.{from_bits, signed_less}
 use Rattle.definitions.specs.Receiver.{same}
 use Rattle.definitions.specs.Rules.{Rule, goes_before, first_of}
+use Rattle.std.specs.Prelude.{Some}
+use Rattle.rules.specs.declared.checked.Best.{Best}
 use Rattle.rules.specs.Searching.{best_in, first_best}
 
 -- of two rules the one with the lesser key goes first only if its priority is higher
@@ -22,11 +24,14 @@ lower-first r s l =
 
 -- the first of a rule and one with a greater key, as the search keeps it
 pub first-best : (r : Rule) (o : Option Rule) → ((s : Rule) → o ≡ some s → r.key < s.key)
-    → best_in (first_of r o) ≡ first_best (from_bits r.key) r.priority r.action (best_in o)
+    → best_in (first_of r o) ≡ Some (first_best (record { key = from_bits r.key; priority = r.priority; action = r.action }) (best_in o))
 first-best r none above = refl
 first-best r (some s) above = rw (lower-first r s (above s refl)) (go (signed_less s.priority r.priority))
   where
-    go : (b : Bool) → best_in (cond b (some r) (some s)) ≡ cond b (best_in (some r)) (best_in (some s))
+    kept : Rule → Best
+    kept q = record { key = from_bits q.key; priority = q.priority; action = q.action }
+
+    go : (b : Bool) → best_in (cond b (some r) (some s)) ≡ Some (cond b (kept r) (kept s))
     go true = refl
     go false = refl
 

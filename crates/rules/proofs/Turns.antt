@@ -7,6 +7,11 @@ use Prim.Native.Nat.{ℕ, zero, suc, ◌+◌, ◌/◌, ◌<◌, ◌≤◌}
 use native.Mathlib.Omega.{arith}
 use native.Mathlib.Numerals.{add-one}
 use borrow.Author.Tests.{eq-eqb, ne_eqb}
+use Rattle.std.specs.Prelude.{Some, None}
+use Rattle.std.specs.Prelude as Code
+use Rattle.std.specs.List.{list_any}
+use Rattle.std.proofs.lemmas.Bool.Decides.{nat_tests}
+use lib.Dec.{eqb}
 use lib.IntN.{ℤ, pos}
 use lib.ListN.{length, get_or, drop, drop_of_length-le}
 use lib.Seq.{drop-cons}
@@ -25,18 +30,18 @@ use Rattle.laws.specs.TableRoundTrip.{no_item}
 use Rattle.table.specs.Held.{Held}
 use Rattle.rules.specs.Searching.{best_in, first_best, told}
 use Rattle.rules.specs.declared.checked.Best.{Best}
-use Rattle.rules.specs.declared.checked.Best.TheVariants as best
 use Rattle.rules.proofs.Bests.{first-best, one_of}
 
 -- ---- a list that names types
 
--- the first entry is the type
-pub is-named : (k : ℕ) (l : List ℕ) (i : ℕ) → i < length l → k ≡ get_or l i 0 → elem k (drop i l) ≡ true
-is-named k l i b e = rw (drop-cons l i 0 b, eq-eqb k (get_or l i 0) e)
+-- two numbers compared either way
+eqb-sym : (m k : ℕ) → eqb m k ≡ eqb k m
+eqb-sym m k = grind (arith, nat_tests)
 
--- it is another one
-pub not-here : (k : ℕ) (l : List ℕ) (i : ℕ) → i < length l → (k ≡ get_or l i 0 → ⊥) → elem k (drop i l) ≡ elem k (drop (i + 1) l)
-not-here k l i b e = rw (drop-cons l i 0 b, ne_eqb k (get_or l i 0) e, add-one i)
+-- whether the list contains the type
+pub named-is : (k : ℕ) (l : List ℕ) → list_any (λ x. eqb x k) l ≡ elem k l
+named-is k [] = refl
+named-is k (x ∷ l) = rw (eqb-sym x k, named-is k l)
 
 -- ---- the rules of a table, item by item
 
@@ -73,7 +78,7 @@ among-drop (y ∷ t) (suc m) e = there (among-drop t m e)
 -- ---- the state of the search
 
 -- the items from m on have these rules, and b is the best of them; the items before have lesser keys
-pub record Searched (types : List ℕ) (i : ℤ) (a : List ℤ) (m : ℕ) (b : Best) : Type 0 where
+pub record Searched (types : List ℕ) (i : ℤ) (a : List ℤ) (m : ℕ) (b : Code.Option Best) : Type 0 where
   pub rules : List Rule
   pub rules-are : rules_of types (drop m (items a)) ≡ return rules
   pub best-is : b ≡ best_in (winner_of i rules)
@@ -85,7 +90,7 @@ module _ (types : List ℕ) (i : ℤ) (a : List ℤ) (n : ℕ) (h : Held a n) wh
   few = length-items a h.shape ∙ sym h.count-is
 
   -- no item was looked at
-  pub none-searched : Searched types i a n best.Nothing
+  pub none-searched : Searched types i a n None
   none-searched =
       record {
         rules = [];
@@ -101,7 +106,7 @@ module _ (types : List ℕ) (i : ℤ) (a : List ℤ) (n : ℕ) (h : Held a n) wh
           omega arith
 
   -- all were
-  pub all-searched : (b : Best) → Searched types i a 0 b → winner_for types i (items a) ≡ told b
+  pub all-searched : (b : Code.Option Best) → Searched types i a 0 b → winner_for types i (items a) ≡ told b
   all-searched b s = rw (s.rules-are, s.best-is) (go (winner_of i s.rules))
     where
       go : (o : Option Rule) → return (winner_in o) ≡ told (best_in o)
@@ -120,7 +125,7 @@ module _ (types : List ℕ) (i : ℤ) (a : List ℤ) (n : ℕ) (h : Held a n) wh
         here-is = unfold items in get_or-list (item_at a) (count a) m no_item (omega (arith, h.count-is))
 
     -- its type is not named
-    pub skipped : (b : Best) → elem (key_at a m / 65536) types ≡ false → Searched types i a k b → Searched types i a m b
+    pub skipped : (b : Code.Option Best) → elem (key_at a m / 65536) types ≡ false → Searched types i a k b → Searched types i a m b
     skipped b e s =
         record {
           rules = s.rules;
@@ -141,7 +146,7 @@ module _ (types : List ℕ) (i : ℤ) (a : List ℤ) (n : ℕ) (h : Held a n) wh
         }))
 
     -- it is a rule: its data has three ints
-    module _ (b : Best) (s : Searched types i a k b) (named : elem (key_at a m / 65536) types ≡ true) (v : List ℤ) (data_is : v ≡ values_at a m)
+    module _ (b : Code.Option Best) (s : Searched types i a k b) (named : elem (key_at a m / 65536) types ≡ true) (v : List ℤ) (data_is : v ≡ values_at a m)
         (three : 3 ≤ length v) where
       this : Rule
       this = rule_of_ints (key_at a m) v
@@ -167,7 +172,7 @@ module _ (types : List ℕ) (i : ℤ) (a : List ℤ) (n : ℕ) (h : Held a n) wh
 
       -- it is for the ingredient
       pub for-it : (key : ℤ) (r : Best) → key ≡ from_bits (key_at a m) → bits (get_or v 0 (pos 0)) ≡ bits i
-          → r ≡ first_best key (get_or v 1 (pos 0)) (get_or v 2 (pos 0)) b → Searched types i a m r
+          → r ≡ first_best (record { key = key; priority = get_or v 1 (pos 0); action = get_or v 2 (pos 0) }) b → Searched types i a m (Some r)
       unfolding this
       for-it key r key-is e f =
           let w : winner_of i (this ∷ s.rules) ≡ first_of this (winner_of i s.rules) = unfold winner_of in rw (eq-eqb (bits (get_or v 0 (pos 0))) (bits i) e) in
@@ -175,7 +180,7 @@ module _ (types : List ℕ) (i : ℤ) (a : List ℤ) (n : ℕ) (h : Held a n) wh
             rules = this ∷ s.rules;
             rules-are = these;
             best-is =
-                f
+                ap Some f
                 ∙ rw (key-is, s.best-is)
                 (sym (first-best this (winner_of i s.rules) (λ q g. s.above q g m (omega arith))) ∙ ap best_in (sym w));
             above = λ q g j o.

@@ -6,24 +6,22 @@ ghost use Rattle.definitions.specs.Rules.{winner_call};
 ghost use Rattle.rules.specs.Answers.{won};
 
 use format::Error;
-use table::checked::TableForm;
 
 pub mod checked;
 
-// The key and the action of the rule that wins, or that none matches, or why the table is refused.
+// The key and the action of the rule that wins.
 #[derive(Clone, Copy)]
-pub enum Won {
-    Rule { key: i32, action: i32 },
-    Nothing,
-    Refused(Error),
+pub struct Won {
+    pub key: i32,
+    pub action: i32,
 }
 
-// The winner for an ingredient among the items of the named types.
-pub fn winner(area: &[i32], types: &[u16], ingredient: i32) -> Won
+// The winner for an ingredient among the items of the named types, if a rule matches.
+pub fn winner(area: &[i32], types: &[u16], ingredient: i32) -> Result<Option<Won>, Error>
     ensures { winner_call area.now types.now ingredient ≡ won result }
 {
-    let TableForm::Table { items: n, ints: _ } = table::checked::form(area) else {
-        return Won::Refused(Error::NotInForm);
+    let Some(form) = table::checked::form(area) else {
+        return Err(Error::NotInForm);
     };
-    checked::search(area, n, types, ingredient)
+    checked::search(area, form.items, types, ingredient)
 }

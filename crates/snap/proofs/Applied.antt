@@ -2,6 +2,7 @@
 use mathlib.Core.Path.{◌≡◌, sym, ap, ◌∙◌}
 use mathlib.Core.List.{List}
 use Prim.Native.Nat.{ℕ}
+use Rattle.std.specs.Prelude.{Result, Ok, Err, Some}
 use lib.IntN.{ℤ}
 use Rattle.definitions.specs.Warnings.{Counts}
 use Rattle.definitions.specs.Outcome.{Outcome, ok, return, after, ◌>>=◌, Wrote}
@@ -15,32 +16,24 @@ use Rattle.laws.specs.StoredLaws.{counting}
 use Rattle.table_reading.specs.Counted.{table-after}
 use Rattle.format.specs.Answers.{stored_ints, stored_with, with-counts}
 use Rattle.format.specs.declared.Error.{Error}
-use Rattle.format.specs.declared.Stored.{Stored}
-use Rattle.format.specs.declared.Stored.TheVariants as stored_as
 use Rattle.format.specs.Sources.{typed_counts}
 use Rattle.table.specs.Held.{form_of}
-use Rattle.table.specs.declared.checked.TableForm.TheVariants as table_form
+use Rattle.table.specs.declared.checked.TableForm.{TableForm}
 use Rattle.table.specs.Writing.{is_held}
-use Rattle.typed_applying.specs.Answers.{typed_table, Stands}
+use Rattle.typed_applying.specs.Answers.{typed_table}
 use Rattle.typed_applying.specs.declared.checked.Typed.{Typed}
-use Rattle.typed_applying.specs.declared.checked.Table as Made
-use Rattle.typed_applying.specs.declared.checked.Table.TheVariants as table
-
--- the area begins with a table that was made
-pub made-form : (front : List ℤ) (t : Made.Table) (n k : ℕ) → t ≡ table.Made n k → Stands front t → table_form.Table n k ≡ form_of (table_of front)
-made-form front t n k e s = rw e at s
 
 module _ (out front : List ℤ) (r : Typed) (w : Counts) (q : w ≡ typed_counts r.unknown_delete r.excess) where
   -- it is refused
-  pub store-refused : (x : Error) → r.table ≡ table.Refused x → stored_table out (typed_table (items front) r) ≡ record { answer = stored_with (stored_as.Refused x) w; out = out }
+  pub store-refused : (x : Error) → r.table ≡ Err x → stored_table out (typed_table (items front) r) ≡ record { answer = stored_with (Err x) w; out = out }
   unfolding stored
   store-refused x e = rw (e, q)
 
-  module _ (n k : ℕ) (e : r.table ≡ table.Made n k) (s : Stands front r.table) where
+  module _ (f : TableForm) (e : r.table ≡ Ok f) (s : Some f ≡ form_of (table_of front)) where
     -- it is copied
-    pub store-copied : (a : Stored) (last : List ℤ) → write_to_ints_call front out ≡ record { answer = stored_ints a; out = last } → stored_table out (typed_table (items front) r) ≡ record { answer = stored_with a w; out = last }
+    pub store-copied : (a : Result ℕ Error) (last : List ℤ) → write_to_ints_call front out ≡ record { answer = stored_ints a; out = last } → stored_table out (typed_table (items front) r) ≡ record { answer = stored_with a w; out = last }
     store-copied a last c =
-        let t : stored_table out (return (items front)) ≡ record { answer = stored_ints a; out = last } = rw (is_held front (made-form front r.table n k e s)) at c in
+        let t : stored_table out (return (items front)) ≡ record { answer = stored_ints a; out = last } = rw (is_held front s) at c in
         let m : typed_table (items front) r ≡ after w (return (items front)) = rw (e, q) (ap (ok (items front)) (sym (plus_none (typed_counts r.unknown_delete r.excess)))) in
         ap (stored_table out) m
         ∙ table-after out w (return (items front))

@@ -4,6 +4,8 @@ use mathlib.Core.Bool.{false}
 use mathlib.Core.List.{List, []}
 use mathlib.Core.Option.{Option, none}
 use Prim.Native.Nat.{ℕ}
+use Rattle.std.specs.Prelude.{Result, Ok, Err, Some, None}
+use Rattle.std.specs.Prelude as Code
 use lib.IntN.{ℤ}
 use Rattle.definitions.specs.Refusals.{not_in_form}
 use Rattle.definitions.specs.Warnings.{plus}
@@ -18,15 +20,12 @@ use Rattle.laws.specs.TableShape.{some_is}
 use Rattle.format.specs.Numbers.{number}
 use Rattle.format.specs.declared.Error.{Error}
 use Rattle.table.specs.Held.{Held, form_of}
-use Rattle.table.specs.declared.checked.TableForm.TheVariants as form
 use Rattle.table.specs.Writing.{not-held}
-use Rattle.snap.specs.declared.RawTypeId.{RawTypeId}
-use Rattle.snap.specs.declared.RawTypeId.TheVariants as raw
 use Rattle.snap.specs.Answers.{raw_type, raw_type_in}
 
 -- ---- an area that is not in form
 
-module _ (a : List ℤ) (e : form.Bad ≡ form_of (table_of a)) where
+module _ (a : List ℤ) (e : None ≡ form_of (table_of a)) where
   pub no-raw-type : (y : TypeId) → raw_type_id_call a y ≡ refuse not_in_form
   no-raw-type y = rw (not-held a e)
 
@@ -61,7 +60,7 @@ module _ (a : List ℤ) (n : ℕ) (h : Held a n) where
   pub type-is : (m : ℕ) → type_id_call a m ≡ return (type_id (items a) m)
   type-is m = rw is_held
 
-  module _ (y : TypeId) (id : ℕ) (r : RawTypeId) (e : raw_type_in (items a) y ≡ raw_type r) where
+  module _ (y : TypeId) (id : ℕ) (r : Result (Code.Option ℕ) Error) (e : raw_type_in (items a) y ≡ raw_type r) where
     by-raw : typed_item a y id ≡ (raw_type r >>= λ o. return (item_with (items a) o id))
     unfolding typed_item
     by-raw =
@@ -69,21 +68,21 @@ module _ (a : List ℤ) (n : ℕ) (h : Held a n) where
         ∙ test-then (judge_type_id y) (raw_type_id (items a) y) (λ o. item_with (items a) o id)
         ∙ ap (λ (o : Outcome (Option ℕ)). o >>= λ p. return (item_with (items a) p id)) e
 
-    module _ (x : Error) (q : r ≡ raw.Refused x) where
+    module _ (x : Error) (q : r ≡ Err x) where
       refused : typed_item a y id ≡ refuse (number x)
       refused = by-raw ∙ rw q
 
       pub has-refused : typed_has_item_call a y id ≡ refuse (number x)
       has-refused = rw refused
 
-    module _ (q : r ≡ raw.Unknown) where
+    module _ (q : r ≡ Ok None) where
       unknown : typed_item a y id ≡ return none
       unknown = by-raw ∙ rw q
 
       pub has-unknown : typed_has_item_call a y id ≡ return false
       has-unknown = rw unknown
 
-    module _ (m : ℕ) (q : r ≡ raw.Raw m) where
+    module _ (m : ℕ) (q : r ≡ Ok (Some m)) where
       known : typed_item a y id ≡ return (find (key_of m id) (items a))
       known = by-raw ∙ rw q
 
@@ -94,7 +93,7 @@ module _ (a : List ℤ) (n : ℕ) (h : Held a n) where
       item-known = rw known
 
 -- no raw type, or a refusal: no item
-pub item-other : (a : List ℤ) (n : ℕ) (h : Held a n) (y : TypeId) (id : ℕ) (r : RawTypeId) → raw_type_in (items a) y ≡ raw_type r → ((m : ℕ) → r ≡ raw.Raw m → ⊥) → [] ≡ typed_item_call a y id
-item-other a n h y id (raw.Raw m) e d = absurd (d m refl)
-item-other a n h y id raw.Unknown e d = rw (unknown a n h y id raw.Unknown e refl)
-item-other a n h y id (raw.Refused x) e d = rw (refused a n h y id (raw.Refused x) e x refl)
+pub item-other : (a : List ℤ) (n : ℕ) (h : Held a n) (y : TypeId) (id : ℕ) (r : Result (Code.Option ℕ) Error) → raw_type_in (items a) y ≡ raw_type r → ((m : ℕ) → r ≡ Ok (Some m) → ⊥) → [] ≡ typed_item_call a y id
+item-other a n h y id (Ok (Some m)) e d = absurd (d m refl)
+item-other a n h y id (Ok None) e d = rw (unknown a n h y id (Ok None) e refl)
+item-other a n h y id (Err x) e d = rw (refused a n h y id (Err x) e x refl)

@@ -5,6 +5,7 @@ use mathlib.Core.List.{List}
 use Prim.Native.Nat.{ℕ, ◌≤◌, ◌<◌}
 use native.Mathlib.Nat.{zero-add}
 use borrow.Author.Tests.{le-leb, lt-leb}
+use Rattle.std.specs.Prelude.{Result}
 use lib.IntN.{ℤ}
 use lib.ListN.{length}
 use Rattle.definitions.specs.Refusals.{scratch_too_short, input_too_long}
@@ -16,7 +17,7 @@ use Rattle.definitions.specs.Types.{typed_read_from_ints_call}
 use Rattle.laws.specs.OutcomeLaws.{after_none}
 use Rattle.format.specs.Answers.{stored_with}
 use Rattle.format.specs.Sources.{excess, uuid_excess, table_counts}
-use Rattle.format.specs.declared.Stored.{Stored}
+use Rattle.format.specs.declared.Error.{Error}
 use Rattle.snap.specs.Answers.{typed_table}
 
 -- the counts of ints left over and of kinds
@@ -34,7 +35,7 @@ module _ (src out : List ℤ) (scratch : ℕ) where
     unfolding stored
     ints-too-long k = rw (le-leb 16384 scratch h, lt-leb (length src) 1048576 k)
 
-    pub ints-read : (last : List ℤ) (r : Stored) (x : Bool) (k : ℕ) (w : Counts) → length src ≤ 1048576 → w ≡ table_counts 0 (cond x 1 0) k → stored_table out (typed_table src) ≡ record { answer = stored_with r (plus (excess x) (uuid_excess k)); out = last } → typed_read_from_ints_call src out scratch ≡ record { answer = stored_with r w; out = last }
+    pub ints-read : (last : List ℤ) (r : Result ℕ Error) (x : Bool) (k : ℕ) (w : Counts) → length src ≤ 1048576 → w ≡ table_counts 0 (cond x 1 0) k → stored_table out (typed_table src) ≡ record { answer = stored_with r (plus (excess x) (uuid_excess k)); out = last } → typed_read_from_ints_call src out scratch ≡ record { answer = stored_with r w; out = last }
     ints-read last r x k w l q e =
         rw (le-leb 16384 scratch h, le-leb (length src) 1048576 l)
         (ap (stored_table out) (after_none (after none (typed_table src)) ∙ after_none (typed_table src))

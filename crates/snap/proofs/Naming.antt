@@ -2,23 +2,26 @@
 use mathlib.Core.Path.{◌≡◌, refl, sym, ap, ◌∙◌}
 use mathlib.Core.Bool.{Bool, true, false, cond, ◌&&◌}
 use mathlib.Core.List.{List, [], ◌∷◌}
+use mathlib.Core.Logic.{⊎_elim}
 use mathlib.Core.Option.{some, none}
 use Prim.Native.Nat.{ℕ, suc, ◌+◌, ◌-◌, ◌/◌, ◌%◌, ◌≤◌, ◌<◌}
 use native.Mathlib.Numerals.{add-one}
 use native.Mathlib.Omega.{arith}
 use borrow.Author.Tests.{eq-eqb, ne_eqb, eqb-true, lt-ltb, le-ltb, le-leb, lt-leb}
-use lib.Dec.{eqb}
+use lib.Dec.{eqb, ltb}
+use Rattle.std.specs.Prelude.{Ok, Option, Some, None}
 use lib.IntN.{ℤ, pos}
 use lib.ListN.{length, get_or, take}
 use Rattle.definitions.specs.Ints.{bits}
 use Rattle.definitions.specs.Refusals.{invalid_type_id}
 use Rattle.definitions.specs.Outcome.{return, refuse}
-use Rattle.definitions.specs.Tables.{Item, Table, key_of, values_at, find}
+use Rattle.definitions.specs.Tables.{Item, Table, key_of, values_at, find, is_some}
 use Rattle.definitions.specs.Types.{Ordinal, Uuid, same_ints, kind_number, judge_type_id, raw_type_id, type_id}
+use Rattle.laws.specs.Tests.{below}
 use Rattle.laws.specs.TableShape.{both}
 use Rattle.table.specs.Held.{data_in}
 use Rattle.types.specs.Picks.{seg}
-use Rattle.snap.specs.Answers.{number_in, names_kind, raw_type_in}
+use Rattle.snap.specs.Answers.{number_in, names_kind, raw_type, raw_type_in}
 
 -- ---- the first four ints
 
@@ -56,19 +59,29 @@ module _ (v : List ℤ) (a b c d : ℤ) (h : 4 ≤ length v) where
   four : same_ints (take 4 v) (a ∷ b ∷ c ∷ d ∷ []) ≡ (eqb (bits (at v 0)) (bits a) && (eqb (bits (at v 1)) (bits b) && (eqb (bits (at v 2)) (bits c) && eqb (bits (at v 3)) (bits d))))
   four = ap (λ (k : List ℤ). same_ints k (a ∷ b ∷ c ∷ d ∷ [])) (take-four v h) ∙ unfold same_ints in rw (and-true-last (eqb (bits (at v 3)) (bits d)))
 
-  pub not_first : (bits (at v 0) ≡ bits a → ⊥) → false ≡ same_ints (take 4 v) (a ∷ b ∷ c ∷ d ∷ [])
-  not_first n = sym (four ∙ rw (ne_eqb (bits (at v 0)) (bits a) n))
+-- four tests in a row
+in_a_row : (p q r s : Bool) → (((p && q) && r) && s) ≡ (p && (q && (r && s)))
+in_a_row true true r s = refl
+in_a_row true false r s = refl
+in_a_row false q r s = refl
 
-  module _ (e : bits (at v 0) ≡ bits a) where
-    pub not-second : (bits (at v 1) ≡ bits b → ⊥) → false ≡ same_ints (take 4 v) (a ∷ b ∷ c ∷ d ∷ [])
-    not-second n = sym (four ∙ rw (eq-eqb (bits (at v 0)) (bits a) e, ne_eqb (bits (at v 1)) (bits b) n))
+-- the result of a test after another one
+pub then-is : (x y e : Bool) → (x ≡ true → y ≡ e) → (x ≡ false → y ≡ false) → y ≡ (x && e)
+then-is true y e t f = t refl
+then-is false y e t f = f refl
 
-    module _ (f : bits (at v 1) ≡ bits b) where
-      pub not_third : (bits (at v 2) ≡ bits c → ⊥) → false ≡ same_ints (take 4 v) (a ∷ b ∷ c ∷ d ∷ [])
-      not_third n = sym (four ∙ rw (eq-eqb (bits (at v 0)) (bits a) e, eq-eqb (bits (at v 1)) (bits b) f, ne_eqb (bits (at v 2)) (bits c) n))
-
-      pub by-fourth : bits (at v 2) ≡ bits c → eqb (bits (at v 3)) (bits d) ≡ same_ints (take 4 v) (a ∷ b ∷ c ∷ d ∷ [])
-      by-fourth g = sym (four ∙ rw (eq-eqb (bits (at v 0)) (bits a) e, eq-eqb (bits (at v 1)) (bits b) f, eq-eqb (bits (at v 2)) (bits c) g))
+-- a test of the length, and one of each int
+pub by-ints : (v : List ℤ) (a b c d : ℤ) (x y z r : Bool) → (4 ≤ length v → x ≡ eqb (bits (at v 0)) (bits a)) → (length v < 4 → x ≡ false)
+    → y ≡ (x && eqb (bits (at v 1)) (bits b)) → z ≡ (y && eqb (bits (at v 2)) (bits c)) → r ≡ (z && eqb (bits (at v 3)) (bits d))
+    → r ≡ same_ints (take 4 v) (a ∷ b ∷ c ∷ d ∷ [])
+by-ints v a b c d x y z r long short f g h =
+    ⊎_elim
+    (λ (l : length v < 4). all ∙ rw (short l) (short-names v a b c d l))
+    (λ (l : 4 ≤ length v). all ∙ rw (long l) (in_a_row (eqb (bits (at v 0)) (bits a)) (eqb (bits (at v 1)) (bits b)) (eqb (bits (at v 2)) (bits c)) (eqb (bits (at v 3)) (bits d)) ∙ sym (four v a b c d l)))
+    (below (length v) 4)
+  where
+    all : r ≡ (((x && eqb (bits (at v 1)) (bits b)) && eqb (bits (at v 2)) (bits c)) && eqb (bits (at v 3)) (bits d))
+    all = h ∙ rw (g, f)
 
 -- ---- the number of a kind
 
@@ -92,11 +105,11 @@ module _ (k : List ℤ) (f : ℕ → Item) (n j : ℕ) where
       rw e (unfold kind_number names_kind in rw (add-one j))
 
   -- item j names the kind
-  pub number-here : j < n → names_kind k (f j) ≡ true → (r : ℕ) → r ≡ (f j).key % 65536 → kind_number k (seg f j (n - j)) ≡ number_in r
+  pub number-here : j < n → names_kind k (f j) ≡ true → (r : ℕ) → r ≡ (f j).key % 65536 → kind_number k (seg f j (n - j)) ≡ some r
   number-here h e r q =
       let z = named-type k (f j) e in
       let w : r ≡ (f j).key = omega (arith, z) in
-      number_step h ∙ rw (e, lt-ltb r 65536 (omega arith), w)
+      number_step h ∙ rw (e, w)
 
   pub number-on : j < n → names_kind k (f j) ≡ false → kind_number k (seg f j (n - j)) ≡ kind_number k (seg f (j + 1) (n - (j + 1)))
   number-on h e = number_step h ∙ rw e
@@ -119,14 +132,10 @@ module _ (t : Table) where
   unfolding judge_type_id raw_type_id
   ordinal-is n d h = rw (lt-ltb 0 n (omega arith), lt-ltb n 16384 h)
 
-  module _ (k : List ℤ) (r : ℕ) (e : kind_number k t ≡ number_in r) where
-    pub uuid-known : r < 65536 → raw_type_in t (Uuid k) ≡ return (some r)
-    unfolding judge_type_id raw_type_id
-    uuid-known h = rw (e, lt-ltb r 65536 h)
-
-    pub uuid-unknown : 65536 ≤ r → raw_type_in t (Uuid k) ≡ return none
-    unfolding judge_type_id raw_type_id
-    uuid-unknown h = rw (e, le-ltb r 65536 h)
+  pub uuid-is : (k : List ℤ) (r : Option ℕ) → kind_number k t ≡ number_in r → raw_type_in t (Uuid k) ≡ raw_type (Ok r)
+  unfolding judge_type_id raw_type_id
+  uuid-is k (Some r) e = rw e
+  uuid-is k None e = rw e
 
 -- ---- the type of a raw type
 
@@ -157,6 +166,14 @@ module _ (t : Table) (n : ℕ) where
 -- equal ints make equal kinds
 pub same_kind : {a b c d a' b' c' d' : ℤ} → a ≡ a' → b ≡ b' → c ≡ c' → d ≡ d' → some (Uuid (a ∷ b ∷ c ∷ d ∷ [])) ≡ some (Uuid (a' ∷ b' ∷ c' ∷ d' ∷ []))
 same_kind e f g h = λ i. some (Uuid (e i ∷ f i ∷ g i ∷ h i ∷ []))
+
+-- whether there is a place
+pub is-within : (a : List ℤ) (n r : ℕ) → is_some (data_in a n r) ≡ ltb r n
+is-within a n r = go (ltb r n)
+  where
+    go : (b : Bool) → is_some (cond b (some (values_at a r)) none) ≡ b
+    go true = refl
+    go false = refl
 
 -- what was found at a place
 pub found_at : (a : List ℤ) (n r : ℕ) → r < n → data_in a n r ≡ some (values_at a r)

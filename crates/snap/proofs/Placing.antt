@@ -1,17 +1,17 @@
 -- The result of storing a table whose types were judged. Assumes nothing.
-use mathlib.Core.Path.{◌≡◌, refl, sym, ap, subst, ◌∙◌}
-use mathlib.Core.Bool.{Bool}
+use mathlib.Core.Path.{◌≡◌, refl, sym, ap, ◌∙◌}
 use mathlib.Core.List.{List, [], ◌∷◌}
 use Prim.Native.Nat.{ℕ, suc, ◌+◌, ◌≤◌, ◌<◌}
 use native.Mathlib.Omega.{arith}
 use borrow.Author.Tests.{le-leb, lt-leb}
+use Rattle.std.specs.Prelude.{Result, Ok, Err}
 use lib.IntN.{ℤ}
 use lib.ListN.{length, take}
 use lib.Seq.{length-take-le}
 use Rattle.definitions.specs.Areas.{lay}
 use Rattle.definitions.specs.Refusals.{capacity_error}
 use Rattle.definitions.specs.Warnings.{Counts, plus}
-use Rattle.definitions.specs.Outcome.{Outcome, ok, err, refuse, ◌>>=◌}
+use Rattle.definitions.specs.Outcome.{Outcome, ok, err, ◌>>=◌}
 use Rattle.definitions.specs.Stored.{stored}
 use Rattle.definitions.specs.Tables.{Table, written, edge}
 use Rattle.definitions.specs.TableReading.{read_items, read_table}
@@ -24,37 +24,21 @@ use Rattle.laws.specs.TableForm.{length-written}
 use Rattle.format.specs.Numbers.{number}
 use Rattle.format.specs.Answers.{stored_with}
 use Rattle.format.specs.declared.Error.{Error}
-use Rattle.format.specs.declared.Stored.{Stored}
 use Rattle.format.specs.Sources.{excess, uuid_excess}
 use Rattle.table_reading.specs.Counted.{warned, told-after}
-use Rattle.table_reading.specs.Reading.{Indexed, picked, AllPlaced, all, refused, header_of, Headed, Ints}
-use Rattle.table_reading.specs.declared.checked.Placed.{Placed}
-use Rattle.table_reading.specs.declared.checked.Placed.TheVariants as placed
+use Rattle.table_reading.specs.Reading.{Indexed, picked, AllPlaced, all, refused, header_of}
 use Rattle.table_reading.specs.declared.checked.Header.{Header}
-use Rattle.table_reading.specs.declared.checked.Header.TheVariants as header
-use Rattle.types.specs.Picks.{Picks, table_in, picked-list}
+use Rattle.types.specs.Picks.{table_in, picked-list}
 use Rattle.snap.specs.Answers.{typed_items, typed_table}
 
 -- ---- what the answer to placing all items says
 
-pub placed-refused : {a : List ℤ} {n len : ℕ} {index : List ℕ} {r : Placed} {e : Error} (out : List ℤ) → r ≡ placed.Refused e → AllPlaced a n len index r → stored_table out (typed_items a n) ≡ record { answer = err (number e) (uuid_excess 0); out = out }
-placed-refused {a} {n} {len} {index} {e = e} out q p = go (subst (λ (r : Placed). AllPlaced a n len index r) q p)
-  where
-    stays : read_items a n ≡ refuse (number e) → stored_table out (typed_items a n) ≡ record { answer = err (number e) (uuid_excess 0); out = out }
-    stays h = unfold stored in rw h
+pub placed-refused : {a : List ℤ} {n len : ℕ} {index : List ℕ} {e : Error} (out : List ℤ) → AllPlaced a n len index (Err e) → stored_table out (typed_items a n) ≡ record { answer = err (number e) (uuid_excess 0); out = out }
+unfolding stored
+placed-refused out (refused h) = rw h
 
-    go : AllPlaced a n len index (placed.Refused e) → stored_table out (typed_items a n) ≡ record { answer = err (number e) (uuid_excess 0); out = out }
-    go (refused h) = stays h
-
-pub placed-all : {a : List ℤ} {n len : ℕ} {index : List ℕ} {r : Placed} → r ≡ placed.All → AllPlaced a n len index r → Indexed a n len index n
-placed-all {a} {n} {len} {index} q p = go (subst (λ (r : Placed). AllPlaced a n len index r) q p)
-  where
-    go : AllPlaced a n len index placed.All → Indexed a n len index n
-    go (all h) = h
-
--- the index picks the table
-pub picks : {a : List ℤ} {n len : ℕ} {index : List ℕ} → Indexed a n len index n → Picks a n index
-picks {len = len} x = record { len = len; indexed = x }
+pub placed-all : {a : List ℤ} {n len : ℕ} {index : List ℕ} → AllPlaced a n len index (Ok tt) → Indexed a n len index n
+placed-all (all h) = h
 
 -- ---- a table in an index
 
@@ -95,15 +79,11 @@ module _ (a : List ℤ) (n len : ℕ) (index : List ℕ) (x : Indexed a n len in
 
 -- ---- a table by its header
 
-module _ (a : List ℤ) (h : Header) (read : (read_table a ≡ header_of a h) × Headed a h) where
-  pub header_refused : (e : Error) (out : List ℤ) → h ≡ header.Refused e → stored_table out (typed_table a) ≡ record { answer = err (number e) (uuid_excess 0); out = out }
-  unfolding stored
-  header_refused e out q = rw (read.0, q)
+pub header_refused : (a : List ℤ) (e : Error) (out : List ℤ) → read_table a ≡ header_of a (Err e) → stored_table out (typed_table a) ≡ record { answer = err (number e) (uuid_excess 0); out = out }
+unfolding stored
+header_refused a e out q = rw q
 
-  pub headed : (n len : ℕ) (x : Bool) → h ≡ header.Table n len x → Ints a n len
-  headed n len x q = subst (Headed a) q read.1
-
-  pub header-table : (n len : ℕ) (x : Bool) (w : ℕ) (out last : List ℤ) (r : Stored) → h ≡ header.Table n len x → stored_table out (typed_items a n) ≡ record { answer = stored_with r (uuid_excess w); out = last } → stored_table out (typed_table a) ≡ record { answer = stored_with r (plus (excess x) (uuid_excess w)); out = last }
-  header-table n len x w out last r q e =
-      ap (stored_table out) (ap (λ (o : Outcome Table). o >>= typed) (read.0 ∙ ap (header_of a) q ∙ warned x (read_items a n)) ∙ after-bind (excess x) (read_items a n) typed)
-      ∙ told-after (excess x) (uuid_excess w) (typed_items a n) out last r e
+pub header-table : (a : List ℤ) (h : Header) (w : ℕ) (out last : List ℤ) (r : Result ℕ Error) → read_table a ≡ header_of a (Ok h) → stored_table out (typed_items a h.items) ≡ record { answer = stored_with r (uuid_excess w); out = last } → stored_table out (typed_table a) ≡ record { answer = stored_with r (plus (excess h.excess) (uuid_excess w)); out = last }
+header-table a h w out last r q e =
+    ap (stored_table out) (ap (λ (o : Outcome Table). o >>= typed) (q ∙ warned h.excess (read_items a h.items)) ∙ after-bind (excess h.excess) (read_items a h.items) typed)
+    ∙ told-after (excess h.excess) (uuid_excess w) (typed_items a h.items) out last r e

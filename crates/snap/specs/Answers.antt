@@ -1,18 +1,15 @@
 -- What the types and the answers of `snap` mean. Assumes nothing.
-use Rattle.std.specs.Prelude.{Bool, cond, ◌&&◌, List, [], ◌∷◌, ℕ, ltb, eqb, ℤ, take}
-use Rattle.std.proofs.Math.Option.{Option, some, none}
+use Rattle.std.specs.Prelude.{Bool, ◌&&◌, List, [], ◌∷◌, ℕ, eqb, ℤ, take, Result, Ok, Err, Option, Some, None}
+use Rattle.std.proofs.Math.Option as Maybe
 use Rattle.definitions.specs.Outcome.{Outcome, return, refuse, ◌>>=◌, ◌>>◌}
 use Rattle.definitions.specs.Tables.{Item, Table}
 use Rattle.definitions.specs.TableReading.{read_items, read_table}
 use Rattle.definitions.specs.Types.{same_ints, typed, judge_type_id, raw_type_id}
 use Rattle.definitions.specs.Types as Types
+use Rattle.format.specs.declared.Error.{Error}
 use Rattle.format.specs.Numbers.{number}
 use Rattle.snap.specs.declared.TypeId.{TypeId}
 use Rattle.snap.specs.declared.TypeId.TheVariants as type
-use Rattle.snap.specs.declared.RawTypeId.{RawTypeId}
-use Rattle.snap.specs.declared.RawTypeId.TheVariants as raw
-use Rattle.snap.specs.declared.TypeFound.{TypeFound}
-use Rattle.snap.specs.declared.TypeFound.TheVariants as found
 
 -- the type that the caller passes
 abbrev pub type_of : TypeId → Types.TypeId
@@ -20,21 +17,21 @@ type_of (type.Ordinal n) = Types.Ordinal n
 type_of (type.Uuid a b c d) = Types.Uuid (a ∷ b ∷ c ∷ d ∷ [])
 
 -- a raw type, or none
-abbrev pub raw_type : RawTypeId → Outcome (Option ℕ)
-raw_type (raw.Raw n) = return (some n)
-raw_type raw.Unknown = return none
-raw_type (raw.Refused e) = refuse (number e)
+abbrev pub raw_type : Result (Option ℕ) Error → Outcome (Maybe.Option ℕ)
+raw_type (Ok (Some n)) = return (Maybe.some n)
+raw_type (Ok None) = return Maybe.none
+raw_type (Err e) = refuse (number e)
 
 -- a type, or none
-abbrev pub type_found : TypeFound → Outcome (Option Types.TypeId)
-type_found (found.Ordinal n) = return (some (Types.Ordinal n))
-type_found (found.Uuid a b c d) = return (some (Types.Uuid (a ∷ b ∷ c ∷ d ∷ [])))
-type_found found.Unknown = return none
-type_found (found.Refused e) = refuse (number e)
+abbrev pub type_found : Result (Option TypeId) Error → Outcome (Maybe.Option Types.TypeId)
+type_found (Ok (Some t)) = return (Maybe.some (type_of t))
+type_found (Ok None) = return Maybe.none
+type_found (Err e) = refuse (number e)
 
--- a number of a kind; 65,536 is none
-abbrev pub number_in : ℕ → Option ℕ
-number_in n = cond (ltb n 65536) (some n) none
+-- a number of a kind, or none
+abbrev pub number_in : Option ℕ → Maybe.Option ℕ
+number_in (Some n) = Maybe.some n
+number_in None = Maybe.none
 
 -- whether an item is of type 0 and names a kind
 unfoldable pub names_kind : List ℤ → Item → Bool
@@ -49,5 +46,5 @@ abbrev pub typed_table : List ℤ → Outcome Table
 typed_table a = read_table a >>= typed
 
 -- the raw type of a type in a table
-abbrev pub raw_type_in : Table → Types.TypeId → Outcome (Option ℕ)
+abbrev pub raw_type_in : Table → Types.TypeId → Outcome (Maybe.Option ℕ)
 raw_type_in t type = judge_type_id type >> return (raw_type_id t type)

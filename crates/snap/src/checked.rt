@@ -1,5 +1,5 @@
 // The steps of reading a table with types and of applying a delta, and the types of a table in form.
-ghost use Rattle.std.specs.Prelude.{◌≡◌, ◌∷◌, [], ◌<◌, length, take};
+ghost use Rattle.std.specs.Prelude.{◌≡◌, ◌∷◌, [], ◌<◌, length, take, Ok};
 ghost use Rattle.definitions.specs.Warnings.{plus};
 ghost use Rattle.definitions.specs.Outcome.{return};
 ghost use Rattle.definitions.specs.Tables.{items, item_at, key_of};
@@ -11,27 +11,24 @@ ghost use Rattle.format.specs.Totals.{counts};
 ghost use Rattle.format.specs.Answers.{stored_with};
 ghost use Rattle.format.specs.Sources.{excess, uuid_excess, typed_counts};
 ghost use Rattle.table.specs.Held.{Held};
-ghost use Rattle.raw_snap.specs.Answers.{has_item};
 ghost use Rattle.table_reading.specs.Reading.{Ints};
 ghost use Rattle.typed_applying.specs.Answers.{Stands};
 ghost use Rattle.typed_applying.specs.Answers as Applying;
 ghost use Rattle.snap.specs.Answers.{type_of, raw_type, type_found, number_in, names_kind, typed_items, typed_table, raw_type_in};
 
-use super::{RawTypeId, TypeFound, TypeId};
-use format::{Error, Reading, Stored, Warnings};
-use raw_snap::Has;
-use raw_snap::checked::{
-    Areas, Unpacked, copy_table, judge_areas, packed_warnings, refused, unpack,
-};
+use super::TypeId;
+use format::{Error, Reading, Warnings};
+use raw_snap::checked::{copy_table, judge_areas, packed_warnings, refused, unpack};
 use table::checked::{data_at, find, key_at};
-use table_reading::checked::{Header, Placed, place_items, read_header, write_table};
-use typed_applying::checked::{Table, Typed, apply_typed};
-use types::checked::{Types, judge};
+use table_reading::checked::{place_items, read_header, write_table};
+use typed_applying::checked::{Typed, apply_typed};
+use types::checked::judge;
+use types::picked::Picked;
 
 // The result of placing the items of a table, and how many kinds have more than four ints.
 #[derive(Clone, Copy)]
 pub struct Placing {
-    pub answer: Stored,
+    pub answer: Result<usize, Error>,
     pub kinds: usize,
 }
 
@@ -41,32 +38,34 @@ pub fn place_typed(src: &[i32], n: usize, len: usize, out: &mut [i32]) -> Placin
     ensures { stored_table out.old (typed_items src.now n) ≡ record { answer = stored_with result.answer (uuid_excess result.kinds); out = out.new } }
 {
     let mut index = [0u16; 1024];
-    let placed = place_items(src, n, len, &mut index);
-    if let Placed::Refused(e) = placed {
+    if let Err(e) = place_items(src, n, len, &mut index) {
         return Placing {
-            answer: Stored::Refused(e),
+            answer: Err(e),
             kinds: 0,
         };
     }
-    let judged = judge(src, n, &index);
+    let judged = judge(Picked {
+        src,
+        n,
+        index: &index,
+    });
     let kinds = judged.excess;
-    let types = judged.types;
-    if let Types::Refused(e) = types {
+    if let Err(e) = judged.types {
         return Placing {
-            answer: Stored::Refused(e),
+            answer: Err(e),
             kinds,
         };
     }
     let total = 2 + n + len;
     if out.len() < total {
         return Placing {
-            answer: Stored::Refused(Error::CapacityError),
+            answer: Err(Error::CapacityError),
             kinds,
         };
     }
     write_table(src, n, len, &index, out);
     Placing {
-        answer: Stored::Ints(total),
+        answer: Ok(total),
         kinds,
     }
 }
@@ -74,7 +73,7 @@ pub fn place_typed(src: &[i32], n: usize, len: usize, out: &mut [i32]) -> Placin
 // The result of reading a table with types, whether ints were left over, and how many kinds have more than four ints.
 #[derive(Clone, Copy)]
 pub struct Found {
-    pub answer: Stored,
+    pub answer: Result<usize, Error>,
     pub excess: bool,
     pub kinds: usize,
 }
@@ -83,21 +82,18 @@ pub struct Found {
 pub fn read_typed(src: &[i32], out: &mut [i32]) -> Found
     ensures { stored_table out.old (typed_table src.now) ≡ record { answer = stored_with result.answer (plus (excess result.excess) (uuid_excess result.kinds)); out = out.new } }
 {
-    let header = read_header(src);
-    match header {
-        Header::Refused(e) => Found {
-            answer: Stored::Refused(e),
+    match read_header(src) {
+        Err(e) => Found {
+            answer: Err(e),
             excess: false,
             kinds: 0,
         },
-        Header::Table { items, len, excess } => {
-            let placing = place_typed(src, items, len, out);
-            let answer = placing.answer;
-            let kinds = placing.kinds;
+        Ok(header) => {
+            let placing = place_typed(src, header.items, header.len, out);
             Found {
-                answer,
-                excess,
-                kinds,
+                answer: placing.answer,
+                excess: header.excess,
+                kinds: placing.kinds,
             }
         }
     }
@@ -114,9 +110,8 @@ pub fn read_ints(src: &[i32], out: &mut [i32], scratch: usize) -> Reading
         return refused(Error::InputTooLong);
     }
     let read = read_typed(src, out);
-    let answer = read.answer;
     Reading {
-        answer,
+        answer: read.answer,
         warnings: Warnings::table(0, ints::one_if(read.excess), read.kinds),
     }
 }
@@ -125,15 +120,12 @@ pub fn read_ints(src: &[i32], out: &mut [i32], scratch: usize) -> Reading
 pub fn read_packed(src: &[u8], out: &mut [i32], scratch: &mut [i32]) -> Reading
     ensures { typed_read_call src.now out.old (length scratch.old) ≡ record { answer = stored_with result.answer (counts result.warnings); out = out.new } }
 {
-    let unpacked = unpack(src, scratch);
-    match unpacked {
-        Unpacked::Refused(read) => read,
-        Unpacked::Ints(all) => {
-            let count = all.count;
-            let read = read_typed(&scratch[..count], out);
-            let answer = read.answer;
+    match unpack(src, scratch) {
+        Err(read) => read,
+        Ok(all) => {
+            let read = read_typed(&scratch[..all.count], out);
             Reading {
-                answer,
+                answer: read.answer,
                 warnings: packed_warnings(all, read.excess, read.kinds),
             }
         }
@@ -146,16 +138,15 @@ pub fn store_made(made: Typed, area: &[i32], out: &mut [i32]) -> Reading
     ensures { stored_table out.old (Applying.typed_table (items area.now) made) ≡ record { answer = stored_with result.answer (counts result.warnings); out = out.new } }
 {
     let warnings = Warnings::applied(made.unknown_delete, made.excess);
-    let table = made.table;
-    match table {
-        Table::Refused(e) => Reading {
-            answer: Stored::Refused(e),
+    match made.table {
+        Err(e) => Reading {
+            answer: Err(e),
             warnings,
         },
-        Table::Made { items: _, ints } => {
-            let answer = copy_table(area, ints, out);
-            Reading { answer, warnings }
-        }
+        Ok(form) => Reading {
+            answer: copy_table(area, form.ints, out),
+            warnings,
+        },
     }
 }
 
@@ -163,15 +154,17 @@ pub fn store_made(made: Typed, area: &[i32], out: &mut [i32]) -> Reading
 pub fn apply_delta(base: &[i32], delta: &[i32], out: &mut [i32], scratch: &mut [i32]) -> Reading
     ensures { typed_read_with_delta_call base.now delta.now out.old (length scratch.old) ≡ record { answer = stored_with result.answer (counts result.warnings); out = out.new } }
 {
-    let areas = judge_areas(base, delta, scratch.len());
-    match areas {
-        Areas::Refused(e) => refused(e),
-        Areas::Held {
-            items,
-            deleted,
-            updated,
-        } => {
-            let made = apply_typed(base, items, delta, deleted, updated, scratch);
+    match judge_areas(base, delta, scratch.len()) {
+        Err(e) => refused(e),
+        Ok(areas) => {
+            let made = apply_typed(
+                base,
+                areas.items,
+                delta,
+                areas.deleted,
+                areas.updated,
+                scratch,
+            );
             store_made(made, scratch, out)
         }
     }
@@ -181,19 +174,7 @@ pub fn apply_delta(base: &[i32], delta: &[i32], out: &mut [i32], scratch: &mut [
 pub fn names(data: &[i32], a: i32, b: i32, c: i32, d: i32) -> bool
     ensures { result ≡ same_ints (take 4 «data».now) (a ∷ b ∷ c ∷ d ∷ []) }
 {
-    if data.len() < 4 {
-        return false;
-    }
-    if data[0] != a {
-        return false;
-    }
-    if data[1] != b {
-        return false;
-    }
-    if data[2] != c {
-        return false;
-    }
-    data[3] == d
+    data.len() >= 4 && data[0] == a && data[1] == b && data[2] == c && data[3] == d
 }
 
 // Whether item i of n is of type 0 and names this kind.
@@ -201,81 +182,65 @@ pub fn names_kind(area: &[i32], n: usize, i: usize, a: i32, b: i32, c: i32, d: i
     requires { Held area.now n × (i < n) }
     ensures { result ≡ names_kind (a ∷ b ∷ c ∷ d ∷ []) (item_at area.now i) }
 {
-    if format::key_to_raw_type_id(key_at(area, n, i)) != 0 {
-        return false;
-    }
-    names(data_at(area, n, i), a, b, c, d)
+    format::key_to_raw_type_id(key_at(area, n, i)) == 0 && names(data_at(area, n, i), a, b, c, d)
 }
 
-// The number of a kind among the n items; 65,536 if no item names it.
-pub fn kind_number(area: &[i32], n: usize, a: i32, b: i32, c: i32, d: i32) -> usize
+// The number of a kind among the n items, if an item names it.
+pub fn kind_number(area: &[i32], n: usize, a: i32, b: i32, c: i32, d: i32) -> Option<u16>
     requires { Held area.now n }
     ensures { kind_number (a ∷ b ∷ c ∷ d ∷ []) (items area.now) ≡ number_in result }
 {
-    let mut i: usize = 0;
-    while i < n {
+    for i in 0..n {
         if names_kind(area, n, i, a, b, c, d) {
-            return format::key_to_id(key_at(area, n, i)) as usize;
+            return Some(format::key_to_id(key_at(area, n, i)));
         }
-        i += 1;
     }
-    65536
+    None
 }
 
 // The raw type of a type in a table of n items.
-pub fn raw_of(area: &[i32], n: usize, type_id: TypeId) -> RawTypeId
+pub fn raw_of(area: &[i32], n: usize, type_id: TypeId) -> Result<Option<u16>, Error>
     requires { Held area.now n }
     ensures { raw_type_in (items area.now) (type_of type_id) ≡ raw_type result }
 {
     match type_id {
         TypeId::Ordinal(number) => {
-            if number == 0 {
-                return RawTypeId::Refused(Error::InvalidTypeId);
+            if number == 0 || number >= 16384 {
+                Err(Error::InvalidTypeId)
+            } else {
+                Ok(Some(number))
             }
-            if 16384 <= number {
-                return RawTypeId::Refused(Error::InvalidTypeId);
-            }
-            RawTypeId::Raw(number)
         }
-        TypeId::Uuid(a, b, c, d) => {
-            let found = kind_number(area, n, a, b, c, d);
-            if found < 65536 {
-                return RawTypeId::Raw(found as u16);
-            }
-            RawTypeId::Unknown
-        }
+        TypeId::Uuid(a, b, c, d) => Ok(kind_number(area, n, a, b, c, d)),
     }
 }
 
-// The type of a raw type in a table of n items.
-pub fn type_of(area: &[i32], n: usize, raw_type_id: u16) -> TypeFound
+// The type of a raw type in a table of n items, if the table has it.
+pub fn type_of(area: &[i32], n: usize, raw_type_id: u16) -> Option<TypeId>
     requires { Held area.now n }
-    ensures { return (type_id (items area.now) raw_type_id) ≡ type_found result }
+    ensures { return (type_id (items area.now) raw_type_id) ≡ type_found (Ok result) }
 {
     if raw_type_id == 0 {
-        return TypeFound::Unknown;
+        return None;
     }
     if raw_type_id < 16384 {
-        return TypeFound::Ordinal(raw_type_id);
+        return Some(TypeId::Ordinal(raw_type_id));
     }
     let at = find(area, n, format::key(0, raw_type_id));
     if n <= at {
-        return TypeFound::Unknown;
+        return None;
     }
     let data = data_at(area, n, at);
     if data.len() < 4 {
-        return TypeFound::Unknown;
+        return None;
     }
-    TypeFound::Uuid(data[0], data[1], data[2], data[3])
+    Some(TypeId::Uuid(data[0], data[1], data[2], data[3]))
 }
 
 // Whether there is an item with a raw type and an id among the n items.
-pub fn has_raw(area: &[i32], n: usize, raw_type_id: u16, id: u16) -> Has
+pub fn has_raw(area: &[i32], n: usize, raw_type_id: u16, id: u16) -> bool
     requires { Held area.now n }
-    ensures { return (Tables.is_some (Tables.find (key_of raw_type_id id) (items area.now))) ≡ has_item result }
+    ensures { result ≡ Tables.is_some (Tables.find (key_of raw_type_id id) (items area.now)) }
 {
-    if find(area, n, format::key(raw_type_id, id)) < n {
-        return Has::Yes;
-    }
-    Has::No
+    find(area, n, format::key(raw_type_id, id)) < n
 }

@@ -10,8 +10,7 @@ ghost use Rattle.raw_snap.specs.Answers.{has_item};
 ghost use Rattle.snap.specs.Answers.{type_of, raw_type, type_found};
 
 use format::{Error, Reading};
-use raw_snap::Has;
-use table::checked::{TableForm, data_at, find, form};
+use table::checked::{data_at, find, form};
 
 pub mod checked;
 
@@ -20,23 +19,6 @@ pub mod checked;
 pub enum TypeId {
     Ordinal(u16),
     Uuid(i32, i32, i32, i32),
-}
-
-// The raw type of a type, if the table has one.
-#[derive(Clone, Copy)]
-pub enum RawTypeId {
-    Raw(u16),
-    Unknown,
-    Refused(Error),
-}
-
-// The type of a raw type, if the table has one.
-#[derive(Clone, Copy)]
-pub enum TypeFound {
-    Ordinal(u16),
-    Uuid(i32, i32, i32, i32),
-    Unknown,
-    Refused(Error),
 }
 
 // Reads a table from ints, with sound types, into the front of out; returns how many ints it takes there. Scratch needs at least 16,384 entries;
@@ -69,37 +51,35 @@ pub fn read_with_delta(base: &[i32], delta: &[i32], out: &mut [i32], scratch: &m
 }
 
 // The raw type of a type.
-pub fn raw_type_id(area: &[i32], type_id: TypeId) -> RawTypeId
+pub fn raw_type_id(area: &[i32], type_id: TypeId) -> Result<Option<u16>, Error>
     ensures { raw_type_id_call area.now (type_of type_id) ≡ raw_type result }
 {
-    let TableForm::Table { items, ints: _ } = form(area) else {
-        return RawTypeId::Refused(Error::NotInForm);
+    let Some(form) = form(area) else {
+        return Err(Error::NotInForm);
     };
-    checked::raw_of(area, items, type_id)
+    checked::raw_of(area, form.items, type_id)
 }
 
 // The type of a raw type.
-pub fn type_id(area: &[i32], raw_type_id: u16) -> TypeFound
+pub fn type_id(area: &[i32], raw_type_id: u16) -> Result<Option<TypeId>, Error>
     ensures { type_id_call area.now raw_type_id ≡ type_found result }
 {
-    let TableForm::Table { items, ints: _ } = form(area) else {
-        return TypeFound::Refused(Error::NotInForm);
+    let Some(form) = form(area) else {
+        return Err(Error::NotInForm);
     };
-    checked::type_of(area, items, raw_type_id)
+    Ok(checked::type_of(area, form.items, raw_type_id))
 }
 
 // Whether a table has an item.
-pub fn has_item(area: &[i32], type_id: TypeId, id: u16) -> Has
+pub fn has_item(area: &[i32], type_id: TypeId, id: u16) -> Result<bool, Error>
     ensures { typed_has_item_call area.now (type_of type_id) id ≡ has_item result }
 {
-    let TableForm::Table { items, ints: _ } = form(area) else {
-        return Has::Refused(Error::NotInForm);
+    let Some(form) = form(area) else {
+        return Err(Error::NotInForm);
     };
-    let raw = checked::raw_of(area, items, type_id);
-    match raw {
-        RawTypeId::Refused(e) => Has::Refused(e),
-        RawTypeId::Unknown => Has::No,
-        RawTypeId::Raw(n) => checked::has_raw(area, items, n, id),
+    match checked::raw_of(area, form.items, type_id)? {
+        None => Ok(false),
+        Some(raw) => Ok(checked::has_raw(area, form.items, raw, id)),
     }
 }
 
@@ -107,16 +87,15 @@ pub fn has_item(area: &[i32], type_id: TypeId, id: u16) -> Has
 pub fn item(area: &[i32], type_id: TypeId, id: u16) -> &[i32]
     ensures { result.now ≡ typed_item_call area.now (type_of type_id) id }
 {
-    let TableForm::Table { items, ints: _ } = form(area) else {
+    let Some(form) = form(area) else {
         return &area[..0];
     };
-    let raw = checked::raw_of(area, items, type_id);
-    let RawTypeId::Raw(n) = raw else {
+    let Ok(Some(raw)) = checked::raw_of(area, form.items, type_id) else {
         return &area[..0];
     };
-    let at = find(area, items, format::key(n, id));
-    if at < items {
-        return data_at(area, items, at);
+    let at = find(area, form.items, format::key(raw, id));
+    if at < form.items {
+        return data_at(area, form.items, at);
     }
     &area[..0]
 }

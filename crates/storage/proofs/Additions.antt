@@ -35,25 +35,26 @@ use Rattle.table.specs.Forms.{formed}
 use Rattle.laws.specs.CreateLaws.{created_ints}
 use Rattle.laws.specs.AddingLaws.{adding_to}
 use Rattle.delta_making.specs.Answers.{made_ints, made_clash}
-use Rattle.delta_making.specs.declared.Made.{Made}
-use Rattle.delta_making.specs.declared.Made.TheVariants as made
+use Rattle.delta_making.specs.declared.MakeError.{MakeError}
+use Rattle.delta_making.specs.declared.MakeError.TheVariants.{DifferingSizes, Refused}
 use Rattle.ticks.specs.declared.Tick.{Tick}
 use Rattle.storage.specs.Answers.{added_in}
+use Rattle.std.specs.Prelude.{Err, Ok, Result}
 use Rattle.storage.specs.Steps.{making, added_of, store_after, tables_after}
 
 module _ (s : Store.Store) (l : List Store.StoredSnap) (x : Store.StoredSnap) (base : Tick) (n : ℕ) where
   -- what a delta that was not made leaves
-  refused-by : (m : Made) → err n Warnings.none ≡ made_ints m → (err n Warnings.none ≡ added_in (added_of base m)) × (s ≡ store_after s m) × (tables_after l x m ≡ l)
-  refused-by (made.Ints k) e = let z : ◌≡◌ {A = ℕ} 0 1 = cc in absurd (omega arith)
-  refused-by (made.DifferingSizes k) e = let d : n ≡ delta_differing_sizes = cc in (ap refuse d, refl, refl)
-  refused-by (made.Refused k) e = let d : n ≡ number k = cc in (ap refuse d, refl, refl)
+  refused-by : (m : Result ℕ MakeError) → err n Warnings.none ≡ made_ints m → (err n Warnings.none ≡ added_in (added_of base m)) × (s ≡ store_after s m) × (tables_after l x m ≡ l)
+  refused-by (Ok k) e = let z : ◌≡◌ {A = ℕ} 0 1 = cc in absurd (omega arith)
+  refused-by (Err (DifferingSizes k)) e = let d : n ≡ delta_differing_sizes = cc in (ap refuse d, refl, refl)
+  refused-by (Err (Refused k)) e = let d : n ≡ number k = cc in (ap refuse d, refl, refl)
 
   -- what one that was made does
-  made_by : (m : Made) → ok n Warnings.none ≡ made_ints m
+  made_by : (m : Result ℕ MakeError) → ok n Warnings.none ≡ made_ints m
       → (return (record { base = base.0; ints = n }) ≡ added_in (added_of base m)) × (record { count = s.count + 1; ack_tick = s.ack_tick; delta_tick = s.delta_tick } ≡ store_after s m) × (tables_after l x m ≡ x ∷ l)
-  made_by (made.Ints k) e = let d : n ≡ k = cc in (ap (λ (i : ℕ). return (record { base = base.0; ints = i })) d, refl, refl)
-  made_by (made.DifferingSizes k) e = let z : ◌≡◌ {A = ℕ} 0 1 = cc in absurd (omega arith)
-  made_by (made.Refused k) e = let z : ◌≡◌ {A = ℕ} 0 1 = cc in absurd (omega arith)
+  made_by (Ok k) e = let d : n ≡ k = cc in (ap (λ (i : ℕ). return (record { base = base.0; ints = i })) d, refl, refl)
+  made_by (Err (DifferingSizes k)) e = let z : ◌≡◌ {A = ℕ} 0 1 = cc in absurd (omega arith)
+  made_by (Err (Refused k)) e = let z : ◌≡◌ {A = ℕ} 0 1 = cc in absurd (omega arith)
 
 module _ (h : Store.Storage) (x : Store.StoredSnap) (a delta : List ℤ) (few : length h.snaps < 100) where
   -- the base
@@ -90,27 +91,27 @@ module _ (h : Store.Storage) (x : Store.StoredSnap) (a delta : List ℤ) (few : 
     unfolding adding_to Store.add_snap Store.adding create_delta Calls.add_step
     adding-done e f o = rw (lt-ltb (length h.snaps) 100 few, e, f, o, add-one (length h.snaps))
 
-  module _ (room : Bool) (rm : room ≡ Room) (m : Made) (out : List ℤ)
+  module _ (room : Bool) (rm : room ≡ Room) (m : Result ℕ MakeError) (out : List ℤ)
       (e : making room delta (created_ints B.snap x.snap) ≡ record { answer = made_ints m; out = out }) (area : List ℤ)
       (laid : LaidIn (length a) (tables_after h.snaps x m) area) (base : Tick) (at : base.0 ≡ B.tick) where
     -- the result of the call, by what was made
-    abbrev Result : Type 0
-    Result = Comes area (added_in (added_of base m)) (store_after (Store.beside h) m) out
+    abbrev Then : Type 0
+    Then = Comes area (added_in (added_of base m)) (store_after (Store.beside h) m) out
 
     -- with equal parts
     same-result : (o : Outcome Calls.Added) (s : Store.Store) (d : List ℤ) → o ≡ added_in (added_of base m) → s ≡ store_after (Store.beside h) m
-        → d ≡ out → Comes area o s d → Result
+        → d ≡ out → Comes area o s d → Then
     same-result o s d p q r c = c ∙ rw (p, q, r)
 
     -- refused
     refused : (n : ℕ) → (LaidIn (length a) h.snaps area → Comes area (refuse n) (Store.beside h) delta)
-        → ◌≡◌ {A = Wrote ℕ ℤ} (record { answer = refuse n; out = delta }) (record { answer = made_ints m; out = out }) → Result
+        → ◌≡◌ {A = Wrote ℕ ℤ} (record { answer = refuse n; out = delta }) (record { answer = made_ints m; out = out }) → Then
     refused n c f =
         let r = refused-by (Store.beside h) h.snaps x base n m (ap (λ (w : Wrote ℕ ℤ). w.answer) f) in
         same-result _ _ _ r.0 r.1 (ap (λ (w : Wrote ℕ ℤ). w.out) f) (c (rw r.2 at laid))
 
     -- by whether the tables agree, and by the room
-    by_alike : (b c : Bool) → alike B.snap x.snap ≡ b → (Room && leb (length D) (length delta)) ≡ c → Result
+    by_alike : (b c : Bool) → alike B.snap x.snap ≡ b → (Room && leb (length D) (length delta)) ≡ c → Then
     unfolding making create_delta
     by_alike false c p q = refused delta_differing_sizes (adding-10 area p) (rw p at e)
     by_alike true false p q = refused capacity_error (adding-40 area p q) (rw (p, rm, q) at e)
@@ -121,14 +122,14 @@ module _ (h : Store.Storage) (x : Store.StoredSnap) (a delta : List ℤ) (few : 
         same-result _ _ _ o r.1 (ap (λ (w : Wrote ℕ ℤ). w.out) f) (adding-done area p q (rw r.2 at laid))
 
     -- the result of the call, by the delta that was to be made
-    pub added-by : Result
+    pub added-by : Then
     added-by = by_alike (alike B.snap x.snap) (Room && leb (length D) (length delta)) refl refl
 
 -- ---- whether the delta was made
 
 -- a store without room makes none
-pub made-room : (room : Bool) (delta out : List ℤ) (b t : Table) (m : Made) (n : ℕ)
-    → making room delta (created_ints b t) ≡ record { answer = made_ints m; out = out } → m ≡ made.Ints n → room ≡ true
+pub made-room : (room : Bool) (delta out : List ℤ) (b t : Table) (m : Result ℕ MakeError) (n : ℕ)
+    → making room delta (created_ints b t) ≡ record { answer = made_ints m; out = out } → m ≡ Ok n → room ≡ true
 unfolding making create_delta
 made-room true delta out b t m n e f = refl
 made-room false delta out b t m n e f = go (alike b t) refl
@@ -164,7 +165,7 @@ nothing-out (ok xs w) = by (leb (length xs) 0)
     by true = lay-nowhere xs
     by false = refl
 
-module _ (room : Bool) (r : room ≡ false) (delta out : List ℤ) (b t : Table) (m : Made)
+module _ (room : Bool) (r : room ≡ false) (delta out : List ℤ) (b t : Table) (m : Result ℕ MakeError)
     (e : stored [] (created_ints b t) ≡ record { answer = made_ints m; out = out }) where
   -- nothing was written
   out-is : out ≡ []
@@ -193,7 +194,7 @@ module _ (room : Bool) (r : room ≡ false) (delta out : List ℤ) (b t : Table)
   making-alike q = rw (q, r, out-is)
 
   -- a key that clashes is named
-  pub judged-10 : (k : ℤ) → m ≡ made.DifferingSizes k → making room delta (created_ints b t) ≡ record { answer = refuse delta_differing_sizes; out = out ++ delta }
+  pub judged-10 : (k : ℤ) → m ≡ Err (DifferingSizes k) → making room delta (created_ints b t) ≡ record { answer = refuse delta_differing_sizes; out = out ++ delta }
   judged-10 k f = go (alike b t) refl
     where
       go : (c : Bool) → alike b t ≡ c → making room delta (created_ints b t) ≡ record { answer = refuse delta_differing_sizes; out = out ++ delta }
@@ -203,7 +204,7 @@ module _ (room : Bool) (r : room ≡ false) (delta out : List ℤ) (b t : Table)
           let z : capacity_error ≡ delta_differing_sizes = cc in absurd (omega arith)
 
   -- none is made
-  pub judged-none : (n : ℕ) → m ≡ made.Ints n → making room delta (created_ints b t) ≡ record { answer = refuse capacity_error; out = out ++ delta }
+  pub judged-none : (n : ℕ) → m ≡ Ok n → making room delta (created_ints b t) ≡ record { answer = refuse capacity_error; out = out ++ delta }
   judged-none n f = go (alike b t) refl
     where
       go : (c : Bool) → alike b t ≡ c → making room delta (created_ints b t) ≡ record { answer = refuse capacity_error; out = out ++ delta }
@@ -213,7 +214,7 @@ module _ (room : Bool) (r : room ≡ false) (delta out : List ℤ) (b t : Table)
           let z : ◌≡◌ {A = ℕ} 0 1 = cc in absurd (omega arith)
 
   -- it is refused, and no key is told
-  pub judged-40 : (k : Error) → m ≡ made.Refused k → made_clash m ≡ clash_of (made_ints m) b t
+  pub judged-40 : (k : Error) → m ≡ Err (Refused k) → made_clash m ≡ clash_of (made_ints m) b t
       → making room delta (created_ints b t) ≡ record { answer = refuse capacity_error; out = out ++ delta }
   judged-40 k f h = go (alike b t) refl
     where
@@ -245,7 +246,7 @@ unfolding written body offsets sound rising
 empty-table = whole-table (pos 0 ∷ pos 0 ∷ []) [] refl refl
 
 -- a delta from a base is one from an equal table
-pub by-base : (room : Bool) (delta out : List ℤ) (b c t : Table) (m : Made) → b ≡ c
+pub by-base : (room : Bool) (delta out : List ℤ) (b c t : Table) (m : Result ℕ MakeError) → b ≡ c
     → (making room delta (created_ints b t) ≡ record { answer = made_ints m; out = out }) × (made_clash m ≡ clash_of (made_ints m) b t)
     → (making room delta (created_ints c t) ≡ record { answer = made_ints m; out = out }) × (made_clash m ≡ clash_of (made_ints m) c t)
 by-base room delta out b c t m e h =

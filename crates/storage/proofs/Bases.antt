@@ -23,8 +23,8 @@ use Rattle.store_area.specs.Laid.{leaves-many, leaves-laid}
 use Rattle.store_area.specs.Stores.{holds_in, Holds, holds-is}
 use Rattle.storage.specs.States.{store_of, ack_of}
 use Rattle.storage.specs.Answers.{settings}
+use Rattle.std.specs.Prelude.{Err, Ok}
 use Rattle.storage.specs.declared.Storage.{Storage}
-use Rattle.storage.specs.declared.Set.TheVariants as set
 
 module _ (s : Store.Store) (a : List ℤ) (tick : ℤ) where
   -- the store is not in form
@@ -72,14 +72,14 @@ module _ (h : Store.Storage) (a : List ℤ) (tick : ℤ) where
 module _ (s : Storage) (a : List ℤ) (tick : ℤ) (w : Warnings) where
   -- not in form
   pub refused-47 : counts w ≡ Counts.none → Store.storage_of (store_of s) a ≡ none
-      → Calls.set_delta_tick_call (store_of s) a tick ≡ settings (record { answer = set.Refused error.NotInForm; warnings = w; storage = s }) a
+      → Calls.set_delta_tick_call (store_of s) a tick ≡ settings (record { answer = Err error.NotInForm; warnings = w; storage = s }) a
   refused-47 e f = set-47 (store_of s) a tick f ∙ rw e
 
   module _ (k : ℕ) (h : Holds (store_of s) a k) where
     -- a negative tick
     pub no-base : (t : Storage) → Store.is_negative tick ≡ true → Store.warn_weird tick ≡ ok tt (counts w)
         → store_of t ≡ record { count = s.count; ack_tick = ack_of s; delta_tick = none }
-        → Calls.set_delta_tick_call (store_of s) a tick ≡ settings (record { answer = set.Done; warnings = w; storage = t }) a
+        → Calls.set_delta_tick_call (store_of s) a tick ≡ settings (record { answer = Ok tt; warnings = w; storage = t }) a
     no-base t n e f =
         set-held (store_of s) a tick (holds_in (store_of s) a) (holds-is (store_of s) a k h)
         ∙ (set-none (holds_in (store_of s) a) a tick (counts w) n e h.held.stands.area-is
@@ -97,12 +97,12 @@ module _ (s : Storage) (a : List ℤ) (tick : ℤ) (w : Warnings) where
 
       -- the base is set
       pub base-set : held ≡ true → store_of t ≡ record { count = m; ack_tick = ack_of s; delta_tick = some tick }
-          → Call ≡ settings (record { answer = set.Done; warnings = w; storage = t }) out
+          → Call ≡ settings (record { answer = Ok tt; warnings = w; storage = t }) out
       base-set b f = set-done (holds_in (store_of s) a) a tick n out (leaves-laid v) b ∙ rw (e, f, leaves-many v)
 
       -- it is not held
       pub base-unknown : held ≡ false → store_of t ≡ record { count = m; ack_tick = ack_of s; delta_tick = none }
-          → Call ≡ settings (record { answer = set.Refused error.UnknownSnap; warnings = w; storage = t }) out
+          → Call ≡ settings (record { answer = Err error.UnknownSnap; warnings = w; storage = t }) out
       base-unknown b f = set-31 (holds_in (store_of s) a) a tick n out (leaves-laid v) b ∙ rw (e, f, leaves-many v)
 
 -- ---- the warning

@@ -21,25 +21,25 @@ use Rattle.store_area.specs.Stores.{holds_in, Holds, beside-is}
 use Rattle.laws.specs.CreateLaws.{created_ints}
 use Rattle.laws.specs.AddingLaws.{adding_to}
 use Rattle.delta_making.specs.Answers.{made_ints, made_clash}
-use Rattle.delta_making.specs.declared.Made.{Made}
-use Rattle.delta_making.specs.declared.Made.TheVariants as made
+use Rattle.delta_making.specs.declared.MakeError.{MakeError}
+use Rattle.delta_making.specs.declared.MakeError.TheVariants.{DifferingSizes, Refused}
 use Rattle.ticks.specs.declared.Tick.{Tick}
 use Rattle.storage.specs.States.{store_of}
 use Rattle.storage.specs.Answers.{addings, added_in, added_clash}
 use Rattle.format.specs.Numbers.{number}
 use Rattle.format.specs.declared.Error.{Error}
 use Rattle.storage.specs.declared.Added.{Added}
-use Rattle.storage.specs.declared.Added.TheVariants as added
 use Rattle.storage.specs.declared.Adding.{Adding}
 use Rattle.storage.specs.Steps.{making, added_of, store_after, tables_after}
+use Rattle.std.specs.Prelude.{Err, Ok, Result}
 use Rattle.storage.proofs.Additions.{added-by}
 
 -- ---- the call
 
 module _ (s : Store.Store) (a : List ℤ) (tick : ℤ) (table delta : List ℤ) where
   -- a call that is refused
-  abbrev Refused : ℕ → Type 0
-  Refused n = Calls.add_snap_call s a tick table delta ≡ record { answer = refuse n; store = s; area = a; delta = delta }
+  abbrev RefusedAs : ℕ → Type 0
+  RefusedAs n = Calls.add_snap_call s a tick table delta ≡ record { answer = refuse n; store = s; area = a; delta = delta }
 
 -- the store is full
 pub full-44 : (s : Store.Store) (a : List ℤ) (k : ℕ) → Holds s a k → s.count ≡ 100 → (x : Store.StoredSnap) (delta : List ℤ)
@@ -60,11 +60,11 @@ room-is x l n k m e f =
 -- ---- the key beside the answer
 
 -- it is that of the delta
-pub made-key : (base : Tick) (m : Made) (b t : Table) → made_clash m ≡ clash_of (made_ints m) b t
+pub made-key : (base : Tick) (m : Result ℕ MakeError) (b t : Table) → made_clash m ≡ clash_of (made_ints m) b t
     → added_clash (added_of base m) ≡ clash_of (added_in (added_of base m)) b t
-made-key base (made.Ints n) b t c = refl
-made-key base (made.DifferingSizes k) b t c = c
-made-key base (made.Refused e) b t c = c
+made-key base (Ok n) b t c = refl
+made-key base (Err (DifferingSizes k)) b t c = c
+made-key base (Err (Refused e)) b t c = c
 
 -- no key comes with another number than 10
 no_key : (n : ℕ) → (n ≡ delta_differing_sizes → ⊥) → (x : Store.StoredSnap) (o : Option Store.Storage) → none ≡ Calls.clash_with {A = Calls.Added} (refuse n) x o
@@ -83,26 +83,22 @@ with-key s a tick table delta r e c =
 
 module _ (s : Store.Store) (a : List ℤ) (l : List Store.StoredSnap) (tick : ℤ) (base : Tick) where
   -- what is promised of a call that ends
-  abbrev pub Ends : List ℤ → List ℤ → Added → Store.Store → Made → Type 0
+  abbrev pub Ends : List ℤ → List ℤ → Result Added MakeError → Store.Store → Result ℕ MakeError → Type 0
   Ends table out r t m = (r ≡ added_of base m) × (t ≡ store_after s m) × ((u : Table) → table ≡ written u → LaidIn (length a) (tables_after l (record { tick = tick; snap = u }) m) out)
 
   -- the delta was made
-  pub made-leaves : (n : ℕ) (table out : List ℤ) (r : Adding) (m : Made) → m ≡ made.Ints n → r.answer ≡ added_of base m
+  pub made-leaves : (n : ℕ) (table out : List ℤ) (r : Adding) (m : Result ℕ MakeError) → m ≡ Ok n → r.answer ≡ added_of base m
       → store_of r.storage ≡ record { count = s.count + 1; ack_tick = s.ack_tick; delta_tick = s.delta_tick }
       → ((u : Table) → table ≡ written u → LaidIn (length a) (record { tick = tick; snap = u } ∷ l) out)
       → Ends table out r.answer (store_of r.storage) m
   made-leaves n table out r m e f g h = (f, g ∙ rw e, λ u w. rw e (h u w))
 
-  module _ (laid : LaidIn (length a) l a) (r : Added) (table : List ℤ) (m : Made) where
-    -- a key clashes
-    pub clash-leaves : (k : ℤ) → m ≡ made.DifferingSizes k → r ≡ added_of base m → Ends table a r s m
-    clash-leaves k e f = (f, rw e, λ u w. rw e laid)
+  module _ (laid : LaidIn (length a) l a) (r : Result Added MakeError) (table : List ℤ) (m : Result ℕ MakeError) where
+    -- it was not made
+    pub none-leaves : (k : MakeError) → m ≡ Err k → r ≡ added_of base m → Ends table a r s m
+    none-leaves k e f = (f, rw e, λ u w. rw e laid)
 
-    -- it was refused
-    pub refused-leaves : (k : Error) → m ≡ made.Refused k → r ≡ added_of base m → Ends table a r s m
-    refused-leaves k e f = (f, rw e, λ u w. rw e laid)
-
-module _ (s : Store.Store) (a delta : List ℤ) (k : ℕ) (h : Holds s a k) (x : Store.StoredSnap) (room : Bool) (m : Made) (out : List ℤ) where
+module _ (s : Store.Store) (a delta : List ℤ) (k : ℕ) (h : Holds s a k) (x : Store.StoredSnap) (room : Bool) (m : Result ℕ MakeError) (out : List ℤ) where
   -- the tables held
   abbrev L : List Store.StoredSnap
   L = snaps_in s.count a
@@ -121,8 +117,8 @@ module _ (s : Store.Store) (a delta : List ℤ) (k : ℕ) (h : Holds s a k) (x :
       ∙ rw (beside-is s a k h, f, g)
 
 -- a call that adds nothing
-pub not-added-by : (s : Store.Store) (a : List ℤ) (tick : ℤ) (table delta : List ℤ) (r : Adding) (e : Error) → r.answer ≡ added.Refused e
-    → store_of r.storage ≡ s → (number e ≡ delta_differing_sizes → ⊥) → Refused s a tick table delta (number e)
+pub not-added-by : (s : Store.Store) (a : List ℤ) (tick : ℤ) (table delta : List ℤ) (r : Adding) (e : Error) → r.answer ≡ Err (Refused e)
+    → store_of r.storage ≡ s → (number e ≡ delta_differing_sizes → ⊥) → RefusedAs s a tick table delta (number e)
     → (Calls.add_snap_call s a tick table delta ≡ addings r a delta) × (added_clash r.answer ≡ Calls.add_snap_clash s a tick table delta)
 not-added-by s a tick table delta r e f g n q =
     with-key s a tick table delta r (q ∙ rw (f, g)) (rw f (no_key (number e) n (record { tick = tick; snap = items table }) (Store.storage_of s a)))

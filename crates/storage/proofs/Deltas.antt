@@ -3,11 +3,12 @@ use mathlib.Core.Path.{◌≡◌, refl, sym, ap, ◌∙◌, subst}
 use mathlib.Core.Bool.{Bool, true, false, cond}
 use mathlib.Core.List.{List, [], ◌∷◌}
 use mathlib.Core.Option.{Option, some, none}
-use Prim.Native.Nat.{ℕ, ◌+◌, ◌-◌, ◌<◌, ◌≤◌}
+use Prim.Native.Nat.{ℕ, ◌+◌, ◌-◌, ◌<◌, ◌≤◌, min}
 use native.Mathlib.Nat.{zero-add}
 use native.Mathlib.Numerals.{add-one}
 use native.Mathlib.Omega.{arith}
-use borrow.Author.Tests.{le-leb, lt-leb}
+use borrow.Author.Tests.{le-leb, lt-leb, leb-true, leb-false}
+use lib.Dec.{leb}
 use lib.IntN.{ℤ}
 use lib.ListN.{length, take}
 use lib.Seq.{take_all, length-take-le}
@@ -29,19 +30,17 @@ use Rattle.laws.specs.StoreForm.{store_room, room_cons, LaidIn}
 use Rattle.store_area.specs.Held.{snaps_in, snap_at, Leaves}
 use Rattle.store_area.specs.Stores.{holds_in, Holds}
 use Rattle.table.specs.Held.{form_of}
-use Rattle.table.specs.declared.checked.TableForm.TheVariants as table_form
 use Rattle.format.specs.Sources.{weirdly, typed_counts, taken_counts}
 use Rattle.typed_applying.specs.Answers.{typed_table, table_with}
 use Rattle.typed_applying.specs.Answers as Applied
-use Rattle.typed_applying.specs.declared.checked.Table.{Table}
-use Rattle.typed_applying.specs.declared.checked.Table.TheVariants as table
+use Rattle.table.specs.declared.checked.TableForm.{TableForm}
 use Rattle.typed_applying.specs.declared.checked.Typed.{Typed}
 use Rattle.ticks.specs.declared.Tick.{Tick}
 use Rattle.storage.specs.States.{store_of, delta_of}
 use Rattle.storage.specs.Taking.{sum_of, takings, base_in, warned, Applies}
 use Rattle.storage.specs.declared.Storage.{Storage}
-use Rattle.storage.specs.declared.Taken.TheVariants as taken
 use Rattle.storage.specs.declared.checked.Sent.{Sent}
+use Rattle.std.specs.Prelude.{Err, None, Ok, Result, Some}
 use Rattle.storage.proofs.Forms.{oldest-cons}
 
 -- ---- what is dropped
@@ -105,9 +104,9 @@ counts-are false true n = rw (zero-add n)
 counts-are false false n = rw (zero-add n)
 
 -- a table, or a refusal, after the warning
-with-weird : (b u : Bool) (n : ℕ) (t : Tables.Table) (x : Table) → after (weirdly b) (table_with t x (typed_counts u n)) ≡ table_with t x (taken_counts b u n)
-with-weird b u n t (table.Made i k) = ap (ok t) (counts-are b u n)
-with-weird b u n t (table.Refused e) = ap (err (number e)) (counts-are b u n)
+with-weird : (b u : Bool) (n : ℕ) (t : Tables.Table) (x : Result TableForm Error) → after (weirdly b) (table_with t x (typed_counts u n)) ≡ table_with t x (taken_counts b u n)
+with-weird b u n t (Ok f) = ap (ok t) (counts-are b u n)
+with-weird b u n t (Err e) = ap (err (number e)) (counts-are b u n)
 
 -- the warnings of a delta that was applied
 pub taken-counted : (tick : ℤ) (made : Typed) (w : Counts) (b : Bool) → Store.warn_weird tick ≡ ok tt (weirdly b)
@@ -119,25 +118,34 @@ taken-counted tick made w b e f t =
 -- ---- the sum
 
 -- a sum was sent
-pub sum-sent : (m : Sent) (t : Tables.Table) (r : Bool) → m.has_crc ≡ true → r ≡ same m.crc (Tables.crc t) → r ≡ Store.sum_fits (sum_of m) t
-sum-sent m t r e f = f ∙ rw e
+pub sum-sent : (m : Sent) (t : Tables.Table) (r : Bool) (k : ℤ) → m.crc ≡ Some k → r ≡ same k (Tables.crc t) → r ≡ Store.sum_fits (sum_of m) t
+sum-sent m t r k e f = f ∙ rw e
 
 -- none was
-pub no-sum : (m : Sent) (t : Tables.Table) → m.has_crc ≡ false → true ≡ Store.sum_fits (sum_of m) t
+pub no-sum : (m : Sent) (t : Tables.Table) → m.crc ≡ None → true ≡ Store.sum_fits (sum_of m) t
 no-sum m t e = rw e
 
 -- ---- the tables that stay
 
--- up to 99 tables all stay
-pub stays_all : (l : List Store.StoredSnap) (n : ℕ) → length l ≡ n → n ≤ 99 → take n l ≡ take 99 l
-stays_all l n e h = take_all n l (omega arith) ∙ sym (take_all 99 l (omega arith))
+-- up to 99 tables stay
+pub stays : (l : List Store.StoredSnap) (n k : ℕ) → k ≡ min n 99 → length l ≡ n → take k l ≡ take 99 l
+stays l n k e m = go (leb n 99) refl
+  where
+    go : (b : Bool) → leb n 99 ≡ b → take k l ≡ take 99 l
+    go true q =
+        let h = leb-true n 99 q in
+        take_all k l (omega (arith, e, m, h)) ∙ sym (take_all 99 l (omega (arith, m, h)))
+    go false q =
+        let h = leb-false n 99 q in
+        let d : k ≡ 99 = omega (arith, e, h) in
+        rw d
 
 -- ---- a table is held
 
 -- refused
 pub refused-taken : (s : Storage) (a : List ℤ) (k : ℕ) → Holds (store_of s) a k
     → (n : ℕ) (sum : Option ℤ) (tick : ℤ) (e : Error) (w : Warnings) (o : Outcome Tables.Table) → o ≡ err (number e) (counts w)
-    → Calls.laid_out a (Store.add_table n sum tick (holds_in (store_of s) a) o) ≡ takings (record { answer = taken.Refused e; warnings = w; storage = s }) a
+    → Calls.laid_out a (Store.add_table n sum tick (holds_in (store_of s) a) o) ≡ takings (record { answer = Err e; warnings = w; storage = s }) a
 unfolding Store.add_table
 refused-taken s a k h n sum tick e w o q = rw (q, ← h.held.stands.area-is, h.held.many)
 
@@ -145,7 +153,7 @@ refused-taken s a k h n sum tick e w o q = rw (q, ← h.held.stands.area-is, h.h
 pub wrong-sum : (s t : Storage) (a : List ℤ) (k : ℕ) → Holds (store_of s) a k
     → (n : ℕ) (sum : Option ℤ) (tick : ℤ) (w : Warnings) (x : Tables.Table) (o : Outcome Tables.Table) → o ≡ ok x (counts w)
     → Store.sum_fits sum x ≡ false → store_of t ≡ record { count = s.count; ack_tick = none; delta_tick = delta_of s }
-    → Calls.laid_out a (Store.add_table n sum tick (holds_in (store_of s) a) o) ≡ takings (record { answer = taken.Refused error.InvalidCrc; warnings = w; storage = t }) a
+    → Calls.laid_out a (Store.add_table n sum tick (holds_in (store_of s) a) o) ≡ takings (record { answer = Err error.InvalidCrc; warnings = w; storage = t }) a
 unfolding Store.add_table
 wrong-sum s t a k h n sum tick w x o q f g = rw (q, f, g, ← h.held.stands.area-is, h.held.many)
 
@@ -162,14 +170,14 @@ module _ (s : Storage) (a : List ℤ) (k : ℕ) (h : Holds (store_of s) a k) (n 
 
   -- there is no room
   pub hold-40 : length a < used + (long + 2)
-      → Calls.laid_out a (Store.add_table (length a) sum tick.0 (holds_in (store_of s) a) (ok x (counts w))) ≡ takings (record { answer = taken.Refused error.CapacityError; warnings = w; storage = s }) a
+      → Calls.laid_out a (Store.add_table (length a) sum tick.0 (holds_in (store_of s) a) (ok x (counts w))) ≡ takings (record { answer = Err error.CapacityError; warnings = w; storage = s }) a
   unfolding Store.add_table
   hold-40 r = rw (f, lt-leb (store_room (Store.push_snap tick.0 x (snaps_in s.count a))) (length a) (omega (arith, then-long)), ← h.held.stands.area-is, h.held.many)
 
   -- there is
   pub hold-done : (t : Storage) (out : List ℤ) → used + (long + 2) ≤ length a → LaidIn (length a) (new ∷ take n (snaps_in s.count a)) out
       → store_of t ≡ record { count = n + 1; ack_tick = some tick.0; delta_tick = delta_of s }
-      → Calls.laid_out a (Store.add_table (length a) sum tick.0 (holds_in (store_of s) a) (ok x (counts w))) ≡ takings (record { answer = taken.Tick tick; warnings = w; storage = t }) out
+      → Calls.laid_out a (Store.add_table (length a) sum tick.0 (holds_in (store_of s) a) (ok x (counts w))) ≡ takings (record { answer = Ok tick; warnings = w; storage = t }) out
   unfolding Store.add_table
   hold-done t out r o g =
       let c : length (take 99 (snaps_in s.count a)) ≡ n = ap length (sym z) ∙ length-take-le n (snaps_in s.count a) (omega (arith, h.held.many)) in
@@ -179,13 +187,13 @@ module _ (s : Storage) (a : List ℤ) (k : ℕ) (h : Holds (store_of s) a k) (n 
 
 module _ (base : ℤ) (made : Typed) (t : Tables.Table) (w : Counts) (q : warned base (typed_table t made) ≡ table_with t made.table w) where
   -- a table
-  pub made_ok : (n k : ℕ) → made.table ≡ table.Made n k → warned base (typed_table t made) ≡ ok t w
-  made_ok n k e = q ∙ ap (λ (x : Table). table_with t x w) e
+  pub made_ok : (f : TableForm) → made.table ≡ Ok f → warned base (typed_table t made) ≡ ok t w
+  made_ok f e = q ∙ ap (λ (x : Result TableForm Error). table_with t x w) e
 
   -- or none
-  pub made-err : (x : Error) → made.table ≡ table.Refused x → warned base (typed_table t made) ≡ err (number x) w
-  made-err x e = q ∙ ap (λ (y : Table). table_with t y w) e
+  pub made-err : (x : Error) → made.table ≡ Err x → warned base (typed_table t made) ≡ err (number x) w
+  made-err x e = q ∙ ap (λ (y : Result TableForm Error). table_with t y w) e
 
 -- the table is in its area
-pub made-form : (a : List ℤ) (x : Table) (n k : ℕ) → x ≡ table.Made n k → Applied.Stands a x → table_form.Table n k ≡ form_of (Tables.table_of a)
-made-form a x n k e h = subst (Applied.Stands a) e h
+pub made-form : (a : List ℤ) (x : Result TableForm Error) (f : TableForm) → x ≡ Ok f → Applied.Stands a x → Some f ≡ form_of (Tables.table_of a)
+made-form a x f e h = subst (Applied.Stands a) e h

@@ -15,9 +15,9 @@ use Rattle.definitions.specs.Storage as Store
 use Rattle.definitions.specs.StorageCalls as Calls
 use Rattle.store_area.specs.Held.{snaps_in, snap_at, no_snap, HeldStore}
 use Rattle.store_area.specs.Stores.{holds_in}
-use Rattle.ticks.specs.declared.OptionTick.TheVariants as tick
 use Rattle.ticks.specs.declared.Tick.{Tick}
 use Rattle.storage.specs.States.{delta_of}
+use Rattle.std.specs.Prelude.{None, Some}
 use Rattle.storage.specs.declared.Storage.{Storage}
 
 -- ---- a table of a place
@@ -123,10 +123,10 @@ reset-is s t a b e f = rw (e, f, cleared-zeros a)
 
 module _ (s : Storage) (x : Store.StoredSnap) (l : List Store.StoredSnap) where
   -- no base tick is set: the empty table
-  pub chosen-empty : s.delta_tick ≡ tick.None → Store.chosen_base (delta_of s) x l ≡ no_snap
+  pub chosen-empty : s.delta_tick ≡ None → Store.chosen_base (delta_of s) x l ≡ no_snap
   chosen-empty e = rw e
 
-  module _ (n : ℕ) {t : Tick} (e : s.delta_tick ≡ tick.Some t) (m : length l ≡ n) where
+  module _ (n : ℕ) {t : Tick} (e : s.delta_tick ≡ Some t) (m : length l ≡ n) where
     -- nothing is held: the table itself
     pub chosen-itself : n ≡ 0 → Store.chosen_base (delta_of s) x l ≡ x
     chosen-itself z = rw e (none-held x l (m ∙ z))

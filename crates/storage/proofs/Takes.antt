@@ -28,8 +28,8 @@ use Rattle.typed_applying.specs.Answers.{typed_table}
 use Rattle.typed_applying.specs.declared.checked.Typed.{Typed}
 use Rattle.storage.specs.States.{store_of, ack_of, delta_of}
 use Rattle.storage.specs.Taking.{takings, refusing, base_in, Applies, adding_on}
+use Rattle.std.specs.Prelude.{Err}
 use Rattle.storage.specs.declared.Storage.{Storage}
-use Rattle.storage.specs.declared.Taken.TheVariants as taken
 
 -- ---- the base
 
@@ -79,7 +79,7 @@ module _ (s : Storage) (a : List ℤ) (k : ℕ) (h : Holds (store_of s) a k) (su
   -- the base is not held
   pub take-31 : (t : Storage) (w : Warnings) → Store.is_held (base_in base (snaps_in n out)) ≡ false
       → store_of t ≡ record { count = n; ack_tick = none; delta_tick = delta_of s } → counts w ≡ Counts.none
-      → Whole ≡ takings (record { answer = taken.Refused error.UnknownSnap; warnings = w; storage = t }) out
+      → Whole ≡ takings (record { answer = Err error.UnknownSnap; warnings = w; storage = t }) out
   unfolding adding_on Store.add_on
   take-31 t w e g c =
       let b : Store.base_for base (snaps_in s.count a) ≡ none =

@@ -1,5 +1,5 @@
 -- What the answers of `storage` mean: the refusal's number and the values of each case. Assumes nothing.
-use Rattle.std.specs.Prelude.{List, ℤ}
+use Rattle.std.specs.Prelude.{List, ℤ, Result, Ok, Err, Some, None}
 use Rattle.std.proofs.Math.Option.{Option, some, none}
 use Rattle.definitions.specs.Refusals.{delta_differing_sizes}
 use Rattle.definitions.specs.Warnings.{Counts}
@@ -8,27 +8,27 @@ use Rattle.definitions.specs.StorageCalls as Calls
 use Rattle.format.specs.Numbers.{number}
 use Rattle.format.specs.Totals.{counts}
 use Rattle.storage.specs.States.{store_of}
-use Rattle.storage.specs.declared.HeldTick.{HeldTick}
-use Rattle.storage.specs.declared.HeldTick.TheVariants as held_at
-use Rattle.storage.specs.declared.Set.{Set}
-use Rattle.storage.specs.declared.Set.TheVariants as set
+use Rattle.ticks.specs.declared.Tick.{Tick}
+use Rattle.format.specs.declared.Error.{Error}
+use Rattle.delta_making.specs.declared.MakeError.{MakeError}
+use Rattle.delta_making.specs.declared.MakeError.TheVariants.{DifferingSizes, Refused}
+use Rattle.std.specs.Prelude as Prelude
 use Rattle.storage.specs.declared.Setting.{Setting}
 use Rattle.storage.specs.declared.Added.{Added}
-use Rattle.storage.specs.declared.Added.TheVariants as added
 use Rattle.storage.specs.declared.Adding.{Adding}
 
 -- the tick of a held table
-abbrev pub held_tick : HeldTick → Outcome (Option ℤ)
-held_tick (held_at.At t) = return (some t.0)
-held_tick held_at.End = return none
-held_tick (held_at.Refused e) = refuse (number e)
+abbrev pub held_tick : Result (Prelude.Option Tick) Error → Outcome (Option ℤ)
+held_tick (Ok (Some t)) = return (some t.0)
+held_tick (Ok None) = return none
+held_tick (Err e) = refuse (number e)
 
 -- ---- a base tick
 
 -- an answer together with its warning counts
-abbrev pub set_with : Set → Counts → Outcome (Unit {0})
-set_with set.Done w = ok tt w
-set_with (set.Refused e) w = err (number e) w
+abbrev pub set_with : Result (Unit {0}) Error → Counts → Outcome (Unit {0})
+set_with (Ok done) w = ok tt w
+set_with (Err e) w = err (number e) w
 
 -- the result of the call, with the area afterwards
 abbrev pub settings : Setting → List ℤ → Calls.StoreStep (Unit {0})
@@ -38,16 +38,16 @@ settings r area =
 -- ---- adding a table
 
 -- the answer
-abbrev pub added_in : Added → Outcome Calls.Added
-added_in (added.Delta base ints) = return (record { base = base.0; ints = ints })
-added_in (added.DifferingSizes k) = refuse delta_differing_sizes
-added_in (added.Refused e) = refuse (number e)
+abbrev pub added_in : Result Added MakeError → Outcome Calls.Added
+added_in (Ok x) = return (record { base = x.base.0; ints = x.ints })
+added_in (Err (DifferingSizes k)) = refuse delta_differing_sizes
+added_in (Err (Refused e)) = refuse (number e)
 
 -- the key that clashes, if it is that
-abbrev pub added_clash : Added → Option ℤ
-added_clash (added.Delta base ints) = none
-added_clash (added.DifferingSizes k) = some k
-added_clash (added.Refused e) = none
+abbrev pub added_clash : Result Added MakeError → Option ℤ
+added_clash (Ok x) = none
+added_clash (Err (DifferingSizes k)) = some k
+added_clash (Err (Refused e)) = none
 
 -- the result of the call, with both areas afterwards
 abbrev pub addings : Adding → List ℤ → List ℤ → Calls.AddStep

@@ -1,5 +1,6 @@
 -- The results of the steps of taking a delta. Assumes nothing.
-use Rattle.std.specs.Prelude.{◌≡◌, cond, List, [], ℕ, ℤ}
+use Rattle.std.specs.Prelude.{◌≡◌, cond, List, [], ℕ, ℤ, Result, Ok, Err, Some, None}
+use Rattle.std.specs.Prelude as Prelude
 use Rattle.std.proofs.Math.Option.{Option, some, none}
 use Rattle.definitions.specs.Warnings.{Counts}
 use Rattle.definitions.specs.Outcome.{Outcome, ok, err, refuse, ◌>>◌}
@@ -12,19 +13,24 @@ use Rattle.format.specs.Totals.{counts}
 use Rattle.typed_applying.specs.Answers.{applied_typed, typed_table, Stands}
 use Rattle.typed_applying.specs.declared.checked.Typed.{Typed}
 use Rattle.storage.specs.States.{store_of}
-use Rattle.storage.specs.declared.Taken.{Taken}
-use Rattle.storage.specs.declared.Taken.TheVariants as taken
+use Rattle.format.specs.declared.Error.{Error}
+use Rattle.ticks.specs.declared.Tick.{Tick}
 use Rattle.storage.specs.declared.Taking.{Taking}
 use Rattle.storage.specs.declared.checked.Sent.{Sent}
 
+-- a sum, if there is one
+abbrev pub sum_in : Prelude.Option ℤ → Option ℤ
+sum_in (Some k) = some k
+sum_in None = none
+
 -- the sum that was sent, if any was
 abbrev pub sum_of : Sent → Option ℤ
-sum_of m = cond m.has_crc (some m.crc) none
+sum_of m = sum_in m.crc
 
 -- an answer together with its warning counts
-abbrev pub taken_with : Taken → Counts → Outcome ℤ
-taken_with (taken.Tick t) w = ok t.0 w
-taken_with (taken.Refused e) w = err (number e) w
+abbrev pub taken_with : Result Tick Error → Counts → Outcome ℤ
+taken_with (Ok t) w = ok t.0 w
+taken_with (Err e) w = err (number e) w
 
 -- the result of the call, with the area afterwards
 abbrev pub takings : Taking → List ℤ → Calls.StoreStep ℤ

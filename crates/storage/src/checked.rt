@@ -1,5 +1,5 @@
 // The steps of a call on a store: checking its form, dropping tables, finding the base, and adding a table.
-ghost use Rattle.std.specs.Prelude.{◌≡◌, true, false, not, ◌&&◌, List, [], ◌∷◌, ℕ, ◌+◌, ◌<◌, ◌≤◌, ℤ, negsuc, length, take};
+ghost use Rattle.std.specs.Prelude.{◌≡◌, true, false, not, ◌&&◌, List, [], ◌∷◌, ℕ, ◌+◌, ◌<◌, ◌≤◌, ℤ, negsuc, length, take, Ok, Err, Some};
 ghost use Rattle.std.proofs.Math.Option.{Option, some, none};
 ghost use Rattle.definitions.specs.Outcome.{ok};
 ghost use Rattle.definitions.specs.Deltas.{delta_in};
@@ -13,38 +13,32 @@ ghost use Rattle.definitions.specs.StorageCalls.{laid_out, add_delta_call, clash
 ghost use Rattle.format.specs.Numbers.{number};
 ghost use Rattle.format.specs.Totals.{counts};
 ghost use Rattle.table.specs.Held.{Held, form_of};
-ghost use Rattle.table.specs.declared.checked.TableForm.TheVariants as table_form;
 ghost use Rattle.laws.specs.StoreForm.{store_room, LaidIn};
 ghost use Rattle.store_area.specs.Held.{snaps_in, HeldStore, Leaves};
 ghost use Rattle.store_area.specs.Stores.{storage_form, holds_in, Holds};
 ghost use Rattle.laws.specs.CreateLaws.{created_ints};
 ghost use Rattle.laws.specs.AddingLaws.{adding_to};
 ghost use Rattle.delta_making.specs.Answers.{made_ints, made_clash};
-ghost use Rattle.delta_making.specs.declared.Made.TheVariants as made;
+ghost use Rattle.delta_making.specs.declared.MakeError.TheVariants.{Refused};
 ghost use Rattle.delta_form.specs.Held.{HeldDelta};
 ghost use Rattle.typed_applying.specs.Answers.{typed_table, table_with, Stands};
 ghost use Rattle.storage.specs.Taking.{sum_of, takings, refusing, warned, base_in, Applies, adding_on};
 ghost use Rattle.storage.specs.States.{store_of, ack_of, delta_of};
 ghost use Rattle.storage.specs.Answers.{settings, addings, added_in, added_clash};
 ghost use Rattle.storage.specs.Steps.{making, added_of, store_after, tables_after};
-ghost use Rattle.storage.specs.declared.Added.TheVariants as added;
 
-use super::{Added, Adding, Set, Setting, Storage, Taken, Taking};
-use delta_form::checked::DeltaForm;
-use delta_making::Made;
+use super::{Added, Adding, Setting, Storage, Taking};
+use delta_making::MakeError;
 use delta_making::checked::create;
 use format::{Error, Warnings};
-use store_area::checked::{
-    Left, StoreForm, cut, drop_older, newest_tick, push, table_at, tick_at, used,
-};
-use ticks::{OptionTick, Tick};
-use typed_applying::checked::{Table, Typed, apply_typed};
+use store_area::checked::{Left, cut, drop_older, newest_tick, push, table_at, tick_at, used};
+use ticks::Tick;
+use typed_applying::checked::{Typed, apply_typed};
 
 // The numbers of a delta: its sum, if one was sent, the tick of its base, and its own tick.
 #[derive(Clone, Copy)]
 pub struct Sent {
-    pub has_crc: bool,
-    pub crc: i32,
+    pub crc: Option<i32>,
     pub delta_tick: Tick,
     pub tick: Tick,
 }
@@ -53,10 +47,7 @@ pub struct Sent {
 pub fn is_weird(tick: Tick) -> bool
     ensures { result ≡ Store.is_negative tick.0 && not (Receiver.same tick.0 (negsuc 0)) }
 {
-    if tick.is_negative() {
-        return !tick.is_same(Tick(-1));
-    }
-    false
+    tick.is_negative() && tick != Tick(-1)
 }
 
 // The warnings for a base tick.
@@ -66,12 +57,12 @@ pub fn weird(tick: Tick) -> Warnings
     Warnings::taken(is_weird(tick), false, 0)
 }
 
-// Checks the form of a store and its area.
-pub fn form(s: Storage, area: &[i32]) -> StoreForm
+// Checks the form of a store and its area; returns how many ints the tables take.
+pub fn form(s: Storage, area: &[i32]) -> Option<usize>
     ensures { result ≡ storage_form (Store.storage_of (store_of s) area.now) }
 {
     if Storage::MAX_STORED_SNAPSHOT < s.count {
-        return StoreForm::Bad;
+        return None;
     }
     store_area::checked::form(area, s.count)
 }
@@ -80,11 +71,10 @@ pub fn form(s: Storage, area: &[i32]) -> StoreForm
 pub fn with_delta(s: Storage, count: usize, tick: Tick) -> Storage
     ensures { store_of result ≡ record { count = count; ack_tick = ack_of s; delta_tick = some tick.0 } }
 {
-    let ack_tick = s.ack_tick;
     Storage {
         count,
-        ack_tick,
-        delta_tick: OptionTick::Some(tick),
+        delta_tick: Some(tick),
+        ..s
     }
 }
 
@@ -92,11 +82,10 @@ pub fn with_delta(s: Storage, count: usize, tick: Tick) -> Storage
 pub fn without_delta(s: Storage, count: usize) -> Storage
     ensures { store_of result ≡ record { count = count; ack_tick = ack_of s; delta_tick = none } }
 {
-    let ack_tick = s.ack_tick;
     Storage {
         count,
-        ack_tick,
-        delta_tick: OptionTick::None,
+        delta_tick: None,
+        ..s
     }
 }
 
@@ -104,13 +93,7 @@ pub fn without_delta(s: Storage, count: usize) -> Storage
 pub fn with_count(s: Storage, count: usize) -> Storage
     ensures { store_of result ≡ record { count = count; ack_tick = ack_of s; delta_tick = delta_of s } }
 {
-    let ack_tick = s.ack_tick;
-    let delta_tick = s.delta_tick;
-    Storage {
-        count,
-        ack_tick,
-        delta_tick,
-    }
+    Storage { count, ..s }
 }
 
 // Whether the oldest of so many tables has this tick.
@@ -118,11 +101,7 @@ pub fn is_oldest(area: &[i32], count: usize, tick: Tick) -> bool
     requires { HeldStore area.now count }
     ensures { result ≡ Store.is_held (Store.oldest_at tick.0 (snaps_in count area.now)) }
 {
-    if count == 0 {
-        return false;
-    }
-    let oldest = tick_at(area, count, count - 1);
-    oldest.is_same(tick)
+    count != 0 && tick_at(area, count, count - 1) == tick
 }
 
 // Drops the tables older than a tick that is not negative, and sets it as the base tick if its table is then the oldest.
@@ -133,13 +112,13 @@ pub fn set_base(s: Storage, tick: Tick, area: &mut [i32], ints: usize) -> Settin
     let left = drop_older(area, s.count, ints, tick);
     if is_oldest(area, left.count, tick) {
         return Setting {
-            answer: Set::Done,
+            answer: Ok(()),
             warnings: Warnings::none(),
             storage: with_delta(s, left.count, tick),
         };
     }
     Setting {
-        answer: Set::Refused(Error::UnknownSnap),
+        answer: Err(Error::UnknownSnap),
         warnings: Warnings::none(),
         storage: without_delta(s, left.count),
     }
@@ -147,16 +126,22 @@ pub fn set_base(s: Storage, tick: Tick, area: &mut [i32], ints: usize) -> Settin
 
 // The refusal of a call that adds nothing.
 pub fn not_added(s: Storage, error: Error) -> Adding
-    ensures { (result.answer ≡ added.Refused error) × (store_of result.storage ≡ store_of s) }
+    ensures { (result.answer ≡ Err (Refused error)) × (store_of result.storage ≡ store_of s) }
 {
     Adding {
-        answer: Added::Refused(error),
+        answer: Err(MakeError::Refused(error)),
         storage: s,
     }
 }
 
 // Writes the delta from a base to a target of nt items into the front of delta; if the store has no room for the target, only judges it.
-pub fn make(base: &[i32], target: &[i32], nt: usize, room: bool, delta: &mut [i32]) -> Made
+pub fn make(
+    base: &[i32],
+    target: &[i32],
+    nt: usize,
+    room: bool,
+    delta: &mut [i32],
+) -> Result<usize, MakeError>
     requires { Held base.now (count base.now) × Held target.now nt }
     ensures target_value { making room delta.old (created_ints (Tables.items base.now) (Tables.items target.now)) ≡ record { answer = made_ints result; out = delta.new } }
     ensures result_value { made_clash result ≡ clash_of (made_ints result) (Tables.items base.now) (Tables.items target.now) }
@@ -166,9 +151,9 @@ pub fn make(base: &[i32], target: &[i32], nt: usize, room: bool, delta: &mut [i3
         return create(base, nb, target, nt, delta);
     }
     match create(base, nb, target, nt, &mut delta[..0]) {
-        Made::Ints(_) => Made::Refused(Error::CapacityError),
-        Made::DifferingSizes(key) => Made::DifferingSizes(key),
-        Made::Refused(_) => Made::Refused(Error::CapacityError),
+        Ok(_) => Err(MakeError::Refused(Error::CapacityError)),
+        Err(MakeError::DifferingSizes(key)) => Err(MakeError::DifferingSizes(key)),
+        Err(MakeError::Refused(_)) => Err(MakeError::Refused(Error::CapacityError)),
     }
 }
 
@@ -180,15 +165,14 @@ pub fn make_delta(
     nt: usize,
     room: bool,
     delta: &mut [i32],
-) -> Made
+) -> Result<usize, MakeError>
     requires { HeldStore area.now s.count × Held table.now nt }
     ensures table_value { (tick : ℤ) → making room delta.old (created_ints (Store.chosen_base (delta_of s) (record { tick = tick; snap = Tables.items table.now }) (snaps_in s.count area.now)).snap (Tables.items table.now)) ≡ record { answer = made_ints result; out = delta.new } }
     ensures result_value { (tick : ℤ) → made_clash result ≡ clash_of (made_ints result)
         (Store.chosen_base (delta_of s) (record { tick = tick; snap = Tables.items table.now }) (snaps_in s.count area.now)).snap
         (Tables.items table.now) }
 {
-    let delta_tick = s.delta_tick;
-    let OptionTick::Some(_) = delta_tick else {
+    let Some(_) = s.delta_tick else {
         let empty = [0i32; 2];
         return make(&empty, table, nt, room, delta);
     };
@@ -204,8 +188,7 @@ pub fn base_tick(s: Storage, area: &[i32], tick: Tick) -> Tick
     requires { HeldStore area.now s.count }
     ensures { (t : Tables.Table) → result.0 ≡ (Store.chosen_base (delta_of s) (record { tick = tick.0; snap = t }) (snaps_in s.count area.now)).tick }
 {
-    let delta_tick = s.delta_tick;
-    let OptionTick::Some(_) = delta_tick else {
+    let Some(_) = s.delta_tick else {
         return Tick(-1);
     };
     if s.count == 0 {
@@ -215,20 +198,17 @@ pub fn base_tick(s: Storage, area: &[i32], tick: Tick) -> Tick
 }
 
 // The answer for an added table: its base and its delta's length, the key that clashes, or why it is refused.
-pub fn answer(base: Tick, res: Made) -> Added
+pub fn answer(base: Tick, res: Result<usize, MakeError>) -> Result<Added, MakeError>
     ensures { result ≡ added_of base res }
 {
-    match res {
-        Made::Ints(ints) => Added::Delta { base, ints },
-        Made::DifferingSizes(key) => Added::DifferingSizes(key),
-        Made::Refused(error) => Added::Refused(error),
-    }
+    let ints = res?;
+    Ok(Added { base, ints })
 }
 
 // Adds a table.
 pub fn store(
     s: Storage,
-    answer: Added,
+    answer: Result<Added, MakeError>,
     tick: Tick,
     table: &[i32],
     area: &mut [i32],
@@ -248,20 +228,19 @@ pub fn store(
 pub fn finish(
     s: Storage,
     base: Tick,
-    res: Made,
+    res: Result<usize, MakeError>,
     tick: Tick,
     table: &[i32],
     area: &mut [i32],
     ints: usize,
 ) -> Adding
-    requires { Holds (store_of s) area.old ints × (s.count < 100) × (length table.now ≤ 16384) × ((n : ℕ) → res ≡ made.Ints n → ints + (length table.now + 2) ≤ length area.old) }
+    requires { Holds (store_of s) area.old ints × (s.count < 100) × (length table.now ≤ 16384) × ((n : ℕ) → res ≡ Ok n → ints + (length table.now + 2) ≤ length area.old) }
     ensures { (result.answer ≡ added_of base res) × (store_of result.storage ≡ store_after (store_of s) res) × ((t : Tables.Table) → table.now ≡ written t → LaidIn (length area.old) (tables_after (snaps_in s.count area.old) (record { tick = tick.0; snap = t }) res) area.new) }
 {
     let answer = answer(base, res);
     match res {
-        Made::Ints(_) => store(s, answer, tick, table, area, ints),
-        Made::DifferingSizes(_) => Adding { answer, storage: s },
-        Made::Refused(_) => Adding { answer, storage: s },
+        Ok(_) => store(s, answer, tick, table, area, ints),
+        Err(_) => Adding { answer, storage: s },
     }
 }
 
@@ -276,7 +255,7 @@ pub fn add(
     area: &mut [i32],
     ints: usize,
 ) -> Adding
-    requires { Holds (store_of s) area.old ints × (s.count < 100) × (table_form.Table items size ≡ form_of (table_of table.now)) }
+    requires { Holds (store_of s) area.old ints × (s.count < 100) × (Some (record { items = items; ints = size }) ≡ form_of (table_of table.now)) }
     ensures delta_value { adding_to (holds_in (store_of s) area.old) (record { tick = tick.0; snap = Tables.items table.now }) area.old delta.old ≡ addings result area.new delta.new }
     ensures answer_value { added_clash result.answer ≡ clash_with (added_in result.answer) (record { tick = tick.0; snap = Tables.items table.now })
         (some (holds_in (store_of s) area.old)) }
@@ -292,7 +271,7 @@ pub fn not_taken(s: Storage, error: Error) -> Taking
     ensures { (area : List ℤ) → refusing (number error) (store_of s) area ≡ takings result area }
 {
     Taking {
-        answer: Taken::Refused(error),
+        answer: Err(error),
         warnings: Warnings::none(),
         storage: s,
     }
@@ -303,8 +282,7 @@ pub fn is_newer(area: &[i32], count: usize, tick: Tick) -> bool
     requires { HeldStore area.now count }
     ensures { result ≡ signed_less (Store.newest_tick (snaps_in count area.now)) tick.0 }
 {
-    let newest = newest_tick(area, count);
-    newest.is_before(tick)
+    newest_tick(area, count) < tick
 }
 
 // Drops the tables older than a base; a negative tick names the empty table and drops nothing.
@@ -323,10 +301,7 @@ pub fn has_base(area: &[i32], count: usize, tick: Tick) -> bool
     requires { HeldStore area.now count }
     ensures { result ≡ Store.is_held (base_in tick.0 (snaps_in count area.now)) }
 {
-    if tick.is_negative() {
-        return true;
-    }
-    is_oldest(area, count, tick)
+    tick.is_negative() || is_oldest(area, count, tick)
 }
 
 // Applies a delta to that base, into the front of scratch.
@@ -363,10 +338,10 @@ pub fn sum_fits(m: Sent, table: &[i32], n: usize) -> bool
     requires { Held table.now n }
     ensures { result ≡ Store.sum_fits (sum_of m) (Tables.items table.now) }
 {
-    if m.has_crc {
-        return ints::same(m.crc, table::checked::crc(table, n));
-    }
-    true
+    let Some(crc) = m.crc else {
+        return true;
+    };
+    crc == table::checked::crc(table, n)
 }
 
 // How many of so many tables stay when one more is added.
@@ -374,21 +349,17 @@ pub fn stay(count: usize) -> usize
     requires { count ≤ 100 }
     ensures { (result ≤ count) × (result ≤ 99) × ((l : List Store.StoredSnap) → length l ≡ count → take result l ≡ take 99 l) }
 {
-    if count == Storage::MAX_STORED_SNAPSHOT {
-        return count - 1;
-    }
-    count
+    count.min(Storage::MAX_STORED_SNAPSHOT - 1)
 }
 
 // The store with so many tables, and a tick acknowledged.
 pub fn with_ack(s: Storage, count: usize, tick: Tick) -> Storage
     ensures { store_of result ≡ record { count = count; ack_tick = some tick.0; delta_tick = delta_of s } }
 {
-    let delta_tick = s.delta_tick;
     Storage {
         count,
-        ack_tick: OptionTick::Some(tick),
-        delta_tick,
+        ack_tick: Some(tick),
+        ..s
     }
 }
 
@@ -396,11 +367,10 @@ pub fn with_ack(s: Storage, count: usize, tick: Tick) -> Storage
 pub fn without_ack(s: Storage, count: usize) -> Storage
     ensures { store_of result ≡ record { count = count; ack_tick = none; delta_tick = delta_of s } }
 {
-    let delta_tick = s.delta_tick;
     Storage {
         count,
-        ack_tick: OptionTick::None,
-        delta_tick,
+        ack_tick: None,
+        ..s
     }
 }
 
@@ -420,7 +390,7 @@ pub fn hold(
     let used = used(area, s.count, kept);
     if area.len() < used + (table.len() + 2) {
         return Taking {
-            answer: Taken::Refused(Error::CapacityError),
+            answer: Err(Error::CapacityError),
             warnings,
             storage: s,
         };
@@ -428,7 +398,7 @@ pub fn hold(
     cut(area, s.count, ints, kept);
     push(area, kept, used, tick, table);
     Taking {
-        answer: Taken::Tick(tick),
+        answer: Ok(tick),
         warnings,
         storage: with_ack(s, kept + 1, tick),
     }
@@ -446,22 +416,19 @@ pub fn hold_made(
     requires { Holds (store_of s) area.old ints × Stands scratch.now made.table }
     ensures { laid_out area.old (Store.add_table (length area.old) (sum_of m) m.tick.0 (holds_in (store_of s) area.old) (warned m.delta_tick.0 (typed_table (Tables.items scratch.now) made))) ≡ takings result area.new }
 {
-    let base = m.delta_tick;
-    let warnings = taken_warnings(base, made);
-    let table = made.table;
-    match table {
-        Table::Refused(error) => Taking {
-            answer: Taken::Refused(error),
+    let warnings = taken_warnings(m.delta_tick, made);
+    match made.table {
+        Err(error) => Taking {
+            answer: Err(error),
             warnings,
             storage: s,
         },
-        Table::Made { items, ints: size } => {
-            if sum_fits(m, scratch, items) {
-                let tick = m.tick;
-                return hold(s, tick, &scratch[..size], area, ints, warnings);
+        Ok(form) => {
+            if sum_fits(m, scratch, form.items) {
+                return hold(s, m.tick, &scratch[..form.ints], area, ints, warnings);
             }
             Taking {
-                answer: Taken::Refused(Error::InvalidCrc),
+                answer: Err(Error::InvalidCrc),
                 warnings,
                 storage: without_ack(s, s.count),
             }
@@ -487,7 +454,7 @@ pub fn take_on(
     let left = drop_for(area, s.count, ints, base);
     if !has_base(area, left.count, base) {
         return Taking {
-            answer: Taken::Refused(Error::UnknownSnap),
+            answer: Err(Error::UnknownSnap),
             warnings: Warnings::none(),
             storage: without_ack(s, left.count),
         };
@@ -510,8 +477,7 @@ pub fn take_judged(
     requires { Holds (store_of s) area.old ints × HeldDelta [] delta.now deleted updated × (16384 ≤ length scratch.old) }
     ensures { laid_out area.old (Store.add_delta (length area.old) (sum_of m) m.delta_tick.0 m.tick.0 (delta_in [] delta.now) (holds_in (store_of s) area.old)) ≡ takings result area.new }
 {
-    let tick = m.tick;
-    if !is_newer(area, s.count, tick) {
+    if !is_newer(area, s.count, m.tick) {
         return not_taken(s, Error::StoreOldDelta);
     }
     take_on(s, m, delta, deleted, updated, area, ints, scratch)
@@ -521,19 +487,14 @@ pub fn take_judged(
 pub fn take(s: Storage, m: Sent, delta: &[i32], area: &mut [i32], scratch: &mut [i32]) -> Taking
     ensures { add_delta_call (store_of s) area.old (sum_of m) m.delta_tick.0 m.tick.0 delta.now (length scratch.old) ≡ takings result area.new }
 {
-    let StoreForm::Tables(ints) = form(s, area) else {
+    let Some(ints) = form(s, area) else {
         return not_taken(s, Error::NotInForm);
     };
-    let DeltaForm::Delta {
-        deleted,
-        updated,
-        ints: _,
-    } = delta_form::checked::form(delta, &delta[..0])
-    else {
+    let Some(form) = delta_form::checked::form(delta, &delta[..0]) else {
         return not_taken(s, Error::NotInForm);
     };
     if scratch.len() < 16384 {
         return not_taken(s, Error::ScratchTooShort);
     }
-    take_judged(s, m, delta, deleted, updated, area, ints, scratch)
+    take_judged(s, m, delta, form.deleted, form.updated, area, ints, scratch)
 }

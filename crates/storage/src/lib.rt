@@ -13,10 +13,9 @@ ghost use Rattle.ticks.specs.Ticks.{tick_of};
 ghost use Rattle.storage.specs.Answers.{held_tick, settings, addings, added_clash};
 
 use checked::Sent;
+use delta_making::MakeError;
 use format::{Error, Warnings};
-use store_area::checked::StoreForm;
-use table::checked::TableForm;
-use ticks::{OptionTick, Tick};
+use ticks::Tick;
 
 pub mod checked;
 
@@ -24,60 +23,36 @@ pub mod checked;
 #[derive(Clone, Copy)]
 pub struct Storage {
     pub count: usize,
-    pub ack_tick: OptionTick,
-    pub delta_tick: OptionTick,
-}
-
-// The tick of a held table, or that there are fewer tables.
-#[derive(Clone, Copy)]
-pub enum HeldTick {
-    At(Tick),
-    End,
-    Refused(Error),
-}
-
-// Whether a base tick was set.
-#[derive(Clone, Copy)]
-pub enum Set {
-    Done,
-    Refused(Error),
+    pub ack_tick: Option<Tick>,
+    pub delta_tick: Option<Tick>,
 }
 
 // The result of setting a base tick, with the warnings counted and the store afterwards.
 #[derive(Clone, Copy)]
 pub struct Setting {
-    pub answer: Set,
+    pub answer: Result<(), Error>,
     pub warnings: Warnings,
     pub storage: Storage,
 }
 
-// The base of an added table and how many ints its delta takes; or the least key, read as unsigned, whose two items differ in length; or why it is
-// refused.
+// The base of an added table, and how many ints its delta takes.
 #[derive(Clone, Copy)]
-pub enum Added {
-    Delta { base: Tick, ints: usize },
-    DifferingSizes(i32),
-    Refused(Error),
+pub struct Added {
+    pub base: Tick,
+    pub ints: usize,
 }
 
 // The result of adding a table, and the store afterwards.
 #[derive(Clone, Copy)]
 pub struct Adding {
-    pub answer: Added,
+    pub answer: Result<Added, MakeError>,
     pub storage: Storage,
 }
 
-// The tick of the table that a delta made, or why the delta is refused.
-#[derive(Clone, Copy)]
-pub enum Taken {
-    Tick(Tick),
-    Refused(Error),
-}
-
-// The result of taking a delta, with the warnings counted and the store afterwards.
+// The result of taking a delta, the tick of the table that it made, with the warnings counted and the store afterwards.
 #[derive(Clone, Copy)]
 pub struct Taking {
-    pub answer: Taken,
+    pub answer: Result<Tick, Error>,
     pub warnings: Warnings,
     pub storage: Storage,
 }
@@ -92,8 +67,8 @@ impl Storage {
     {
         Storage {
             count: 0,
-            ack_tick: OptionTick::None,
-            delta_tick: OptionTick::None,
+            ack_tick: None,
+            delta_tick: None,
         }
     }
 
@@ -106,39 +81,37 @@ impl Storage {
     }
 
     // The tick acknowledged last.
-    pub fn ack_tick(self) -> OptionTick
+    pub fn ack_tick(self) -> Option<Tick>
         ensures { tick_of result ≡ (store_of self).ack_tick }
     {
-        let tick = self.ack_tick;
-        tick
+        self.ack_tick
     }
 
     // The base tick that is set.
-    pub fn delta_tick(self) -> OptionTick
+    pub fn delta_tick(self) -> Option<Tick>
         ensures { tick_of result ≡ (store_of self).delta_tick }
     {
-        let tick = self.delta_tick;
-        tick
+        self.delta_tick
     }
 
-    // The tick of the i-th table, the newest first.
-    pub fn snap_tick(self, area: &[i32], i: usize) -> HeldTick
+    // The tick of the i-th table, the newest first, if there are so many.
+    pub fn snap_tick(self, area: &[i32], i: usize) -> Result<Option<Tick>, Error>
         ensures { tick_call (store_of self) area.now i ≡ held_tick result }
     {
-        let StoreForm::Tables(_) = checked::form(self, area) else {
-            return HeldTick::Refused(Error::NotInForm);
+        let Some(_) = checked::form(self, area) else {
+            return Err(Error::NotInForm);
         };
         if i < self.count {
-            return HeldTick::At(store_area::checked::tick_at(area, self.count, i));
+            return Ok(Some(store_area::checked::tick_at(area, self.count, i)));
         }
-        HeldTick::End
+        Ok(None)
     }
 
     // The i-th table, the newest first, as a part of the area; empty if there is none.
     pub fn snap(self, area: &[i32], i: usize) -> &[i32]
         ensures { result.now ≡ table_call (store_of self) area.now i }
     {
-        let StoreForm::Tables(_) = checked::form(self, area) else {
+        let Some(_) = checked::form(self, area) else {
             return &area[..0];
         };
         if i < self.count {
@@ -151,16 +124,16 @@ impl Storage {
     pub fn set_delta_tick(self, tick: Tick, area: &mut [i32]) -> Setting
         ensures { set_delta_tick_call (store_of self) area.old tick.0 ≡ settings result area.new }
     {
-        let StoreForm::Tables(ints) = checked::form(self, area) else {
+        let Some(ints) = checked::form(self, area) else {
             return Setting {
-                answer: Set::Refused(Error::NotInForm),
+                answer: Err(Error::NotInForm),
                 warnings: Warnings::none(),
                 storage: self,
             };
         };
         if tick.is_negative() {
             return Setting {
-                answer: Set::Done,
+                answer: Ok(()),
                 warnings: checked::weird(tick),
                 storage: checked::without_delta(self, self.count),
             };
@@ -183,8 +156,7 @@ impl Storage {
         ensures { (add_delta_call (store_of self) area.old (cond has_crc (some crc) none) delta_tick.0 tick.0 delta.now (length scratch.old) ≡ takings result area.new) × (scratch.new ≡ cleared scratch.old) }
     {
         let m = Sent {
-            has_crc,
-            crc,
+            crc: if has_crc { Some(crc) } else { None },
             delta_tick,
             tick,
         };
@@ -199,15 +171,15 @@ impl Storage {
         ensures delta_value { add_snap_call (store_of self) area.old tick.0 table.now delta.old ≡ addings result area.new delta.new }
         ensures answer_value { added_clash result.answer ≡ add_snap_clash (store_of self) area.old tick.0 table.now delta.old }
     {
-        let StoreForm::Tables(ints) = checked::form(self, area) else {
+        let Some(ints) = checked::form(self, area) else {
             return checked::not_added(self, Error::NotInForm);
         };
-        let TableForm::Table { items, ints: size } = table::checked::form(table) else {
+        let Some(form) = table::checked::form(table) else {
             return checked::not_added(self, Error::NotInForm);
         };
         if self.count == Storage::MAX_STORED_SNAPSHOT {
             return checked::not_added(self, Error::StoreFull);
         }
-        checked::add(self, tick, table, items, size, delta, area, ints)
+        checked::add(self, tick, table, form.items, form.ints, delta, area, ints)
     }
 }

@@ -19,10 +19,9 @@ use Rattle.laws.specs.TableShape.{some_is}
 use Rattle.laws.specs.TableForm.{length-written, length-form}
 use Rattle.table.specs.Forms.{formed, unformed}
 use Rattle.table.specs.Held as Held
-use Rattle.table.specs.declared.checked.TableForm.TheVariants as table_form
 use Rattle.store_area.specs.Held.{form_of, first_table, size_of}
 use Rattle.store_area.proofs.Places.{ints-append}
-use Rattle.store_area.specs.declared.checked.StoreForm.TheVariants as form
+use Rattle.std.specs.Prelude.{Some, None}
 
 -- ---- one table
 
@@ -66,15 +65,15 @@ module _ (a : List ℤ) (p : ℕ) (h : p + 2 ≤ length a) where
 
   module _ (s : ℕ) (q : s ≡ nat a (p + 1)) where
     -- no table
-    pub no_table : table_form.Bad ≡ Held.form_of (table_of (take (p + 2 + s - (p + 2)) (drop (p + 2) a))) → 0 ≡ size_of (first_table (drop p a))
+    pub no_table : None ≡ Held.form_of (table_of (take (p + 2 + s - (p + 2)) (drop (p + 2) a))) → 0 ≡ size_of (first_table (drop p a))
     no_table e =
         let d : p + 2 + s - (p + 2) ≡ nat a (p + 1) = omega arith in
         let n : table_of part ≡ none = unformed part (rw d at e) in
         rw (first-is, n)
 
-    module _ (n k : ℕ) (e : table_form.Table n k ≡ Held.form_of (table_of (take (p + 2 + s - (p + 2)) (drop (p + 2) a)))) where
+    module _ (n k : ℕ) (e : Some (record { items = n; ints = k }) ≡ Held.form_of (table_of (take (p + 2 + s - (p + 2)) (drop (p + 2) a)))) where
       -- what the check of their form says
-      held-part : table_form.Table n k ≡ Held.form_of (table_of part)
+      held-part : Some (record { items = n; ints = k }) ≡ Held.form_of (table_of part)
       held-part =
           let d : p + 2 + s - (p + 2) ≡ nat a (p + 1) = omega arith in
           rw d at e
@@ -191,7 +190,7 @@ sized (some t) s e z = absurd (omega (arith, length-written t))
 
 module _ (a : List ℤ) (n i p : ℕ) (w : Walked a n i p) (s : ℕ) (e : s ≡ size_of (first_table (drop p a))) where
   -- a table is missing
-  pub walk-fails : i < n → s ≡ 0 → form.Bad ≡ form_of (snaps_of n a)
+  pub walk-fails : i < n → s ≡ 0 → None ≡ form_of (snaps_of n a)
   walk-fails h z =
       let d : n - i ≡ suc (n - i - 1) = omega arith in
       let q : snaps_of (n - i) (drop p a) ≡ none = rw d (no-first (drop p a) (n - i - 1) (sized (first_table (drop p a)) s e z)) in
@@ -227,9 +226,9 @@ module _ (a : List ℤ) (n i p : ℕ) (w : Walked a n i p) (h : n ≤ i) (z : Bo
       rw (w.leads, d, e)
 
   -- zeros after all tables
-  pub walk_ends : z ≡ true → form.Tables p ≡ form_of (snaps_of n a)
-  walk_ends q = rw (at-end, q, append-nil w.tables) (ap form.Tables w.ints-are)
+  pub walk_ends : z ≡ true → Some p ≡ form_of (snaps_of n a)
+  walk_ends q = rw (at-end, q, append-nil w.tables) (ap Some w.ints-are)
 
   -- something else
-  pub walk-spoilt : z ≡ false → form.Bad ≡ form_of (snaps_of n a)
+  pub walk-spoilt : z ≡ false → None ≡ form_of (snaps_of n a)
   walk-spoilt q = rw (at-end, q)

@@ -1,16 +1,15 @@
 -- What is known of a store's area whose form was checked. Assumes nothing.
-use Rattle.std.specs.Prelude.{◌≡◌, List, [], ◌∷◌, ℕ, ◌≤◌, ℤ, negsuc, length, get_or, take}
+use Rattle.std.specs.Prelude.{◌≡◌, List, [], ◌∷◌, ℕ, ◌≤◌, ℤ, negsuc, length, get_or, take, Some, None}
 use Rattle.std.proofs.Math.Option.{Option, some, none}
 use Rattle.definitions.specs.Tables.{Table, num, written, table_of}
 use Rattle.definitions.specs.Storage.{StoredSnap, exactly, snaps_of}
 use Rattle.laws.specs.StoreForm.{Sounds, store_room, LaidIn}
-use Rattle.store_area.specs.declared.checked.StoreForm.{StoreForm}
-use Rattle.store_area.specs.declared.checked.StoreForm.TheVariants as form
+use Rattle.std.specs.Prelude as Prelude
 
 -- the answer of the form check
-abbrev pub form_of : Option (List StoredSnap) → StoreForm
-form_of (some l) = form.Tables (store_room l)
-form_of none = form.Bad
+abbrev pub form_of : Option (List StoredSnap) → Prelude.Option ℕ
+form_of (some l) = Some (store_room l)
+form_of none = None
 
 -- the table that ints begin with, after its tick and its int count
 abbrev pub first_table : List ℤ → Option Table

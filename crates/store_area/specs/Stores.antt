@@ -1,6 +1,6 @@
 -- A store beside its area: the check of its form, what the check says, and what the store then holds. Assumes nothing.
 use Rattle.std.proofs.Math.Path.{◌≡◌, sym, ap}
-use Rattle.std.specs.Prelude.{refl, Bool, false, List, ℕ, ◌<◌, ◌≤◌, ℤ}
+use Rattle.std.specs.Prelude.{refl, Bool, false, List, ℕ, ◌<◌, ◌≤◌, ℤ, Some, None}
 use Rattle.std.proofs.Common.{◌∙◌, arith}
 use Rattle.std.proofs.Math.Bool.{true}
 use Rattle.std.proofs.Math.Option.{Option, some, none}
@@ -11,13 +11,12 @@ use Rattle.laws.specs.StoreForm.{store_room}
 use Rattle.store_area.specs.Held.{form_of, snaps_in, HeldStore}
 use Rattle.store_area.specs.Laid.{stands-found}
 use Rattle.store_area.specs.Tested.{tested}
-use Rattle.store_area.specs.declared.checked.StoreForm.{StoreForm}
-use Rattle.store_area.specs.declared.checked.StoreForm.TheVariants as form
+use Rattle.std.specs.Prelude as Prelude
 
 -- the answer of a store's form check
-abbrev pub storage_form : Option Store.Storage → StoreForm
-storage_form (some h) = form.Tables (store_room h.snaps)
-storage_form none = form.Bad
+abbrev pub storage_form : Option Store.Storage → Prelude.Option ℕ
+storage_form (some h) = Some (store_room h.snaps)
+storage_form none = None
 
 -- what a store holds whose form was checked
 abbrev pub holds_in : Store.Store → List ℤ → Store.Storage
@@ -33,7 +32,7 @@ pub record Holds (s : Store.Store) (a : List ℤ) (k : ℕ) : Type 0 where
 
 module _ (s : Store.Store) (a : List ℤ) where
   -- too many tables
-  pub too_many : 100 < s.count → form.Bad ≡ storage_form (Store.storage_of s a)
+  pub too_many : 100 < s.count → None ≡ storage_form (Store.storage_of s a)
   unfolding Store.storage_of
   too_many h = rw (lt-leb s.count 100 h)
 
@@ -43,17 +42,17 @@ module _ (s : Store.Store) (a : List ℤ) where
   with-form (some l) = refl
 
   -- few enough: decided by the area
-  pub by-area : (r : StoreForm) → s.count ≤ 100 → r ≡ form_of (Store.snaps_of s.count a) → r ≡ storage_form (Store.storage_of s a)
+  pub by-area : (r : Prelude.Option ℕ) → s.count ≤ 100 → r ≡ form_of (Store.snaps_of s.count a) → r ≡ storage_form (Store.storage_of s a)
   unfolding Store.storage_of
   by-area r h e = e ∙ rw (le-leb s.count 100 h) (with-form (Store.snaps_of s.count a))
 
   -- ---- what it says
 
   -- the store is not in form
-  pub not-held : form.Bad ≡ storage_form (Store.storage_of s a) → Store.storage_of s a ≡ none
+  pub not-held : None ≡ storage_form (Store.storage_of s a) → Store.storage_of s a ≡ none
   not-held e = go (Store.storage_of s a) refl e
     where
-      go : (o : Option Store.Storage) → Store.storage_of s a ≡ o → form.Bad ≡ storage_form o → Store.storage_of s a ≡ none
+      go : (o : Option Store.Storage) → Store.storage_of s a ≡ o → None ≡ storage_form o → Store.storage_of s a ≡ none
       go none q e = q
       go (some h) q e = let z : ◌≡◌ {A = ℕ} 0 1 = cc in absurd (omega arith)
 
@@ -63,7 +62,7 @@ module _ (s : Store.Store) (a : List ℤ) where
     pub is : Store.storage_of s a ≡ some (holds_in s a)
 
   -- with at most 100 tables
-  few-told : (k : ℕ) → s.count ≤ 100 → form.Tables k ≡ storage_form (Store.storage_of s a) → Told k
+  few-told : (k : ℕ) → s.count ≤ 100 → Some k ≡ storage_form (Store.storage_of s a) → Told k
   unfolding Store.storage_of
   few-told k h e =
       let t : leb s.count 100 ≡ true = le-leb s.count 100 h in
@@ -74,14 +73,14 @@ module _ (s : Store.Store) (a : List ℤ) where
       }
 
   -- the store is in form
-  pub told : (k : ℕ) → form.Tables k ≡ storage_form (Store.storage_of s a) → Told k
+  pub told : (k : ℕ) → Some k ≡ storage_form (Store.storage_of s a) → Told k
   told k e = go (leb s.count 100) refl
     where
       go : (b : Bool) → leb s.count 100 ≡ b → Told k
       go true q = few-told k (leb-true s.count 100 q) e
       go false q =
           let r : Store.storage_of s a ≡ none = unfold Store.storage_of in rw q in
-          let d : form.Tables k ≡ form.Bad = rw r at e in
+          let d : Some k ≡ None = rw r at e in
           let z : ◌≡◌ {A = ℕ} 0 1 = cc in absurd (omega arith)
 
 -- ---- a store in form

@@ -1,11 +1,10 @@
 -- What the form check of a store says. Assumes nothing.
-use Rattle.std.specs.Prelude.{◌≡◌, refl, List, ◌++◌, ℕ, ◌+◌, ◌-◌, ℤ, pos, length, replicate}
+use Rattle.std.specs.Prelude.{◌≡◌, refl, List, ◌++◌, ℕ, ◌+◌, ◌-◌, ℤ, pos, length, replicate, Some, None}
 use Rattle.std.proofs.Common.{sym, ap, ◌∙◌, arith, length-append}
 use Rattle.std.proofs.Math.Option.{Option, some, none}
 use Rattle.definitions.specs.Storage.{StoredSnap, store_ints, snaps_of}
 use Rattle.laws.specs.StoreForm.{snaps-laid, are-zeros, store_room}
 use Rattle.store_area.specs.Held.{form_of, snaps_in, Stands, HeldStore}
-use Rattle.store_area.specs.declared.checked.StoreForm.TheVariants as form
 
 -- tables that are found in some ints are laid out in them
 pub found-stands : (n : ℕ) (a : List ℤ) (l : List StoredSnap) → snaps_of n a ≡ some l → Stands a l
@@ -27,7 +26,7 @@ pub record Found (n : ℕ) (a : List ℤ) (k : ℕ) : Type 0 where
 
 -- what an answer says, by what is found
 abbrev Tells : ℕ → List ℤ → ℕ → Option (List StoredSnap) → Type 0
-Tells n a k o = snaps_of n a ≡ o → form.Tables k ≡ form_of o → Found n a k
+Tells n a k o = snaps_of n a ≡ o → Some k ≡ form_of o → Found n a k
 
 -- by cases
 tells : (n : ℕ) (a : List ℤ) (k : ℕ) (o : Option (List StoredSnap)) → Tells n a k o
@@ -43,5 +42,5 @@ tells n a k (some l) q e =
     }
 
 -- the area holds tables
-pub tested : (n : ℕ) (a : List ℤ) (k : ℕ) → form.Tables k ≡ form_of (snaps_of n a) → Found n a k
+pub tested : (n : ℕ) (a : List ℤ) (k : ℕ) → Some k ≡ form_of (snaps_of n a) → Found n a k
 tested n a k e = tells n a k (snaps_of n a) refl e

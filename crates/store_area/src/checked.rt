@@ -1,19 +1,11 @@
 // Store areas: the check of their form, the tables in them, and how tables are dropped and added.
-ghost use Rattle.std.specs.Prelude.{◌≡◌, ◌&&◌, ◌∷◌, ◌+◌, ◌<◌, ◌≤◌, eqb, length, take, drop};
+ghost use Rattle.std.specs.Prelude.{◌≡◌, ◌∷◌, ◌+◌, ◌<◌, ◌≤◌, length, take, drop};
 ghost use Rattle.definitions.specs.Tables.{Table, written};
 ghost use Rattle.definitions.specs.Storage.{snaps_of, newest_tick, drop_older, all_zero};
 ghost use Rattle.laws.specs.StoreForm.{store_room, LaidIn};
 ghost use Rattle.store_area.specs.Held.{form_of, size_of, first_table, snaps_in, snap_at, HeldStore, Leaves, place_of};
 
-use table::checked::TableForm;
 use ticks::Tick;
-
-// Whether an area holds tables and then zeros, and how many ints the tables take.
-#[derive(Clone, Copy)]
-pub enum StoreForm {
-    Tables(usize),
-    Bad,
-}
 
 // The tables that are left: how many, and how many ints they take.
 #[derive(Clone, Copy)]
@@ -35,23 +27,13 @@ fn table_size(area: &[i32], p: usize) -> usize
     if area.len() - from < size {
         return 0;
     }
-    let TableForm::Table { items: _, ints } = table::checked::form(&area[from..from + size]) else {
+    let Some(form) = table::checked::form(&area[from..from + size]) else {
         return 0;
     };
-    if ints == size {
+    if form.ints == size {
         return size;
     }
     0
-}
-
-// Whether a count is 0 and all counts before it were.
-fn still_zero(all: bool, n: usize) -> bool
-    ensures { result ≡ (all && eqb n 0) }
-{
-    if n == 0 {
-        return all;
-    }
-    false
 }
 
 // Whether the ints from a place on are all 0. The loop has no early exit, so that the compiler can test several ints at once.
@@ -59,32 +41,28 @@ fn zeros(area: &[i32], from: usize) -> bool
     ensures { result ≡ all_zero (drop from area.now) }
 {
     let mut all = true;
-    let mut i = from;
-    while i < area.len() {
-        all = still_zero(all, table::checked::nat_at(area, i));
-        i += 1;
+    for i in from..area.len() {
+        all &= table::checked::nat_at(area, i) == 0;
     }
     all
 }
 
-// Checks the form of an area with so many tables.
-pub fn form(area: &[i32], count: usize) -> StoreForm
+// Checks the form of an area with so many tables, and then zeros; returns how many ints the tables take.
+pub fn form(area: &[i32], count: usize) -> Option<usize>
     ensures { result ≡ form_of (snaps_of count area.now) }
 {
-    let mut i = 0;
     let mut p = 0;
-    while i < count {
+    for _ in 0..count {
         let size = table_size(area, p);
         if size == 0 {
-            return StoreForm::Bad;
+            return None;
         }
         p += 2 + size;
-        i += 1;
     }
     if zeros(area, p) {
-        return StoreForm::Tables(p);
+        return Some(p);
     }
-    StoreForm::Bad
+    None
 }
 
 // The place of the i-th of so many tables, the newest first, or the place after the last.
@@ -92,11 +70,9 @@ fn place(area: &[i32], count: usize, i: usize) -> usize
     requires { HeldStore area.now count × (i ≤ count) }
     ensures { result ≡ place_of (snaps_in count area.now) i }
 {
-    let mut k = 0;
     let mut p = 0;
-    while k < i {
+    for _ in 0..i {
         p += 2 + table::checked::nat_at(area, p + 1);
-        k += 1;
     }
     p
 }
@@ -145,17 +121,15 @@ fn count_newer(area: &[i32], count: usize, tick: Tick) -> usize
     requires { HeldStore area.now count }
     ensures { (result ≤ count) × (drop_older tick.0 (snaps_in count area.now) ≡ take result (snaps_in count area.now)) }
 {
-    let mut i = 0;
     let mut p = 0;
-    while i < count {
+    for i in 0..count {
         let held = Tick(area[p]);
         if held.is_before(tick) {
             return i;
         }
         p += 2 + table::checked::nat_at(area, p + 1);
-        i += 1;
     }
-    i
+    count
 }
 
 // Keeps the newest tables and clears the others; returns how many ints they take. ints is how many all tables take.

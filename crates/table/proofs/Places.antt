@@ -5,12 +5,15 @@ use mathlib.Core.List.{List}
 use mathlib.Core.Option.{some}
 use native.Mathlib.Omega.{arith}
 use lib.IntN.{ℤ}
-use borrow.Author.Tests.{lt-ltb, le-ltb}
+use borrow.Author.Tests.{lt-ltb, le-ltb, ltb-true, ltb-false}
+use lib.Dec.{ltb}
 use Rattle.definitions.specs.Tables.{Table, list, item_at, items, key_at, count, find, walk}
 use Rattle.definitions.specs.TableCalls.{nth}
+use Rattle.laws.specs.TableShape.{keys-le}
 use Rattle.laws.specs.TableFind.{Place, absent, present}
 use Rattle.laws.specs.TableWalk.{nth-late, nth-early}
 use Rattle.table.specs.Held.{Held, data_in}
+use Rattle.table.specs.Searching.{Falls, Parts}
 
 module _ (a : List ℤ) (n : ℕ) (h : Held a n) where
   module _ (k r : ℕ) (p : Place a k r) where
@@ -22,6 +25,20 @@ module _ (a : List ℤ) (n : ℕ) (h : Held a n) where
     missing g =
         absent a h.shape k r p (λ l e. g (omega (arith, h.count-is)) e)
         ∙ rw (le-ltb n n (omega arith))
+
+  -- the keys below k come first
+  module _ (k : ℕ) where
+    pub falls : Falls (λ i. ltb (key_at a i) k) n
+    falls =
+        record { before = λ i j l m e. lt-ltb _ _ (omega (arith, keys-le a h.shape i j l (omega (arith, h.count-is)), ltb-true _ _ e)) }
+
+    pub placed : (r : ℕ) → r ≤ n → Parts (λ i. ltb (key_at a i) k) n r → Place a k r
+    placed r l p =
+        record {
+          within = omega (arith, h.count-is);
+          below = λ i m. ltb-true _ _ (p.holds i m);
+          above = λ i m o. ltb-false _ _ (p.fails i m (omega (arith, h.count-is)));
+        }
 
   module _ (m i : ℕ) (p : Place a (2 ^ 31) m) where
     -- the first m items, and the rest

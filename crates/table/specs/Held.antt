@@ -1,15 +1,15 @@
 -- What is known about an area whose form was tested. Assumes nothing.
-use Rattle.std.specs.Prelude.{◌≡◌, cond, List, ℕ, ◌+◌, ◌/◌, ◌≤◌, ltb, ℤ, length}
+use Rattle.std.specs.Prelude.{◌≡◌, cond, Some, None, List, ℕ, ◌+◌, ◌/◌, ◌≤◌, ltb, ℤ, length}
+use Rattle.std.specs.Prelude as Code
 use Rattle.std.proofs.Math.Option.{Option, some, none}
 use Rattle.definitions.specs.Tables.{Table, written, count, size, edge, values_at}
 use Rattle.laws.specs.TableShape.{Shape}
 use Rattle.table.specs.declared.checked.TableForm.{TableForm}
-use Rattle.table.specs.declared.checked.TableForm.TheVariants as form
 
 -- the answer of the form test
-abbrev pub form_of : Option Table → TableForm
-form_of (some t) = form.Table (length t) (length (written t))
-form_of none = form.Bad
+abbrev pub form_of : Option Table → Code.Option TableForm
+form_of (some t) = Some (record { items = length t; ints = length (written t) })
+form_of none = None
 
 -- an area holds a table of n items
 pub record Held (a : List ℤ) (n : ℕ) : Type 0 where

@@ -4,4 +4,5 @@ pub mod Offsets
 pub mod Keys
 pub mod Forms
 pub mod Writing
+pub mod Searching
 pub mod Finding

@@ -11,11 +11,13 @@ ghost use Rattle.table.specs.Held.{Head, Held, form_of, data_in};
 ghost use Rattle.table.specs.Offsets.{behind_at, joined, tally};
 ghost use Rattle.table.specs.Keys.{Rising, last_key};
 
-// Whether an area begins with a written table; if so, its number of items and of ints.
+use crate::search::first_not;
+
+// The number of items, and of ints, of the table with which an area begins.
 #[derive(Clone, Copy)]
-pub enum TableForm {
-    Table { items: usize, ints: usize },
-    Bad,
+pub struct TableForm {
+    pub items: usize,
+    pub ints: usize,
 }
 
 // A summary of some items' offsets: how many are above the one before, and the bitwise or of all of them.
@@ -61,12 +63,12 @@ pub fn edge(area: &[i32], n: usize, i: usize) -> usize
     }
 }
 
-// 1 if item i + 1 begins after item i, else 0.
+// 1 if item i, not the first, begins after the one before, else 0.
 fn is_behind(area: &[i32], i: usize) -> u32
-    requires { 3 + i < length area.now }
-    ensures { (result ≡ cond (behind_at area.now i) 1 0) × (result ≤ 1) }
+    requires { (0 < i) × (2 + i < length area.now) }
+    ensures { (result ≡ cond (behind_at area.now (i - 1)) 1 0) × (result ≤ 1) }
 {
-    if ints::signed_less(area[2 + i], area[3 + i]) {
+    if ints::signed_less(area[1 + i], area[2 + i]) {
         return 1;
     }
     0
@@ -80,11 +82,9 @@ fn join_offsets(area: &[i32], n: usize) -> Offsets
 {
     let mut behind: u32 = 0;
     let mut bits: u32 = 0;
-    let mut i: usize = 0;
-    while i + 1 < n {
+    for i in 1..n {
         behind += is_behind(area, i);
-        bits |= ints::to_bits(area[3 + i]);
-        i += 1;
+        bits |= ints::to_bits(area[2 + i]);
     }
     Offsets { behind, bits }
 }
@@ -107,10 +107,7 @@ fn ends_fit(area: &[i32], n: usize, size: usize) -> bool
     if offsets.bits % 4 != 0 {
         return false;
     }
-    if offsets.behind as usize + 1 != n {
-        return false;
-    }
-    true
+    offsets.behind as usize + 1 == n
 }
 
 // The bits of the key of item i of n, if the offsets are those of a written table; body is the area past the offsets.
@@ -182,14 +179,12 @@ fn keys_fit_from(
     requires { Rising area.now n size from start × (from ≤ n) × (body.now ≡ drop (2 + n) area.now) }
     ensures { result ≡ all (fits area.now) n }
 {
-    let mut i = from;
     let mut last = start;
-    while i < n {
+    for i in from..n {
         last = after_item(area, body, n, size, i, last);
         if last == 4294967296 {
             return false;
         }
-        i += 1;
     }
     true
 }
@@ -221,38 +216,35 @@ pub fn all_fit(area: &[i32], n: usize, size: usize) -> bool
     requires { Head area.now n size }
     ensures { result ≡ all (fits area.now) n }
 {
-    if ends_fit(area, n, size) {
-        return keys_fit(area, n, size);
-    }
-    false
+    ends_fit(area, n, size) && keys_fit(area, n, size)
 }
 
-// The form of an area.
-pub fn form(area: &[i32]) -> TableForm
+// The form of an area, if it begins with a written table.
+pub fn form(area: &[i32]) -> Option<TableForm>
     ensures { result ≡ form_of (table_of area.now) }
 {
     if area.len() < 2 {
-        return TableForm::Bad;
+        return None;
     }
     let size = nat_at(area, 0);
     let n = nat_at(area, 1);
     if 1024 < n {
-        return TableForm::Bad;
+        return None;
     }
     let ints = 2 + n + size / 4;
     if 16384 < ints {
-        return TableForm::Bad;
+        return None;
     }
     if area.len() < ints {
-        return TableForm::Bad;
+        return None;
     }
     if edge(area, n, 0) != 0 {
-        return TableForm::Bad;
+        return None;
     }
     if all_fit(area, n, size) {
-        TableForm::Table { items: n, ints }
+        Some(TableForm { items: n, ints })
     } else {
-        TableForm::Bad
+        None
     }
 }
 
@@ -299,17 +291,7 @@ pub fn place(area: &[i32], n: usize, key: i32) -> usize
     requires { Held area.now n }
     ensures { Place area.now (bits key) result }
 {
-    let mut lo = 0;
-    let mut hi = n;
-    while lo < hi {
-        let mid = lo + (hi - lo) / 2;
-        if ints::unsigned_less(key_at(area, n, mid), key) {
-            lo = mid + 1;
-        } else {
-            hi = mid;
-        }
-    }
-    lo
+    first_not(n, |i| ints::unsigned_less(key_at(area, n, i), key))
 }
 
 // The place of the item with a key among the n items, or n if there is none.
@@ -318,10 +300,8 @@ pub fn find(area: &[i32], n: usize, key: i32) -> usize
     ensures { Tables.find (bits key) (items area.now) ≡ data_in area.now n result }
 {
     let p = place(area, n, key);
-    if p < n {
-        if key_at(area, n, p) == key {
-            return p;
-        }
+    if p < n && key_at(area, n, p) == key {
+        return p;
     }
     n
 }
@@ -333,13 +313,11 @@ pub fn crc(area: &[i32], n: usize) -> i32
 {
     let mut total: i32 = 0;
     let mut at = 2 + n;
-    let mut i: usize = 0;
-    while i < n {
+    for i in 0..n {
         let from = at + 1;
         let to = start_at(area, n, i + 1);
         total = ints::wrapping_add(total, ints::sum(&area[from..to]));
         at = to;
-        i += 1;
     }
     total
 }
@@ -349,17 +327,7 @@ pub fn walk_start(area: &[i32], n: usize) -> usize
     requires { Held area.now n }
     ensures { Place area.now (2 ^ 31) result }
 {
-    let mut lo = 0;
-    let mut hi = n;
-    while lo < hi {
-        let mid = lo + (hi - lo) / 2;
-        if ints::signed_less(key_at(area, n, mid), 0) {
-            hi = mid;
-        } else {
-            lo = mid + 1;
-        }
-    }
-    lo
+    first_not(n, |i| 0 <= key_at(area, n, i))
 }
 
 // The place of the i-th of the n items in signed key order.
@@ -387,15 +355,12 @@ pub fn next_place(area: &[i32], n: usize, from: usize, key: i32) -> usize
     requires { Held area.now n × (from ≤ n) × ((i : ℕ) → i < from → key_at area.now i < bits key) }
     ensures { Place area.now (bits key) result }
 {
-    let mut i = from;
-    while i < n {
-        if ints::unsigned_less(key_at(area, n, i), key) {
-            i += 1;
-        } else {
+    for i in from..n {
+        if !ints::unsigned_less(key_at(area, n, i), key) {
             return i;
         }
     }
-    i
+    n
 }
 
 // Whether the item at a key's place has that key.
@@ -403,8 +368,5 @@ pub fn has_key(area: &[i32], n: usize, place: usize, key: i32) -> bool
     requires { Held area.now n × Place area.now (bits key) place }
     ensures { result ≡ is_some (find (bits key) (items area.now)) }
 {
-    if place < n {
-        return key_at(area, n, place) == key;
-    }
-    false
+    place < n && key_at(area, n, place) == key
 }

@@ -1,12 +1,12 @@
 -- A turn of each loop that moves or raises the ints of an area, as an equation of lists. Assumes nothing.
-use Prim.Native.Nat.{ℕ, zero, suc, ◌+◌, ◌<◌, ◌≤◌}
+use Prim.Native.Nat.{ℕ, zero, suc, ◌+◌, ◌<◌}
 use mathlib.Core.Path.{◌≡◌, refl, sym, ap, ap₂, ◌∙◌}
-use mathlib.Core.List.{List, [], ◌∷◌, ◌++◌, map, append-nil}
+use mathlib.Core.List.{List, [], ◌∷◌, ◌++◌, map}
 use native.Mathlib.Numerals.{add-one}
 use native.Mathlib.Omega.{arith}
 use lib.IntN.{ℤ, pos}
-use lib.ListN.{length, get_or, take, drop, set, drop_of_length-le, length-map}
-use lib.Seq.{take_all, drop-cons, set_at, get_or_at, length-take-le, append_snoc}
+use lib.ListN.{length, get_or, take, drop, set, length-map}
+use lib.Seq.{drop-cons, set_at, get_or_at, length-take-le, append_snoc}
 use Rattle.definitions.specs.Tables.{num, nat}
 use Rattle.table_adding.specs.Adding.{raised}
 
@@ -43,9 +43,3 @@ module _ (by : ℕ) where
         ∙ (set_at done x (drop (suc i) a) (raised by x) i long
         ∙ (sym (append_snoc done (raised by x) (drop (suc i) a))
         ∙ ap₂ (λ (m k : List ℤ). m ++ k) (sym (raise-take a i l)) (ap (λ (j : ℕ). drop j a) (sym (add-one i)))))
-
-  pub raise-all : (a b : List ℤ) (i : ℕ) → length a ≤ i → b ≡ map (raised by) (take i a) ++ drop i a → b ≡ map (raised by) a
-  raise-all a b i l e =
-      e
-      ∙ (ap₂ (λ (m k : List ℤ). map (raised by) m ++ k) (take_all i a l) (drop_of_length-le a l)
-      ∙ append-nil (map (raised by) a))

@@ -9,17 +9,15 @@ ghost use Rattle.table_adding.specs.Adding.{raised, Room};
 ghost use Rattle.format.specs.Answers.{stored_ints};
 ghost use Rattle.table.specs.Held.{Held};
 
-use format::{Error, Stored};
+use format::Error;
 
 // Adds by to each count of a part of the area.
 pub fn raise(part: &mut [i32], by: usize)
     requires { (by < 2 ^ 31) × ((i : ℕ) → i < length part.old → nat part.old i + by < 2 ^ 31) }
     ensures { part.new ≡ map (raised by) part.old }
 {
-    let mut i = 0;
-    while i < part.len() {
-        table::checked::put(part, i, table::checked::nat_at(part, i) + by);
-        i += 1;
+    for count in part.iter_mut() {
+        *count = (ints::num(*count) + by) as i32;
     }
 }
 
@@ -43,26 +41,24 @@ pub fn write_item(area: &mut [i32], n: usize, ints: usize, p: usize, key: i32, d
 }
 
 // Adds an item to the n items of a table; ints is the table's length. A refused call leaves the area as it was.
-pub fn add(area: &mut [i32], n: usize, ints: usize, key: i32, data: &[i32]) -> Stored
+pub fn add(area: &mut [i32], n: usize, ints: usize, key: i32, data: &[i32]) -> Result<usize, Error>
     requires { Held area.old n × (ints ≡ 2 + count area.old + size area.old / 4) }
     ensures { stored_table area.old (add_item (record { key = bits key; values = «data».now }) (items area.old)) ≡ record { answer = stored_ints result; out = area.new } }
 {
     let p = table::checked::place(area, n, key);
-    if p < n {
-        if table::checked::key_at(area, n, p) == key {
-            return Stored::Refused(Error::DuplicateKey);
-        }
+    if p < n && table::checked::key_at(area, n, p) == key {
+        return Err(Error::DuplicateKey);
     }
     if 1024 <= n {
-        return Stored::Refused(Error::TooManyItems);
+        return Err(Error::TooManyItems);
     }
     let need = ints + (data.len() + 2);
     if 16384 < need {
-        return Stored::Refused(Error::TooLongSnap);
+        return Err(Error::TooLongSnap);
     }
     if area.len() < need {
-        return Stored::Refused(Error::CapacityError);
+        return Err(Error::CapacityError);
     }
     write_item(area, n, ints, p, key, data);
-    Stored::Ints(need)
+    Ok(need)
 }

@@ -20,17 +20,14 @@ use Rattle.format.specs.Answers.{stored_ints, stored_with, with-counts}
 use Rattle.table.specs.Held.{form_of}
 use Rattle.table.specs.Forms.{formed}
 use Rattle.table.specs.Writing.{form-front}
-use Rattle.format.specs.declared.Stored.{Stored}
-use Rattle.format.specs.declared.Stored.TheVariants as write
+use Rattle.std.specs.Prelude.{Result, Ok, Err, Some}
 use Rattle.format.specs.Sources.{excess}
-use Rattle.table.specs.declared.checked.TableForm.TheVariants as form
 use Rattle.table_reading.specs.Reading.{header_of, Headed, Ints}
 use Rattle.table_reading.specs.Counted.{table-after, warned}
 use Rattle.table_reading.specs.declared.checked.Header.{Header}
-use Rattle.table_reading.specs.declared.checked.Header.TheVariants as header
 
 -- a table that may be followed by more ints
-pub with-excess : (x : Bool) (o : Outcome Table) (out last : List ℤ) (r : Stored) → stored_table out o ≡ record { answer = stored_ints r; out = last } → stored_table out (warn_if x ExcessSnapData >> o) ≡ record { answer = stored_with r (excess x); out = last }
+pub with-excess : (x : Bool) (o : Outcome Table) (out last : List ℤ) (r : Result ℕ Error) → stored_table out o ≡ record { answer = stored_ints r; out = last } → stored_table out (warn_if x ExcessSnapData >> o) ≡ record { answer = stored_with r (excess x); out = last }
 with-excess x o out last r e =
     ap (stored_table out) (warned x o)
     ∙ table-after out (excess x) o
@@ -39,24 +36,24 @@ with-excess x o out last r e =
 
 -- ---- a table by its header
 
-module _ (a : List ℤ) (h : Header) (read : (read_table a ≡ header_of a h) × Headed a h) where
-  pub header_refused : (e : Error) (out : List ℤ) → h ≡ header.Refused e → stored_table out (read_table a) ≡ record { answer = stored_with (write.Refused e) (excess false); out = out }
+module _ (a : List ℤ) (h : Result Header Error) (read : (read_table a ≡ header_of a h) × Headed a h) where
+  pub header_refused : (e : Error) (out : List ℤ) → h ≡ Err e → stored_table out (read_table a) ≡ record { answer = stored_with (Err e) (excess false); out = out }
   unfolding stored
   header_refused e out q = rw (read.0, q)
 
-  pub headed : (n len : ℕ) (x : Bool) → h ≡ header.Table n len x → Ints a n len
-  headed n len x q = subst (Headed a) q read.1
+  pub headed : (t : Header) → h ≡ Ok t → Ints a t.items t.len
+  headed t q = subst (Headed a) q read.1
 
-  pub header-table : (n len : ℕ) (x : Bool) (out last : List ℤ) (r : Stored) → h ≡ header.Table n len x → stored_table out (read_items a n) ≡ record { answer = stored_ints r; out = last } → stored_table out (read_table a) ≡ record { answer = stored_with r (excess x); out = last }
-  header-table n len x out last r q e =
+  pub header-table : (t : Header) (out last : List ℤ) (r : Result ℕ Error) → h ≡ Ok t → stored_table out (read_items a t.items) ≡ record { answer = stored_ints r; out = last } → stored_table out (read_table a) ≡ record { answer = stored_with r (excess t.excess); out = last }
+  header-table t out last r q e =
       ap (stored_table out) (read.0 ∙ ap (header_of a) q)
-      ∙ with-excess x (read_items a n) out last r e
+      ∙ with-excess t.excess (read_items a t.items) out last r e
 
 -- ---- a table that is in form
 
-module _ (a : List ℤ) {n k : ℕ} (e : form.Table n k ≡ form_of (table_of a)) where
+module _ (a : List ℤ) {n k : ℕ} (e : Some (record { items = n; ints = k }) ≡ form_of (table_of a)) where
   -- its first k ints are stored
-  pub form-stored : (out last : List ℤ) (r : Stored) → stored out (return (take k a)) ≡ record { answer = stored_ints r; out = last } → stored_table out (read_table a) ≡ record { answer = stored_with r (excess (ltb k (length a))); out = last }
+  pub form-stored : (out last : List ℤ) (r : Result ℕ Error) → stored out (return (take k a)) ≡ record { answer = stored_ints r; out = last } → stored_table out (read_table a) ≡ record { answer = stored_with r (excess (ltb k (length a))); out = last }
   form-stored out last r s =
       let f = formed a n k e in
       let h : stored_table out (return (items a)) ≡ record { answer = stored_ints r; out = last } = ap (λ (xs : List ℤ). stored out (return xs)) (form-front a e) ∙ s in

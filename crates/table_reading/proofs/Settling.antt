@@ -21,8 +21,7 @@ use Rattle.format.specs.Numbers.{number}
 use Rattle.format.specs.declared.Error.{Error}
 use Rattle.sorting.specs.Sort.{sort}
 use Rattle.sorting.specs.Pairs.{key, place, has_key, pair_at, pairs, keys_above, keys_rise}
-use Rattle.table_reading.specs.declared.checked.Placed.{Placed}
-use Rattle.table_reading.specs.declared.checked.Placed.TheVariants as placed
+use Rattle.std.specs.Prelude.{Result, Ok, Err}
 use Rattle.table_reading.specs.Reading.{Fine, numbered, Ending, all, not-at-zero, ends-badly, too_many, too_long, Listing, Indexed, AllPlaced, picked}
 use Rattle.table_reading.proofs.Picking.{Keyed}
 use Rattle.table_reading.proofs.Sorted.{to_the_end, sorted, table, keyed, length-sorted, takes, told, read-sorted, rise_one, step, add-dup, add-full, add-long}
@@ -48,7 +47,7 @@ module _ (a : List ℤ) (n len : ℕ) where
   unfolding numbered list sort keys_rise
   none-twice = refl
 
-  pub twice : (c : ℕ) (p : Placed) → Ending a n len c p → keys_rise (sorted a c) ≡ false → read_items a n ≡ refuse duplicate_key
+  pub twice : (c : ℕ) (p : Result (Unit {0}) Error) → Ending a n len c p → keys_rise (sorted a c) ≡ false → read_items a n ≡ refuse duplicate_key
   twice c p (all x) r = twice-at n x r
   twice c p (not-at-zero h) r = absurd (true≢false (sym none-twice ∙ r))
   twice c p (ends-badly x l e) r = to_the_end a duplicate_key c n (omega arith) (twice-at c x r)
@@ -72,7 +71,7 @@ module _ (a : List ℤ) (n len : ℕ) where
   unfolding read_items
   bad-end c x e r = rw (read-so-far c x r, e)
 
-  pub refused : (c : ℕ) (e : Error) → Ending a n len c (placed.Refused e) → keys_rise (sorted a c) ≡ true → read_items a n ≡ refuse (number e)
+  pub refused : (c : ℕ) (e : Error) → Ending a n len c (Err e) → keys_rise (sorted a c) ≡ true → read_items a n ≡ refuse (number e)
   refused c f (not-at-zero h) r = to_the_end a invalid_offset 0 n (omega arith) (unfold read_items in rw (ne_eqb (edge a 0) 0 h))
   refused c f (ends-badly x l e) r = to_the_end a invalid_offset (suc c) n l (bad-end c x e r)
   refused c f (too_many {c = d} x l e h) r =
@@ -159,7 +158,7 @@ get_or-list f (suc n) j h =
     (λ (s : j < n). get_or-append (list f n) (f n ∷ []) 0 j (omega (arith, length-list f n)) ∙ get_or-list f n j s)
     (eq-or-lt_of_le (omega arith))
 
-all-fine : (a : List ℤ) (n len c : ℕ) (p : Placed) → p ≡ placed.All → Ending a n len c p → (c ≡ n) × Fine a n len n
+all-fine : (a : List ℤ) (n len c : ℕ) (p : Result (Unit {0}) Error) → p ≡ Ok tt → Ending a n len c p → (c ≡ n) × Fine a n len n
 all-fine a n len c p q (all x) = (refl, x)
 all-fine a n len c p q (not-at-zero h) = let z : ◌≡◌ {A = ℕ} 0 1 = cc in absurd (omega arith)
 all-fine a n len c p q (ends-badly x l e) = let z : ◌≡◌ {A = ℕ} 0 1 = cc in absurd (omega arith)
@@ -167,17 +166,17 @@ all-fine a n len c p q (too_many x l e h) = let z : ◌≡◌ {A = ℕ} 0 1 = cc
 all-fine a n len c p q (too_long x l e h k) = let z : ◌≡◌ {A = ℕ} 0 1 = cc in absurd (omega arith)
 
 module _ (a : List ℤ) (n len c : ℕ) (before keys : List ℤ) (s : pairs keys c ≡ sort (pairs before c)) where
-  is_sorted : (p : Placed) → Listing a n len before c p → pairs keys c ≡ sorted a c
+  is_sorted : (p : Result (Unit {0}) Error) → Listing a n len before c p → pairs keys c ≡ sorted a c
   is_sorted p l = s ∙ ap sort l.keys-are
 
-  pub twice-listed : (p : Placed) → Listing a n len before c p → keys_rise (pairs keys c) ≡ false → read_items a n ≡ refuse duplicate_key
+  pub twice-listed : (p : Result (Unit {0}) Error) → Listing a n len before c p → keys_rise (pairs keys c) ≡ false → read_items a n ≡ refuse duplicate_key
   twice-listed p l r = twice a n len c p l.ending (ap keys_rise (sym (is_sorted p l)) ∙ r)
 
-  pub listed-refused : (p : Placed) (e : Error) → p ≡ placed.Refused e → Listing a n len before c p → keys_rise (pairs keys c) ≡ true → read_items a n ≡ refuse (number e)
+  pub listed-refused : (p : Result (Unit {0}) Error) (e : Error) → p ≡ Err e → Listing a n len before c p → keys_rise (pairs keys c) ≡ true → read_items a n ≡ refuse (number e)
   listed-refused p e q l r =
       refused a n len c e (subst (Ending a n len c) q l.ending) (ap keys_rise (sym (is_sorted p l)) ∙ r)
 
-  module _ (p : Placed) (q : p ≡ placed.All) (l : Listing a n len before c p) where
+  module _ (p : Result (Unit {0}) Error) (q : p ≡ Ok tt) (l : Listing a n len before c p) where
     fine : Fine a n len n
     fine = (all-fine a n len c p q l.ending).1
 
@@ -196,7 +195,7 @@ module _ (a : List ℤ) (n len c : ℕ) (before keys : List ℤ) (s : pairs keys
         let k = keyed-at a n (sorted a n) (keyed a n (omega (arith, fine.few))) j (omega (arith, length-sorted a n)) in
         omega (arith, ap place e, k.1, fine.few)
 
-    pub all_placed : (index : List ℕ) → keys_rise (pairs keys c) ≡ true → take n index ≡ map place (pairs keys n) → length index ≡ 1024 → AllPlaced a n len index placed.All
+    pub all_placed : (index : List ℕ) → keys_rise (pairs keys c) ≡ true → take n index ≡ map place (pairs keys n) → length index ≡ 1024 → AllPlaced a n len index (Ok tt)
     all_placed index r t long =
         let rise : keys_rise (sorted a n) ≡ true = subst (λ (k : ℕ). keys_rise (sorted a k) ≡ true) all_listed (ap keys_rise (sym (is_sorted p l)) ∙ r) in
         AllPlaced.all (indexed a n len index fine rise (t ∙ ap (map place) all-sorted) long)

@@ -1,5 +1,5 @@
 -- The result of storing a table whose reading counted warnings. Assumes nothing.
-use Rattle.std.specs.Prelude.{◌≡◌, refl, Bool, true, false, List, ℕ, ℤ}
+use Rattle.std.specs.Prelude.{◌≡◌, refl, Result, Ok, Err, Bool, true, false, List, ℕ, ℤ}
 use Rattle.std.proofs.Common.{ap, ◌∙◌}
 use Rattle.definitions.specs.Warnings.{Counts, ExcessSnapData, plus}
 use Rattle.definitions.specs.Outcome.{Outcome, return, after, warn_if, ◌>>=◌, ◌>>◌, Wrote}
@@ -10,8 +10,7 @@ use Rattle.laws.specs.OutcomeLaws.{after-bind}
 use Rattle.laws.specs.StoredLaws.{counting, stored-after}
 use Rattle.format.specs.Answers.{stored_with}
 use Rattle.format.specs.Sources.{excess}
-use Rattle.format.specs.declared.Stored.{Stored}
-use Rattle.format.specs.declared.Stored.TheVariants as write
+use Rattle.format.specs.declared.Error.{Error}
 
 pub table-after : (out : List ℤ) (w : Counts) (o : Outcome Table) → stored_table out (after w o) ≡ counting w (stored_table out o)
 table-after out w o =
@@ -24,12 +23,12 @@ warned true o = refl
 warned false o = refl
 
 -- an answer that was given with its warnings, with earlier ones
-after_read : (r : Stored) (v u : Counts) → after v (stored_with r u) ≡ stored_with r (plus v u)
-after_read (write.Ints n) v u = refl
-after_read (write.Refused e) v u = refl
+after_read : (r : Result ℕ Error) (v u : Counts) → after v (stored_with r u) ≡ stored_with r (plus v u)
+after_read (Ok n) v u = refl
+after_read (Err e) v u = refl
 
 -- the same for a table that was stored
-pub told-after : (v u : Counts) (o : Outcome Table) (out last : List ℤ) (r : Stored) → stored_table out o ≡ record { answer = stored_with r u; out = last } → stored_table out (after v o) ≡ record { answer = stored_with r (plus v u); out = last }
+pub told-after : (v u : Counts) (o : Outcome Table) (out last : List ℤ) (r : Result ℕ Error) → stored_table out o ≡ record { answer = stored_with r u; out = last } → stored_table out (after v o) ≡ record { answer = stored_with r (plus v u); out = last }
 told-after v u o out last r e =
     table-after out v o
     ∙ (ap (counting v) e ∙ ap (λ (b : Outcome ℕ). record { answer = b; out = last }) (after_read r v u))

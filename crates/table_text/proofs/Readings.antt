@@ -17,8 +17,8 @@ use Rattle.definitions.specs.TableReading.{read_packed}
 use Rattle.definitions.specs.TableCalls.{held, stored_table, read_call}
 use Rattle.format.specs.Numbers.{number}
 use Rattle.format.specs.Answers.{stored_with}
-use Rattle.format.specs.declared.Stored.{Stored}
-use Rattle.format.specs.declared.Stored.TheVariants as answer
+use Rattle.format.specs.declared.Error.{Error}
+use Rattle.std.specs.Prelude.{Result, Ok, Err}
 use Rattle.laws.specs.OutcomeLaws.{after_none, ok-not-err}
 use Rattle.laws.specs.BuilderCalls.{laid-held as laid}
 use Rattle.laws.specs.StoreForm.{sound-short}
@@ -64,26 +64,26 @@ module _ (src : List ℕ) where
           (ap (stored_table out) (after_none _ ∙ after_none (read_packed src)))
 
       -- what was stored is the table that was read, and what was refused is what reading refuses
-      pub all_read : (s : Stored) → read_call src out n ≡ record { answer = stored_with s w; out = a } → unwarned (tabled src) ≡ read_into s a
+      pub all_read : (s : Result ℕ Error) → read_call src out n ≡ record { answer = stored_with s w; out = a } → unwarned (tabled src) ≡ read_into s a
       all_read s e = ap unwarned short-read ∙ go s (read_packed src) refl (sym call-is ∙ e)
         where
           go :
-              (s : Stored) (o : Outcome Table) → read_packed src ≡ o →
+              (s : Result ℕ Error) (o : Outcome Table) → read_packed src ≡ o →
               stored_table out o ≡ record { answer = stored_with s w; out = a } → unwarned o ≡ read_into s a
-          go (answer.Ints k) (ok t v) r d =
+          go (Ok k) (ok t v) r d =
               let s = read-sound src r in
               let l : length (written t) ≤ length out = omega (arith, sound-short t s) in
               let f = stored_is t v out l in
               let g : lay (written t) out ≡ a = ap (λ (x : Wrote ℕ ℤ). x.out) (sym f ∙ d) in
               sym (ap held (sym g) ∙ laid-held t out s l)
-          go (answer.Ints k) (err m v) r d =
+          go (Ok k) (err m v) r d =
               let f = not-stored m v out in
               absurd (ok-not-err (sym (ap (λ (x : Wrote ℕ ℤ). x.answer) (sym f ∙ d))))
-          go (answer.Refused z) (ok t v) r d =
+          go (Err z) (ok t v) r d =
               let l : length (written t) ≤ length out = omega (arith, sound-short t (read-sound src r)) in
               let f = stored_is t v out l in
               absurd (ok-not-err (ap (λ (x : Wrote ℕ ℤ). x.answer) (sym f ∙ d)))
-          go (answer.Refused z) (err m v) r d =
+          go (Err z) (err m v) r d =
               let f = not-stored m v out in
               let g : err m v ≡ err (number z) w = ap (λ (x : Wrote ℕ ℤ). x.answer) (sym f ∙ d) in
               ap (λ (i : ℕ). refuse i) (err-number g)

@@ -1,13 +1,12 @@
 -- Reading a packed table of limited length, as the programs that show one do. Assumes nothing.
-use Rattle.std.specs.Prelude.{List, ℕ, leb, ℤ, length}
+use Rattle.std.specs.Prelude.{List, ℕ, leb, ℤ, length, Result, Ok, Err}
 use Rattle.definitions.specs.Refusals.{input_too_long}
 use Rattle.definitions.specs.Outcome.{Outcome, ok, err, return, refuse, require, ◌>>◌}
 use Rattle.definitions.specs.Tables.{Table}
 use Rattle.definitions.specs.TableReading.{read_packed}
 use Rattle.definitions.specs.TableCalls.{held}
 use Rattle.format.specs.Numbers.{number}
-use Rattle.format.specs.declared.Stored.{Stored}
-use Rattle.format.specs.declared.Stored.TheVariants as stored
+use Rattle.format.specs.declared.Error.{Error}
 
 -- the table of at most 8,192 packed bytes; more are refused with 42
 unfoldable pub tabled : List ℕ → Outcome Table
@@ -21,6 +20,6 @@ unwarned (ok a w) = return a
 unwarned (err n w) = refuse n
 
 -- the table that an area holds after it was stored there, or the refusal
-abbrev pub read_into : Stored → List ℤ → Outcome Table
-read_into (stored.Ints n) area = held area
-read_into (stored.Refused e) area = refuse (number e)
+abbrev pub read_into : Result ℕ Error → List ℤ → Outcome Table
+read_into (Ok n) area = held area
+read_into (Err e) area = refuse (number e)

@@ -12,9 +12,8 @@ ghost use Rattle.replay_text.specs.Buffer.{puts};
 ghost use Rattle.table.specs.Held.{Held};
 ghost use Rattle.table_text.specs.Listing.{ended, line, item_lines, heading, answer_text, listing_text};
 
-use format::{Error, Stored};
+use format::Error;
 use replay_text::{put, put_byte, put_int, put_next, put_number, put_refused};
-use table::checked::TableForm;
 
 pub mod checked;
 
@@ -47,12 +46,10 @@ fn put_items(out: &mut [u8], at: usize, area: &[i32], n: usize) -> usize
     ensures { puts (item_lines (items area.now)) (record { next = at; out = out.old }) ≡ record { next = result; out = out.new } }
 {
     let mut end = at;
-    let mut i: usize = 0;
-    while i < n {
+    for i in 0..n {
         let key = table::checked::key_at(area, n, i);
         let count = table::checked::data_at(area, n, i).len();
         end = put_item(out, end, key, count);
-        i += 1;
     }
     end
 }
@@ -69,11 +66,11 @@ pub fn put_refusal(out: &mut [u8], e: Error) -> usize
 fn put_table(out: &mut [u8], area: &[i32]) -> usize
     ensures { puts (answer_text (held area.now)) (record { next = 0; out = out.old }) ≡ record { next = result; out = out.new } }
 {
-    let TableForm::Table { items: n, ints: _ } = table::checked::form(area) else {
+    let Some(form) = table::checked::form(area) else {
         return put_refusal(out, Error::NotInForm);
     };
-    let end = put_heading(out, n, table::checked::crc(area, n));
-    put_items(out, end, area, n)
+    let end = put_heading(out, form.items, table::checked::crc(area, form.items));
+    put_items(out, end, area, form.items)
 }
 
 // Writes the lines for a packed table of at most 8,192 bytes, or for its refusal, at the front of out; returns where they end.
@@ -82,9 +79,8 @@ pub fn listing(src: &[u8], out: &mut [u8]) -> usize
     ensures prefix_len { IsPrefixLen result out.new }
 {
     let mut area = [0i32; 16384];
-    let read = checked::read_table(src, &mut area);
-    match read {
-        Stored::Ints(_) => put_table(out, &area),
-        Stored::Refused(e) => put_refusal(out, e),
+    match checked::read_table(src, &mut area) {
+        Ok(_) => put_table(out, &area),
+        Err(e) => put_refusal(out, e),
     }
 }

@@ -16,11 +16,8 @@ fn reply(rt: &impl Print, line: &[u8]) -> Result<()> {
 
 // Writes the listing of each line.
 fn replay(rt: &impl Print, cases: &[u8]) -> Result<()> {
-    let mut at: usize = 0;
-    while at < cases.len() {
-        let line = replay_text::until(&cases[at..], b'\n');
-        reply(rt, line)?;
-        at += line.len() + 1;
+    for line in cases.split_inclusive(|b| *b == b'\n') {
+        reply(rt, replay_text::until(line, b'\n'))?;
     }
     Ok(())
 }

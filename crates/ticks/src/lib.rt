@@ -8,19 +8,12 @@ ghost use Rattle.definitions.specs.Receiver.{same};
 ghost use Rattle.ticks.specs.Ticks.{distance_of};
 
 // The tick of a table.
-#[derive(Clone, Copy)]
+#[derive(Clone, Copy, PartialEq, Eq, PartialOrd, Ord)]
 pub struct Tick(pub i32);
 
 // How far a table's tick is past its base's tick.
-#[derive(Clone, Copy)]
+#[derive(Clone, Copy, PartialEq, Eq)]
 pub struct Distance(pub i32);
-
-// A tick, if there is one.
-#[derive(Clone, Copy)]
-pub enum OptionTick {
-    Some(Tick),
-    None,
-}
 
 impl Tick {
     // The tick that lies a distance before this one; it wraps on purpose.
@@ -41,20 +34,20 @@ impl Tick {
     pub fn is_before(self, other: Tick) -> bool
         ensures { result ≡ signed_less self.0 other.0 }
     {
-        ints::signed_less(self.0, other.0)
+        self < other
     }
 
     // Whether two ticks are equal.
     pub fn is_same(self, other: Tick) -> bool
         ensures { result ≡ same self.0 other.0 }
     {
-        ints::same(self.0, other.0)
+        self == other
     }
 
     // Whether this tick is below 0, so that it names no table.
     pub fn is_negative(self) -> bool
         ensures { result ≡ signed_less self.0 (pos 0) }
     {
-        ints::signed_less(self.0, 0)
+        self.0 < 0
     }
 }

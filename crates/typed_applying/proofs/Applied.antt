@@ -7,6 +7,7 @@ use Prim.Native.Nat.{ℕ, ◌≤◌}
 use native.Mathlib.Nat.{zero-add}
 use native.Mathlib.Omega.{arith}
 use borrow.Author.Tests.{le-leb}
+use Rattle.std.specs.Prelude.{Result, Ok, Err, Some}
 use lib.IntN.{ℤ}
 use lib.ListN.{length, drop}
 use Rattle.definitions.specs.Areas.{lay}
@@ -26,18 +27,12 @@ use Rattle.laws.specs.AppliedSound.{applied-sound}
 use Rattle.laws.specs.DeltaMade.{facts}
 use Rattle.laws.specs.DeltaRestores.{delta-in-order}
 use Rattle.format.specs.Numbers.{number}
-use Rattle.format.specs.Answers.{stored_with}
 use Rattle.format.specs.declared.Error.{Error}
-use Rattle.format.specs.declared.Stored.{Stored}
-use Rattle.format.specs.declared.Stored.TheVariants as stored_as
 use Rattle.format.specs.Sources.{unknown_counts, uuid_excess, typed_counts}
 use Rattle.table.specs.Held.{Held, form_of}
 use Rattle.table.specs.Forms.{formed}
-use Rattle.table.specs.declared.checked.TableForm.TheVariants as table_form
 use Rattle.delta_form.specs.Held.{HeldDelta}
-use Rattle.types.specs.Answers.{judged_table}
-use Rattle.types.specs.declared.checked.Judged.{Judged}
-use Rattle.types.specs.declared.checked.Types.TheVariants as types
+use Rattle.types.specs.Answers.{types_with}
 
 -- ---- the types
 
@@ -46,21 +41,16 @@ counts-are : (u : Bool) (n : ℕ) → plus (unknown_counts u) (uuid_excess n) �
 counts-are true n = rw (zero-add n)
 counts-are false n = rw (zero-add n)
 
-module _ (u : Bool) (t : Table) (j : Judged) (e : typed t ≡ judged_table t j) where
-  -- they are sound
-  pub types-sound : j.types ≡ types.Sound → after (unknown_counts u) (typed t) ≡ ok t (typed_counts u j.excess)
-  types-sound f = rw (e, f) (ap (ok t) (counts-are u j.excess))
-
-  -- they are not
-  pub types-refused : (x : Error) → j.types ≡ types.Refused x → after (unknown_counts u) (typed t) ≡ err (number x) (typed_counts u j.excess)
-  types-refused x f = rw (e, f) (ap (err (number x)) (counts-are u j.excess))
+pub types-added : (u : Bool) (t : Table) (x : Result (Unit {0}) Error) (n : ℕ) → typed t ≡ types_with t x (uuid_excess n) → after (unknown_counts u) (typed t) ≡ types_with t x (typed_counts u n)
+types-added u t (Ok v) n e = rw e (ap (ok t) (counts-are u n))
+types-added u t (Err x) n e = rw e (ap (err (number x)) (counts-are u n))
 
 -- ---- the table
 
 -- what a table that was made is
 pub record Made (o : Outcome Table) (u : Bool) (k : ℕ) (out : List ℤ) : Type 0 where
   pub is : o ≡ ok (items out) (unknown_counts u)
-  pub form : table_form.Table (count out) k ≡ form_of (table_of out)
+  pub form : Some (record { items = count out; ints = k }) ≡ form_of (table_of out)
 
 module _ (out out' : List ℤ) (room : 16384 ≤ length out) (u : Bool) where
   -- a table that is stored is at most 16,384 ints long, and has room
@@ -81,7 +71,7 @@ module _ (out out' : List ℤ) (room : 16384 ≤ length out) (u : Bool) where
       ap₂ (λ (i : ℕ) (w : Counts). err i w) d g
 
   -- a table that was stored is found
-  stands : (t : Table) → sound t ≡ true → out' ≡ lay (written t) out → (items out' ≡ t) × (table_form.Table (count out') (length (written t)) ≡ form_of (table_of out'))
+  stands : (t : Table) → sound t ≡ true → out' ≡ lay (written t) out → (items out' ≡ t) × (Some (record { items = count out'; ints = length (written t) }) ≡ form_of (table_of out'))
   stands t s e =
       let w = written t in
       let f : out' ≡ w ++ drop (length w) out = e ∙ lay-append w out (omega (arith, (facts t s).short)) in
@@ -118,14 +108,14 @@ module _ (base : List ℤ) (nb : ℕ) (hb : Held base nb) (delta : List ℤ) (k 
   is-sound = applied-sound (items base) (delta_in [] delta) (items-sound base hb.shape) (both (signed_rising 0 (delta_in [] delta).deleted) _ (delta-in-order [] delta hd.shape)).1
 
   -- the delta is refused
-  pub apply-refused : (r : Stored) (x : Error) → r ≡ stored_as.Refused x → stored_table out O ≡ record { answer = stored_with r (unknown_counts u); out = out' } → (O >>= typed) ≡ err (number x) (typed_counts u 0)
-  apply-refused r x e f =
-      let g : O ≡ err (number x) (unknown_counts u) = refused-is out out' room u O (number x) is-sound (rw e at f) in
+  pub apply-refused : (x : Error) → stored_table out O ≡ record { answer = err (number x) (unknown_counts u); out = out' } → (O >>= typed) ≡ err (number x) (typed_counts u 0)
+  apply-refused x f =
+      let g : O ≡ err (number x) (unknown_counts u) = refused-is out out' room u O (number x) is-sound f in
       rw g
 
   -- it made a table
-  pub apply-made : (r : Stored) (i : ℕ) → r ≡ stored_as.Ints i → stored_table out O ≡ record { answer = stored_with r (unknown_counts u); out = out' } → Made O u i out'
-  apply-made r i e f = made-is out out' room u O i is-sound (rw e at f)
+  pub apply-made : (i : ℕ) → stored_table out O ≡ record { answer = ok i (unknown_counts u); out = out' } → Made O u i out'
+  apply-made i f = made-is out out' room u O i is-sound f
 
 -- the types of the table that was made
 pub then_typed : (o : Outcome Table) (u : Bool) (k : ℕ) (out : List ℤ) (r : Outcome Table) → Made o u k out → after (unknown_counts u) (typed (items out)) ≡ r → (o >>= typed) ≡ r

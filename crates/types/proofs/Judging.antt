@@ -1,6 +1,7 @@
 -- The results of judging kinds, turn by turn, and of the whole walk. Assumes nothing.
 use mathlib.Core.Path.{◌≡◌, refl, sym, ap, ◌∙◌}
-use mathlib.Core.Bool.{true, false}
+use mathlib.Core.Bool.{true, false, false≢true}
+use Rattle.std.specs.Prelude.{Result, Ok, Err, is_ok}
 use mathlib.Core.List.{List, [], ◌∷◌, ◌++◌}
 use mathlib.Core.Logic.{⊎_elim}
 use Prim.Native.Nat.{ℕ, zero, suc, ◌+◌, ◌-◌, ◌^◌, ◌≤◌, ◌<◌}
@@ -21,7 +22,10 @@ use Rattle.laws.specs.OutcomeLaws.{after_none, after-after}
 use Rattle.laws.specs.TableWalk.{walk-list}
 use Rattle.laws.specs.ListLaws.{list_ext}
 use Rattle.types.specs.Picks.{key_in, item_of, table_in, seg, seg-list, Lower, any_lacks}
+use Rattle.format.specs.declared.Error.{Error}
+use Rattle.format.specs.Numbers.{number}
 use Rattle.format.specs.Sources.{uuid_excess}
+use Rattle.types.specs.Answers.{types_with}
 use Rattle.types.proofs.Walking.{Plain, lacked, plain, plain-before, plain-behind, one_if, kind-new, kind-again, kind-short}
 use Rattle.types.proofs.Naming.{kinds_before}
 
@@ -127,16 +131,25 @@ module _ (a : List ℤ) (n : ℕ) (index : List ℕ) (high z : ℕ) (lh : Lower 
 
   module _ (e : any_lacks t late ≡ false) where
     -- the items of type 0 are refused
-    pub kinds-refused : (m w : ℕ) → judge_types t [] (seg f 0 z) ≡ err m (uuid_excess w) → typed t ≡ err m (uuid_excess w)
+    kinds-refused : (m w : ℕ) → judge_types t [] (seg f 0 z) ≡ err m (uuid_excess w) → typed t ≡ err m (uuid_excess w)
     kinds-refused m w k = typed-is ∙ rw (e, k) (ap (err m) (none-plus (uuid_excess w)))
 
     module _ (w : ℕ) (k : judge_types t [] (seg f 0 z) ≡ ok tt (uuid_excess w)) where
       -- another type lacks its kind
-      pub later-missing : any_lacks t early ≡ true → typed t ≡ err missing_uuid_type (uuid_excess w)
+      later-missing : any_lacks t early ≡ true → typed t ≡ err missing_uuid_type (uuid_excess w)
       later-missing d = typed-is ∙ rw (e, k, d) (ap (err missing_uuid_type) (ap (plus Warnings.none) (plus_none (uuid_excess w)) ∙ none-plus (uuid_excess w)))
 
-      pub all_sound : any_lacks t early ≡ false → typed t ≡ ok t (uuid_excess w)
+      all_sound : any_lacks t early ≡ false → typed t ≡ ok t (uuid_excess w)
       all_sound d =
           typed-is
           ∙ rw (e, k, d)
           (ap (ok t) (plus_none (plus Warnings.none (plus (uuid_excess w) Warnings.none)) ∙ none-plus (plus (uuid_excess w) Warnings.none) ∙ plus_none (uuid_excess w)))
+
+    -- by the answer on the kinds: another type lacks its kind, or none does
+    pub then-missing : (x : Result (Unit {0}) Error) (w : ℕ) → is_ok x ≡ true → judge_types t [] (seg f 0 z) ≡ types_with tt x (uuid_excess w) → any_lacks t early ≡ true → typed t ≡ err missing_uuid_type (uuid_excess w)
+    then-missing (Ok u) w o k d = later-missing w k d
+    then-missing (Err e) w o k d = absurd (false≢true o)
+
+    pub then-same : (x : Result (Unit {0}) Error) (w : ℕ) → judge_types t [] (seg f 0 z) ≡ types_with tt x (uuid_excess w) → (is_ok x ≡ true → any_lacks t early ≡ false) → typed t ≡ types_with t x (uuid_excess w)
+    then-same (Ok u) w k d = all_sound w k (d refl)
+    then-same (Err m) w k d = kinds-refused (number m) w k

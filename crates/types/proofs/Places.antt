@@ -6,11 +6,14 @@ use Prim.Native.Nat.{ℕ, zero, suc, ◌+◌, ◌/◌, ◌%◌, ◌≤◌, ◌<�
 use native.Mathlib.Nat.{eq-or-lt_of_le}
 use native.Mathlib.Numerals.{add-one}
 use native.Mathlib.Omega.{arith}
+use borrow.Author.Tests.{lt-ltb, ltb-true, ltb-false}
+use lib.Dec.{ltb}
 use lib.IntN.{ℤ}
 use lib.ListN.{length, get_or}
 use Rattle.definitions.specs.Tables.{edge, start}
 use Rattle.laws.specs.TableShape.{ends-well}
-use Rattle.types.specs.Picks.{Picks, key_in}
+use Rattle.table.specs.Searching.{Falls, Parts}
+use Rattle.types.specs.Picks.{Picks, key_in, Lower}
 
 module _ (a : List ℤ) (n : ℕ) (index : List ℕ) (x : Picks a n index) where
   -- edges are at whole ints
@@ -49,3 +52,12 @@ module _ (a : List ℤ) (n : ℕ) (index : List ℕ) (x : Picks a n index) where
   pub keys-le : (i j : ℕ) → i ≤ j → j < n → key_in a index i ≤ key_in a index j
   keys-le i j l m =
       ⊎_elim (λ (q : i ≡ j). omega (arith, ap (key_in a index) q)) (λ (k : i < j). omega (arith, x.indexed.rise i j k m)) (eq-or-lt_of_le l)
+
+  -- the keys below k come first
+  module _ (k : ℕ) where
+    pub falls : Falls (λ j. ltb (key_in a index j) k) n
+    falls = record { before = λ i j l m e. lt-ltb _ _ (omega (arith, keys-le i j l m, ltb-true _ _ e)) }
+
+    pub lowered : (r : ℕ) → r ≤ n → Parts (λ j. ltb (key_in a index j) k) n r → Lower (key_in a index) n k r
+    lowered r l p =
+        record { within = l; below = λ i m. ltb-true _ _ (p.holds i m); above = λ i m o. ltb-false _ _ (p.fails i m o) }

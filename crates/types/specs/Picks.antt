@@ -1,8 +1,8 @@
 -- A table whose items an index picks from ints, and which of them lack their kind. Assumes nothing.
-use Rattle.std.specs.Prelude.{◌≡◌, Bool, false, not, ◌||◌, List, [], ◌∷◌, ℕ, zero, suc, ◌+◌, ◌≤◌, ◌<◌, ltb, ℤ, length, get_or, take}
+use Rattle.std.specs.Prelude.{◌≡◌, Bool, false, not, ◌||◌, List, [], ◌∷◌, ℕ, zero, suc, ◌+◌, ◌/◌, ◌≤◌, ◌<◌, ltb, ℤ, length, get_or, take}
 use Rattle.std.proofs.Math.Path.{refl, ap}
-use Rattle.std.proofs.Common.{sym, ◌∙◌, arith, get_or-take, length-take-le}
-use Rattle.definitions.specs.Tables.{Item, Table, key_of, key_at, values_at, item_at, items, list, find, is_some}
+use Rattle.std.proofs.Common.{sym, subst, ◌∙◌, arith, get_or-take, length-take-le}
+use Rattle.definitions.specs.Tables.{Item, Table, size, key_of, key_at, values_at, item_at, items, list, find, is_some}
 use Rattle.definitions.specs.Types.{type_of}
 use Rattle.laws.specs.ListLaws.{list_ext, list-cons}
 use Rattle.table.specs.Held.{Held}
@@ -10,8 +10,13 @@ use Rattle.table_reading.specs.Reading.{Indexed, picked}
 
 -- all n items of a table were read, and an index has them in unsigned key order
 pub record Picks (a : List ℤ) (n : ℕ) (index : List ℕ) : Type 0 where
-  pub len : ℕ
-  pub indexed : Indexed a n len index n
+  pub indexed : Indexed a n (size a / 4) index n
+
+-- the table's length in ints is a fourth of its data size
+pub picks : {a : List ℤ} {n len : ℕ} {index : List ℕ} → Indexed a n len index n → Picks a n index
+picks {a} {n} {len} {index} h =
+    let e : len ≡ size a / 4 = omega (arith, h.ints.size_is) in
+    record { indexed = subst (λ (k : ℕ). Indexed a n k index n) e h }
 
 -- the key of the item at a place of the index
 abbrev pub key_in : List ℤ → List ℕ → ℕ → ℕ

@@ -2,3 +2,4 @@
 #![tactic(auto)]
 
 pub mod checked;
+pub mod picked;

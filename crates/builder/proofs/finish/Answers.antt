@@ -1,13 +1,9 @@
 -- `builder::finish` meets its contract: by the form of a builder's table. Assumes nothing.
-use mathlib.Core.Path.{subst}
-use Rattle.builder.specs.Building.{Built}
 use Rattle.builder.proofs.Counting.{finished, not-finished}
 use Rattle.builder.proofs.finish.Goals as goal
 
 pub returns-in_default : goal.returns-in_default
-returns-in_default c =
-    not-finished c.args.area.now (subst (Built c.args.area.now) c.in_default.is c.judge_building.ensures)
+returns-in_default c = not-finished c.args.area.now c.in_default.ensures
 
 pub returns : goal.returns
-returns c =
-    finished c.args.area.now _ _ _ (subst (Built c.args.area.now) c.in-Table.is c.judge_building.ensures)
+returns c = finished c.args.area.now _ _ _ c.in-Some.ensures

@@ -4,8 +4,7 @@ use mir.Facts.{to_z-of_z}
 use Rattle.definitions.specs.Messages.{Snap}
 use Rattle.definitions.specs.Manager.{message_call}
 use Rattle.boundary_states.specs.Rows.{held_receiver, held_store}
-use Rattle.boundary_states.specs.Few.{message-fits}
-use Rattle.boundary_states.specs.Emptied.{fits-before}
+use Rattle.boundary_states.specs.Few.{message-fits, fits-before}
 use Rattle.capi_manager.proofs.Calls.{part-named, moved, fits_after, told}
 use Rattle.std.proofs.Common.{w32}
 use Rattle.capi_manager.proofs.cef_manager_snap.Goals as goal

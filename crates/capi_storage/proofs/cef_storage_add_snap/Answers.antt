@@ -4,8 +4,7 @@ use mir.Facts.{to_z-of_z}
 use Rattle.definitions.specs.StorageCalls.{add_snap_call}
 use Rattle.boundary.specs.Boundary.{key_or}
 use Rattle.boundary_states.specs.Rows.{held_store}
-use Rattle.boundary_states.specs.Few.{snap-fits}
-use Rattle.boundary_states.specs.Emptied.{fits-before}
+use Rattle.boundary_states.specs.Few.{snap-fits, fits-before}
 use Rattle.capi_storage.proofs.Calls.{snap-moved, clash-moved, fits-added, added-told}
 use Rattle.std.proofs.Common.{w32}
 use Rattle.capi_storage.proofs.cef_storage_add_snap.Goals as goal

@@ -1,57 +1,21 @@
 -- `delta::write_to_ints` meets its contract: by the check of the form, then by that of the sizes. Assumes nothing.
-use mathlib.Core.Path.{◌≡◌, sym, ◌∙◌}
-use mathlib.Core.List.{List, []}
-use borrow.Author.Tests.{not-true, not-false}
-use lib.IntN.{ℤ}
-use Rattle.delta_form.specs.Held.{form_of}
-use Rattle.delta_form.specs.declared.checked.DeltaForm.TheVariants as form
+use mathlib.Core.Path.{sym, ◌∙◌}
 use Rattle.delta.proofs.Calls.{ints-47, holds, ints-46, ints-call}
 use Rattle.delta.proofs.write_to_ints.Goals as goal
 
 pub returns-in_default : goal.returns-in_default
-returns-in_default c =
-    let s = c.args in
-    ints-47 s.area.now s.sizes.now (sym c.in_default.is ∙ c.form.ensures) s.out.now
+returns-in_default c = ints-47 c.args.area.now c.args.sizes.now c.in_default.ensures c.args.out.now
 
 pub sizes_match-requires : goal.sizes_match-requires
-sizes_match-requires c =
-    let area : List ℤ =
-    c.args.area.now in
-    let sizes : List ℤ =
-    c.args.sizes.now in
-    let told : form.Delta c.in-Delta.deleted c.in-Delta.updated c.in-Delta.ints ≡ form_of [] area =
-    sym c.in-Delta.is ∙ c.form.ensures in
-    holds (area) (sizes) (told)
+sizes_match-requires c = holds c.args.area.now c.args.sizes.now c.in-Some.ensures
 
 pub returns-then-not-sizes_match : goal.returns-then-not-sizes_match
 returns-then-not-sizes_match c =
-    let area : List ℤ =
-    c.args.area.now in
-    let sizes : List ℤ =
-    c.args.sizes.now in
-    let told : form.Delta c.in-Delta.deleted c.in-Delta.updated c.in-Delta.ints ≡ form_of [] area =
-    sym c.in-Delta.is ∙ c.form.ensures in
-    let t = c in
-    ints-46 (area) (sizes) (told) (sym (not-true _ c.if-not-sizes_match.true-raw) ∙ c.sizes_match.ensures) c.args.out.now
+    ints-46 c.args.area.now c.args.sizes.now c.in-Some.ensures (sym c.if-not-sizes_match.true ∙ c.sizes_match.ensures) c.args.out.now
 
 pub write_ints-requires : goal.write_ints-requires
-write_ints-requires c =
-    let area : List ℤ =
-    c.args.area.now in
-    let sizes : List ℤ =
-    c.args.sizes.now in
-    let told : form.Delta c.in-Delta.deleted c.in-Delta.updated c.in-Delta.ints ≡ form_of [] area =
-    sym c.in-Delta.is ∙ c.form.ensures in
-    holds (area) (sizes) (told)
+write_ints-requires c = holds c.args.area.now c.args.sizes.now c.in-Some.ensures
 
 pub returns : goal.returns
 returns c =
-    let area : List ℤ =
-    c.args.area.now in
-    let sizes : List ℤ =
-    c.args.sizes.now in
-    let told : form.Delta c.in-Delta.deleted c.in-Delta.updated c.in-Delta.ints ≡ form_of [] area =
-    sym c.in-Delta.is ∙ c.form.ensures in
-    let t = c in
-    ints-call (area) (sizes) (told) (sym (not-false _ c.if-not-sizes_match.false-raw) ∙ c.sizes_match.ensures) c.args.out.now
-    ∙ c.write_ints.ensures
+    ints-call c.args.area.now c.args.sizes.now c.in-Some.ensures (sym c.if-not-sizes_match.false ∙ c.sizes_match.ensures) c.args.out.now ∙ c.write_ints.ensures

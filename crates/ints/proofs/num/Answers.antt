@@ -1,10 +1,7 @@
 -- `ints::num` meets its contract: by the sign. Assumes nothing.
-use Rattle.ints.proofs.Nums.{pos-cast-wide, neg-num, pos-num, pos-small}
+use Rattle.ints.proofs.Nums.{neg-num, pos-num, pos-small}
 use Rattle.std.proofs.Common.{arith}
 use Rattle.ints.proofs.num.Goals as goal
-
-pub overflow_cast-result : goal.overflow_cast-result
-overflow_cast-result c = pos-cast-wide c.args.x c.ranges.x c.if-x-lt0.false
 
 pub returns-then-x-lt0 : goal.returns-then-x-lt0
 returns-then-x-lt0 c = (neg-num c.args.x c.ranges.x c.if-x-lt0.true, omega arith)

@@ -15,22 +15,19 @@ turn :
     wrapping_add r (Ints.sum (drop (i + 1) xs)) ≡ Ints.sum xs
 turn xs i t r h e q = rw (q, add-one, wrapping_add-assoc) (rw (drop-cons xs i (pos 0) h) at e)
 
-pub loop-i-init : goal.loop-i-init
-loop-i-init c = (search rules, zero-wrapping_add (sum_fits c.args.xs.now))
+pub loop-x-init : goal.loop-x-init
+loop-x-init c = zero-wrapping_add (sum_fits c.args.xs.now)
 
-pub loop-i-preserved : goal.loop-i-preserved
-loop-i-preserved c =
+pub loop-x-preserved : goal.loop-x-preserved
+loop-x-preserved c =
     let xs = c.args.xs.now in
     let f : SFits w32 c.wrapping_add-total.result = record { sfits = c.wrapping_add-total.type_inv } in
-    let q : c.wrapping_add-total.result ≡ wrapping_add (to_z w32 c.loop-i.total-bits) (get_or xs c.loop-i.i (pos 0)) =
-    rw (to_z-of_z {w = w32} (record { sfits = c.wrapping_add-arg-1.given })) at c.wrapping_add-total.ensures in (
-      search rules,
-      rw (to_z-of_z {w = w32} f) (turn xs c.loop-i.i (to_z w32 c.loop-i.total-bits) _ c.loop-i-test.true c.loop-i.invariant.1 q),
-    )
+    let g : SFits w32 (get_or xs c.loop-x.x-index (pos 0)) = search rules in
+    let q = rw (to_z-of_z {w = w32} g) at c.wrapping_add-total.ensures in
+    rw (to_z-of_z {w = w32} f) (turn xs c.loop-x.x-index (to_z w32 c.loop-x.total-bits) _ c.loop-x-test.true c.loop-x.invariant q)
 
 pub returns : goal.returns
 returns c =
     let xs = c.args.xs.now in
-    let i = c.loop-i.invariant in
-    let e : drop c.loop-i.i xs ≡ [] = drop_of_length-le xs c.loop-i-test.false in
-    sym (wrapping_add-zero (sfits_to_z c.loop-i.auto.total)) ∙ (rw e at i.1)
+    let e : drop c.loop-x.x-index xs ≡ [] = drop_of_length-le xs c.loop-x-test.false in
+    sym (wrapping_add-zero (sfits_to_z c.loop-x.auto.total)) ∙ (rw e at c.loop-x.invariant)

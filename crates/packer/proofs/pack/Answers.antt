@@ -4,12 +4,8 @@ use borrow.Author.Tests.{leb-true, leb-false}
 use Rattle.definitions.specs.Warnings.{none}
 use Rattle.definitions.specs.Packed.{pack_ints}
 use Rattle.laws.specs.PackLaws.{stored-full}
-use Rattle.packer.proofs.Packing.{from_front, packed-is}
+use Rattle.packer.proofs.Packing.{packed-is}
 use Rattle.packer.proofs.pack.Goals as goal
-
-pub pack_at-requires : goal.pack_at-requires
-pack_at-requires c =
-    from_front c.args.src.now c.args.out.now (leb-true _ _ (sym c.packs_into.ensures ∙ c.if-packs_into.true))
 
 pub returns-then-packs_into : goal.returns-then-packs_into
 returns-then-packs_into c =

@@ -10,7 +10,6 @@ use Rattle.definitions.specs.Stream.{stream, ints}
 use Rattle.laws.specs.AreaLaws.{lay-nowhere}
 use Rattle.laws.specs.StreamLaws.{few-ints}
 use Rattle.packer.proofs.Scanning.{all-unpacked, has-padding, no_room}
-use borrow.Author.Tests.{not-true}
 use Rattle.packer.proofs.unpack_judged.Goals as goal
 
 pub returns-then-not-may_have_padding : goal.returns-then-not-may_have_padding
@@ -18,7 +17,7 @@ returns-then-not-may_have_padding c =
     let a = c.args in
     let s = c.scan_all in
     let test = c.may_have_padding in
-    let none = test.ensures (not-true test.result c.if-not-may_have_padding.true-raw) in
+    let none = test.ensures c.if-not-may_have_padding.true in
     all-unpacked a.src.now a.out.now s.result _ c.all_unpacked.ensures none (omega (arith, few-ints a.src.now)) s.ensures
 
 pub returns-then-all : goal.returns-then-all

@@ -1,38 +1,24 @@
 -- `raw_snap::has_item` meets its contract: by the form of the area and the place of the key. Assumes nothing.
-use mathlib.Core.Path.{◌≡◌, sym, ◌∙◌}
+use mathlib.Core.Path.{◌≡◌}
 use mir.Facts.{to_z-of_z}
-use Rattle.definitions.specs.Tables.{table_of, items, find, key_of}
-use Rattle.table.specs.Held.{Held, form_of, data_in}
-use Rattle.table.specs.declared.checked.TableForm.TheVariants as form
+use Rattle.definitions.specs.Tables.{items, find, key_of}
+use Rattle.table.specs.Held.{data_in}
 use Rattle.table.specs.Forms.{formed}
-use Rattle.raw_snap.proofs.Calls.{not-held, has-yes, has_no}
+use Rattle.raw_snap.proofs.Calls.{not-held, has-is}
 use Rattle.std.proofs.Common.{w32}
 use Rattle.raw_snap.proofs.has_item.Goals as goal
 
 pub returns-in_default : goal.returns-in_default
 returns-in_default c =
-    let not-in-form : form.Bad ≡ form_of (table_of c.args.area.now) =
-    sym c.in_default.is ∙ c.form.ensures in
-    rw (not-held _ (not-in-form))
+    rw (not-held _ c.in_default.ensures)
 
 pub find-requires : goal.find-requires
 find-requires c =
-    let holding : Held c.args.area.now c.in-Table.items =
-    (formed _ _ _ (sym c.in-Table.is ∙ c.form.ensures)).0 in
-    holding
-
-pub returns-then-find-items : goal.returns-then-find-items
-returns-then-find-items c =
-    let holding : Held c.args.area.now c.in-Table.items =
-    (formed _ _ _ (sym c.in-Table.is ∙ c.form.ensures)).0 in
-    let looked : let s = c in find (key_of s.args.raw_type_id s.args.id) (items s.args.area.now) ≡ data_in s.args.area.now c.in-Table.items c.find.result =
-    rw (to_z-of_z {w = w32} (record { sfits = c.key.type_inv }), c.key.ensures) at c.find.ensures in
-    has-yes _ _ (holding) _ _ (looked) c.if-find-items.true
+    (formed _ _ _ c.in-Some.ensures).0
 
 pub returns : goal.returns
 returns c =
-    let holding : Held c.args.area.now c.in-Table.items =
-    (formed _ _ _ (sym c.in-Table.is ∙ c.form.ensures)).0 in
-    let looked : let s = c in find (key_of s.args.raw_type_id s.args.id) (items s.args.area.now) ≡ data_in s.args.area.now c.in-Table.items c.find.result =
+    let a = c.args in
+    let looked : find (key_of a.raw_type_id a.id) (items a.area.now) ≡ data_in a.area.now c.in-Some.form.items c.find.result =
     rw (to_z-of_z {w = w32} (record { sfits = c.key.type_inv }), c.key.ensures) at c.find.ensures in
-    has_no _ _ (holding) _ _ (looked) c.if-find-items.false
+    has-is _ _ (formed _ _ _ c.in-Some.ensures).0 _ _ looked

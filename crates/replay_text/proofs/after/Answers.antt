@@ -14,9 +14,7 @@ returns-then-n-src c =
     take_all (length s.src.now - (n.result + 1)) (drop (n.result + 1) s.src.now) (simp length-drop (omega arith))
     ∙ behind s.b s.src.now n.result n.ensures.0
 
-pub returns : goal.returns
-returns c =
+pub returns-else-n-src : goal.returns-else-n-src
+returns-else-n-src c =
     let s = c.args in
-    let n = c.count_until-n in
-    take_all (length s.src.now - n.result) (drop n.result s.src.now) (simp length-drop (omega arith))
-    ∙ nothing-behind s.b s.src.now n.result n.ensures.0 c.if-n-src.false
+    nothing-behind s.b s.src.now c.count_until-n.result c.count_until-n.ensures.0 c.if-n-src.false

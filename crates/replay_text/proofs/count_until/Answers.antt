@@ -1,24 +1,12 @@
-use native.Mathlib.Omega.{arith}
-use Rattle.replay_text.proofs.WordLaws.{at-end, at-found, at_other}
+-- `replay_text::count_until` meets its contract, by the place of the first b. Assumes nothing.
+use borrow.Author.Tests.{tests}
+use Rattle.std.proofs.Common.{rules, ◌≡◌}
+use Rattle.std.proofs.lemmas.Iterator.{YieldsList-from_slice, IsFirst-from_position}
+use Rattle.replay_text.proofs.WordLaws.{place}
 use Rattle.replay_text.proofs.count_until.Goals as goal
-
-pub returns-then-src-i : goal.returns-then-src-i
-returns-then-src-i c =
-    let l = c.loop-i in
-    let s = c.args in
-    let e = at-found s.b s.src.now l.i c.loop-i-test.true c.if-src-i.true in
-    (omega (arith, l.invariant.1), l.invariant.0)
-
-pub loop-i-preserved : goal.loop-i-preserved
-loop-i-preserved c =
-    let l = c.loop-i in
-    let s = c.args in
-    let e = at_other s.b s.src.now l.i c.loop-i-test.true c.if-src-i.false in
-    (omega arith, omega (arith, l.invariant.1))
 
 pub returns : goal.returns
 returns c =
-    let l = c.loop-i in
     let s = c.args in
-    let e = at-end s.b s.src.now l.i c.loop-i-test.false in
-    (omega (arith, l.invariant.1), l.invariant.0)
+    let m = IsFirst-from_position _ _ c.position.result (λ x. x ≡ s.b) (λ x. x ≡ s.b → ⊥) c.position.ensures.ran (YieldsList-from_slice s.src.now cc) (λ x q k. search (rules, tests)) (λ x q k. search (rules, tests)) in
+    rw c.unwrap_or.ensures (place s.b s.src.now c.position.result m)

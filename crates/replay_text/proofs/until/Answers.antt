@@ -1,14 +1,11 @@
 -- `replay_text::until` meets its contract. Assumes nothing.
-use mathlib.Core.Path.{sym, ap, ◌∙◌}
+use mathlib.Core.Path.{ap, ◌∙◌}
 use Prim.Native.Nat.{ℕ}
 use native.Mathlib.Omega.{arith}
 use lib.ListN.{take}
 use lib.Seq.{length-take-le}
 use Rattle.replay_text.proofs.WordLaws.{front}
 use Rattle.replay_text.proofs.until.Goals as goal
-
-pub slice_bounds-result-end : goal.slice_bounds-result-end
-slice_bounds-result-end c = sym (length-take-le c.count_until-n.result c.args.src.now c.count_until-n.ensures.1)
 
 pub returns : goal.returns
 returns c =

@@ -1,5 +1,5 @@
 -- `rules::winner` meets its contract: by the form of the area. Assumes nothing.
-use mathlib.Core.Path.{sym, ◌∙◌}
+use mathlib.Core.Path.{◌∙◌}
 use mir.Facts.{to_z-of_z}
 use Rattle.definitions.specs.Rules.{winner_for}
 use Rattle.laws.specs.OutcomeLaws.{return-bind}
@@ -9,12 +9,12 @@ use Rattle.std.proofs.Common.{w32}
 use Rattle.rules.proofs.winner.Goals as goal
 
 pub returns-in_default : goal.returns-in_default
-returns-in_default c = rw (not-held _ (sym c.in_default.is ∙ c.form.ensures))
+returns-in_default c = rw (not-held _ c.in_default.ensures)
 
 pub search-requires : goal.search-requires
-search-requires c = (formed _ _ _ (sym c.in-Table.is ∙ c.form.ensures)).0
+search-requires c = (formed _ _ _ c.in-Some.ensures).0
 
 pub returns : goal.returns
 returns c =
-    rw (is_held _ (sym c.in-Table.is ∙ c.form.ensures))
+    rw (is_held _ c.in-Some.ensures)
     (return-bind _ (winner_for c.args.types.now c.args.ingredient) ∙ (rw (to_z-of_z {w = w32} c.ranges.ingredient) at c.search.ensures))

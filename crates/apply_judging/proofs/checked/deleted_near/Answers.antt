@@ -8,15 +8,10 @@ use lib.ListN.{get_or}
 use Rattle.definitions.specs.Ints.{bits, signed_less}
 use Rattle.definitions.specs.Deltas.{rank, deleted_at}
 use Rattle.laws.specs.IntLaws.{less-ranks}
-use Rattle.apply_judging.proofs.Places.{ranks-under, none-under}
+use Rattle.apply_judging.proofs.Places.{ranks-under}
 use Rattle.std.proofs.Common.{w32}
 use Rattle.apply_judging.proofs.checked.deleted_near.Goals as goal
-use Rattle.apply_judging.proofs.checked.deleted_near.Lts as lts
-use Rattle.apply_judging.proofs.checked.deleted_near.Tie as tie
-use Rattle.apply_judging.proofs.checked.deleted_near.Reads as reads
-
-abbrev Then-signed_less : Type 0
-Then-signed_less = lts.Then2 tie.the-claims reads.Pre reads.Post
+use Rattle.apply_judging.proofs.checked.deleted_near.Goals.{Then-signed_less}
 
 -- the last key before the hint is below the key in signed order
 below : (c : Then-signed_less) → let s = c.before.before.before.before in rank (deleted_at s.args.delta.now (s.args.hint - 1)) < rank (bits s.args.key)
@@ -24,32 +19,10 @@ unfolding deleted_at
 below c =
     let s = c in
     let g = c.signed_less-arg-1.given in
-    let e : 2 + s.args.hint ≡ 3 + (s.args.hint - 1) = omega (arith, c.if-hint-eq0.false) in
+    let e : 2 + s.args.hint ≡ 3 + (s.args.hint - 1) = omega (arith, c.if-hint-gt0.true) in
     let q : signed_less (get_or s.args.delta.now (2 + s.args.hint) (pos 0)) s.args.key ≡ c.signed_less.result = sym (c.signed_less.ensures ∙ rw (to_z-of_z {w = w32} (record { sfits = g }), to_z-of_z {w = w32} s.ranges.key)) in
     rw e at (less-ranks (get_or s.args.delta.now (2 + s.args.hint) (pos 0)) s.args.key (record { sfits = g }) s.ranges.key (q ∙ c.if-signed_less.true))
 
 pub deleted_from-requires : goal.deleted_from-requires
-deleted_from-requires c = (c.requires.0.room, omega arith, none-under _ _)
-
-pub returns-then-hint-eq0 : goal.returns-then-hint-eq0
-returns-then-hint-eq0 c = rw (to_z-of_z {w = w32} c.ranges.key) at c.deleted_from.ensures
-
-pub offset_bounds-delta-hint : goal.offset_bounds-delta-hint
-offset_bounds-delta-hint c = omega (arith, c.requires.0.room, c.requires.1)
-
-pub bounds-delta-hint : goal.bounds-delta-hint
-bounds-delta-hint c = omega (arith, c.requires.0.room, c.requires.1)
-
-pub deleted_from-requires-then-signed_less : goal.deleted_from-requires-then-signed_less
-deleted_from-requires-then-signed_less c =
-    let s = c in
-    (s.requires.0.room, s.requires.1, ranks-under s.args.delta.now s.args.deleted s.args.hint _ s.requires.0 (omega (arith, c.if-hint-eq0.false)) s.requires.1 (rw (to_z-of_z {w = w32} s.ranges.key) (below c)))
-
-pub returns-then-signed_less : goal.returns-then-signed_less
-returns-then-signed_less c = rw (to_z-of_z {w = w32} c.ranges.key) at c.deleted_from-then-signed_less.ensures
-
-pub deleted_from-requires-2 : goal.deleted_from-requires-2
-deleted_from-requires-2 c = (c.requires.0.room, omega arith, none-under _ _)
-
-pub returns : goal.returns
-returns c = rw (to_z-of_z {w = w32} c.ranges.key) at c.deleted_from-2.ensures
+deleted_from-requires c =
+    (c.requires.0.room, c.requires.1, ranks-under c.args.delta.now c.args.deleted c.args.hint _ c.requires.0 (omega (arith, c.if-hint-gt0.true)) c.requires.1 (rw (to_z-of_z {w = w32} c.ranges.key) (below c)))

@@ -9,7 +9,6 @@ use Rattle.apply_judging.proofs.checked.is_deleted.Goals as goal
 
 pub returns : goal.returns
 returns c =
-    let s = c in
     c.has_deleted.ensures
-    ∙ rw (to_z-of_z {w = w32} s.ranges.key)
-    (sym (elem-reached s.args.delta.now s.args.deleted s.requires.0.keys s.args.place (bits s.args.key) (bits-lt s.ranges.key) s.requires.1))
+    ∙ rw (to_z-of_z {w = w32} c.ranges.key)
+    (sym (elem-reached c.args.delta.now c.args.deleted c.requires.0.keys c.args.place (bits c.args.key) (bits-lt c.ranges.key) c.requires.1))

@@ -18,18 +18,7 @@ use Rattle.laws.specs.ApplyWriting.{Room, wrote}
 use Rattle.applying.proofs.Putting.{RoomOne, room-one}
 use Rattle.applying.proofs.Turns.{update_here, as_long, sums-room, sums-turn}
 use Rattle.applying.proofs.checked.add_update.Goals as goal
-use Rattle.applying.proofs.checked.add_update.Lts as lts
-use Rattle.applying.proofs.checked.add_update.Tie as tie
-use Rattle.applying.proofs.checked.add_update.Reads as reads
-
-abbrev After-differences-more : Type 0
-After-differences-more = lts.After-differences tie.the-claims reads.Pre reads.Post
-
-abbrev After-update_key-key : Type 0
-After-update_key-key = lts.After-update_key tie.the-claims reads.Pre reads.Post
-
-abbrev Start : Type 0
-Start = lts.Start tie.the-claims reads.Pre reads.Post
+use Rattle.applying.proofs.checked.add_update.Goals.{After-differences-more, After-update_key-key, Start}
 
 -- the update's key as it is passed on
 key-is : (c : After-update_key-key) → bits (to_z w32 (of_z w32 c.update_key-key.result)) ≡ update_key c.args.delta.now c.args.s.update
@@ -40,7 +29,7 @@ abbrev sums : Start → List ℤ
 sums s = zip_with wrapping_add (values_at s.args.base.now s.args.s.item) (update_at [] s.args.delta.now s.args.s.update).values
 
 -- the item that is written
-item-is : (c : After-differences-more) → let s = c in item (bits (to_z w32 (of_z w32 c.update_key-key.result))) (zip_with wrapping_add c.data_at-old.result.now c.differences-more.result.now) ≡ item (update_key s.args.delta.now s.args.s.update) (sums c.before.before.before)
+item-is : (c : After-differences-more) → item (bits (to_z w32 (of_z w32 c.update_key-key.result))) (zip_with wrapping_add c.data_at-old.result.now c.differences-more.result.now) ≡ item (update_key c.args.delta.now c.args.s.update) (sums c.before.before.before)
 item-is c = ap₂ item (key-is c.before.before) (ap₂ (zip_with wrapping_add) c.data_at-old.ensures c.differences-more.ensures)
 
 room : (s : Start) → Room s.args.n (length s.args.out.now) s.args.s.items s.args.s.at (item (update_key s.args.delta.now s.args.s.update) (sums s) ∷ [])
@@ -56,48 +45,14 @@ one s =
     let e = length-zip_with wrapping_add (values_at s.args.base.now s.args.s.item) (update_at [] s.args.delta.now s.args.s.update).values (same s) in
     record { few = r.few; behind = r.behind; room = omega (arith, r.room); short = omega (arith, r.short) }
 
-pub update_key-key-requires : goal.update_key-key-requires
-update_key-key-requires c = let u = update_here c.args.out.now c.requires.1 c.requires.3 in (u.head, u.type-below, u.id_below)
-
-pub data_at-old-requires : goal.data_at-old-requires
-data_at-old-requires c = let p = c.requires in (p.0, omega (arith, p.2, p.1.to-within))
-
-pub differences-more-requires : goal.differences-more-requires
-differences-more-requires c = let s = c in update_here s.args.out.now s.requires.1 s.requires.3
-
 pub put_sums-requires : goal.put_sums-requires
 put_sums-requires c =
-    let d = c in
-    let s = c in
-    (eq-eqb _ _ (ap length d.data_at-old.ensures ∙ (same c.before.before.before.before ∙ sym (ap length d.differences-more.ensures))), subst (λ (x : Item). Room s.args.n (length s.args.out.now) s.args.s.items s.args.s.at (x ∷ [])) (sym (item-is c.before)) (room c.before.before.before.before))
-
-pub overflow_add-result : goal.overflow_add-result
-overflow_add-result c = let p = c.requires in omega (arith, p.2, p.1.to-within, p.0.count-is, p.0.shape.few)
+    (eq-eqb _ _ (ap length c.data_at-old.ensures ∙ (same c.before.before.before.before ∙ sym (ap length c.differences-more.ensures))), subst (λ (x : Item). Room c.args.n (length c.args.out.now) c.args.s.items c.args.s.at (x ∷ [])) (sym (item-is c.before)) (room c.before.before.before.before))
 
 pub next_update-requires : goal.next_update-requires
-next_update-requires c = let s = c in update_here s.args.out.now s.requires.1 s.requires.3
-
-pub overflow_sub-result : goal.overflow_sub-result
-overflow_sub-result c = c.requires.3
-
-pub overflow_add-result-2 : goal.overflow_add-result-2
-overflow_add-result-2 c =
-    let r = one c.before.before.before.before.before.before.before.before.before.before in omega (arith, r.few, r.behind, r.short)
-
-pub overflow_add-result-3 : goal.overflow_add-result-3
-overflow_add-result-3 c =
-    let r = one c.before.before.before.before.before.before.before.before.before.before.before in omega (arith, r.short)
-
-pub overflow_add-result-4 : goal.overflow_add-result-4
-overflow_add-result-4 c =
-    let r = one c.before.before.before.before.before.before.before.before.before.before.before in omega (arith, r.short, ap length c.data_at-old.ensures)
-
-pub shape_of-out : goal.shape_of-out
-shape_of-out c = c.put_sums.auto.out
+next_update-requires c = update_here c.args.out.now c.requires.1 c.requires.3
 
 pub returns : goal.returns
 returns c =
-    let d = c in
-    let s = c in
-    sums-turn s.args.out.now s.requires.1 s.requires.3 s.requires.0 s.requires.2 s.requires.4 _ _ _ c.next_update.ensures (ap length d.data_at-old.ensures)
-    (subst (λ (x : Item). c.put_sums.new.out ≡ wrote s.args.n s.args.out.now s.args.s.items s.args.s.at (x ∷ [])) (item-is c.before.before.before.before.before.before.before.before) c.put_sums.ensures)
+    sums-turn c.args.out.now c.requires.1 c.requires.3 c.requires.0 c.requires.2 c.requires.4 _ _ _ c.next_update.ensures (ap length c.data_at-old.ensures)
+    (subst (λ (x : Item). c.put_sums.new.out ≡ wrote c.args.n c.args.out.now c.args.s.items c.args.s.at (x ∷ [])) (item-is c.before.before.before.before.before.before.before.before) c.put_sums.ensures)

@@ -6,37 +6,23 @@ use lib.IntN.{ℤ}
 use Rattle.definitions.specs.Outcome.{Wrote}
 use Rattle.applying.specs.Answers.{applied_ints}
 use Rattle.applying.specs.declared.checked.Applied.{Applied}
-use Rattle.applying.proofs.Answers.{is-refused, is-short, is-done, judged-good, within-fine}
+use Rattle.applying.proofs.Answers.{is-refused, is-short, is-done}
 use Rattle.applying.proofs.checked.apply.Goals as goal
 
 -- an answer beside what the area holds
 told : (out : List ℤ) {r s : Applied} {w : Wrote ℕ ℤ} → r ≡ s → w ≡ record { answer = applied_ints s; out = out } → w ≡ record { answer = applied_ints r; out = out }
 told out e f = f ∙ ap (λ (r : Applied). record { answer = applied_ints r; out = out }) (sym e)
 
-pub returns-then-out-ints : goal.returns-then-out-ints
-returns-then-out-ints c =
-    let k = c in
-    let s = c in
-    told s.args.out.now c.refused-then-out-ints.ensures
-    (is-short s.args.base.now s.args.nb s.requires.0 s.args.delta.now s.args.deleted s.args.updated s.requires.1 s.args.out.now _ k.judge-all.ensures.0 _ k.judge-all.ensures.2 _ _ c.in-Fine.is c.if-out-ints.true)
+pub returns-then-out-fine : goal.returns-then-out-fine
+returns-then-out-fine c =
+    told c.args.out.now c.refused-then-out-fine.ensures
+    (is-short c.args.base.now c.args.nb c.requires.0 c.args.delta.now c.args.deleted c.args.updated c.requires.1 c.args.out.now _ c.judge-all.ensures.0 _ c.judge-all.ensures.2 _ c.in-Ok.is c.if-out-fine.true)
 
-pub write_table-requires : goal.write_table-requires
-write_table-requires c =
-    let k = c in
-    let s = c in
-    let q = c.in-Fine.is in
-    let w = within-fine _ _ _ q k.judge-all.ensures.1 in
-    (s.requires.0, s.requires.1, judged-good s.args.base.now s.args.nb s.requires.0 s.args.delta.now s.args.deleted s.args.updated s.requires.1 s.args.out.now _ k.judge-all.ensures.0 _ k.judge-all.ensures.2 _ _ q, w.0, w.1, c.if-out-ints.false)
+pub returns-in-Err : goal.returns-in-Err
+returns-in-Err c =
+    told c.args.out.now c.refused.ensures
+    (is-refused c.args.base.now c.args.nb c.requires.0 c.args.delta.now c.args.deleted c.args.updated c.requires.1 c.args.out.now _ c.judge-all.ensures.0 _ c.judge-all.ensures.2 _ c.in-Err.is)
 
-pub returns-in-Refused : goal.returns-in-Refused
-returns-in-Refused c =
-    let k = c in
-    let s = c in
-    told s.args.out.now c.refused.ensures
-    (is-refused s.args.base.now s.args.nb s.requires.0 s.args.delta.now s.args.deleted s.args.updated s.requires.1 s.args.out.now _ k.judge-all.ensures.0 _ k.judge-all.ensures.2 _ c.in-Refused.is)
-
-pub returns-else-out-ints : goal.returns-else-out-ints
-returns-else-out-ints c =
-    let k = c in
-    let s = c in
-    is-done s.args.base.now s.args.nb s.requires.0 s.args.delta.now s.args.deleted s.args.updated s.requires.1 s.args.out.now _ k.judge-all.ensures.0 _ k.judge-all.ensures.2 _ _ c.in-Fine.is _ c.if-out-ints.false c.write_table.ensures
+pub returns-else-out-fine : goal.returns-else-out-fine
+returns-else-out-fine c =
+    is-done c.args.base.now c.args.nb c.requires.0 c.args.delta.now c.args.deleted c.args.updated c.requires.1 c.args.out.now _ c.judge-all.ensures.0 _ c.judge-all.ensures.2 _ c.in-Ok.is _ c.if-out-fine.false c.write_table.ensures

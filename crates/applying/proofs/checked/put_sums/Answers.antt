@@ -15,12 +15,7 @@ use Rattle.laws.specs.ApplyFound.{item}
 use Rattle.applying.proofs.Putting.{RoomOne, room-one, part-laid, sums-laid, item-written}
 use Rattle.std.proofs.Common.{w32}
 use Rattle.applying.proofs.checked.put_sums.Goals as goal
-use Rattle.applying.proofs.checked.put_sums.Lts as lts
-use Rattle.applying.proofs.checked.put_sums.Tie as tie
-use Rattle.applying.proofs.checked.put_sums.Reads as reads
-
-abbrev Start : Type 0
-Start = lts.Start tie.the-claims reads.Pre reads.Post
+use Rattle.applying.proofs.checked.put_sums.Goals.{Start}
 
 -- the base's data
 abbrev base : Start → Option (List ℤ)
@@ -41,17 +36,14 @@ put_head-requires c =
 
 pub slice_bounds-apply_item_delta-end : goal.slice_bounds-apply_item_delta-end
 slice_bounds-apply_item_delta-end c =
-    let s = c in
     let r = one c.before.before.before in
     omega (arith, r.room, long c.before.before.before, c.put_head.auto.out)
 
 pub returns : goal.returns
 returns c =
-    let h = c in
-    let s = c in
     let r = one c.before.before.before.before.before.before in
-    let v = s.args.more.now in
-    item-written s.args.n s.args.m s.args.at s.args.key (sums (base c.before.before.before.before.before.before) v) s.args.out.now h.put_head.new.out _ s.ranges.key r
-    (rw (to_z-of_z {w = w32} s.ranges.key) at h.put_head.ensures)
-    (part-laid (s.args.at + 1) (s.args.at + 1 + length v - (s.args.at + 1)) (sums (base c.before.before.before.before.before.before) v) h.put_head.new.out _ (omega (arith, long c.before.before.before.before.before.before)) (omega (arith, r.room, long c.before.before.before.before.before.before, h.put_head.auto.out))
-    (sums-laid (base c.before.before.before.before.before.before) v _ _ _ s.requires.0 (simp (length-take, length-drop) (omega (arith, r.room, long c.before.before.before.before.before.before, h.put_head.auto.out))) c.apply_item_delta.ensures))
+    let v = c.args.more.now in
+    item-written c.args.n c.args.m c.args.at c.args.key (sums (base c.before.before.before.before.before.before) v) c.args.out.now c.put_head.new.out _ c.ranges.key r
+    (rw (to_z-of_z {w = w32} c.ranges.key) at c.put_head.ensures)
+    (part-laid (c.args.at + 1) (c.args.at + 1 + length v - (c.args.at + 1)) (sums (base c.before.before.before.before.before.before) v) c.put_head.new.out _ (omega (arith, long c.before.before.before.before.before.before)) (omega (arith, r.room, long c.before.before.before.before.before.before, c.put_head.auto.out))
+    (sums-laid (base c.before.before.before.before.before.before) v _ _ _ c.requires.0 (simp (length-take, length-drop) (omega (arith, r.room, long c.before.before.before.before.before.before, c.put_head.auto.out))) c.apply_item_delta.ensures))

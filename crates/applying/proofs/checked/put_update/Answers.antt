@@ -10,20 +10,9 @@ use Rattle.definitions.specs.Tables.{Item}
 use Rattle.definitions.specs.Deltas.{update_key, update_at}
 use Rattle.laws.specs.ApplyFound.{item}
 use Rattle.laws.specs.ApplyWriting.{Room, wrote}
-use Rattle.applying.proofs.Turns.{update_here, update-room, update-turn}
+use Rattle.applying.proofs.Turns.{update-room, update-turn}
 use Rattle.applying.proofs.checked.put_update.Goals as goal
-use Rattle.applying.proofs.checked.put_update.Lts as lts
-use Rattle.applying.proofs.checked.put_update.Tie as tie
-use Rattle.applying.proofs.checked.put_update.Reads as reads
-
-abbrev After-differences-more : Type 0
-After-differences-more = lts.After-differences tie.the-claims reads.Pre reads.Post
-
-abbrev After-update_key-key : Type 0
-After-update_key-key = lts.After-update_key tie.the-claims reads.Pre reads.Post
-
-abbrev Start : Type 0
-Start = lts.Start tie.the-claims reads.Pre reads.Post
+use Rattle.applying.proofs.checked.put_update.Goals.{After-differences-more, After-update_key-key, Start}
 
 -- the update's key as it is passed on
 key-is : (c : After-update_key-key) → bits (to_z w32 (of_z w32 c.update_key-key.result)) ≡ update_key c.args.delta.now c.args.s.update
@@ -36,24 +25,11 @@ item-is c = ap₂ item (key-is c.before) c.differences-more.ensures
 room : (s : Start) → Room s.args.n (length s.args.out.now) s.args.s.items s.args.s.at (update_at [] s.args.delta.now s.args.s.update ∷ [])
 room s = update-room s.args.out.now s.requires.1 s.requires.2 s.requires.3
 
-pub update_key-key-requires : goal.update_key-key-requires
-update_key-key-requires c = let u = update_here c.args.out.now c.requires.1 c.requires.2 in (u.head, u.type-below, u.id_below)
-
-pub differences-more-requires : goal.differences-more-requires
-differences-more-requires c = let s = c in update_here s.args.out.now s.requires.1 s.requires.2
-
 pub put_sums-requires : goal.put_sums-requires
 put_sums-requires c =
-    let s = c in
-    (refl, subst (λ (x : Item). Room s.args.n (length s.args.out.now) s.args.s.items s.args.s.at (x ∷ [])) (sym (item-is c.before)) (room c.before.before.before))
-
-pub next_update-requires : goal.next_update-requires
-next_update-requires c = let s = c in update_here s.args.out.now s.requires.1 s.requires.2
+    (refl, subst (λ (x : Item). Room c.args.n (length c.args.out.now) c.args.s.items c.args.s.at (x ∷ [])) (sym (item-is c.before)) (room c.before.before.before))
 
 pub returns : goal.returns
 returns c =
-    let p = c in
-    let d = c in
-    let s = c in
-    update-turn s.args.out.now s.requires.1 s.requires.2 s.requires.3 _ _ _ c.next_update.ensures (ap length d.differences-more.ensures)
-    (subst (λ (x : Item). p.put_sums.new.out ≡ wrote s.args.n s.args.out.now s.args.s.items s.args.s.at (x ∷ [])) (item-is c.before.before.before.before.before.before.before) p.put_sums.ensures)
+    update-turn c.args.out.now c.requires.1 c.requires.2 c.requires.3 _ _ _ c.next_update.ensures (ap length c.differences-more.ensures)
+    (subst (λ (x : Item). c.put_sums.new.out ≡ wrote c.args.n c.args.out.now c.args.s.items c.args.s.at (x ∷ [])) (item-is c.before.before.before.before.before.before.before) c.put_sums.ensures)

@@ -3,4 +3,4 @@ use mathlib.Core.Path.{◌∙◌}
 use Rattle.boundary_states.proofs.checked.load_receiver.Goals as goal
 
 pub returns : goal.returns
-returns c = c.with_lengths.ensures ∙ c.load_ticks-t.ensures _
+returns c = c.with_lengths.ensures ∙ c.load_ticks.ensures _

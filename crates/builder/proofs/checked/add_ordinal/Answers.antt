@@ -1,5 +1,6 @@
 -- `checked::add_ordinal` meets its contract: by the number, and then `add` does the rest. Assumes nothing.
 use mathlib.Core.Path.{◌≡◌, sym, ap, ◌∙◌}
+use mathlib.Core.Logic.{⊎_elim}
 use Prim.Native.Nat.{ℕ}
 use mir.Syntax.{w32}
 use mir.Val.{to_z, of_z}
@@ -10,26 +11,15 @@ use Rattle.definitions.specs.TableReading.{add_item}
 use Rattle.definitions.specs.TableCalls.{stored_table}
 use Rattle.builder.proofs.Adding.{number-zero, number-high, number-adds}
 use Rattle.builder.proofs.checked.add_ordinal.Goals as goal
-use Rattle.builder.proofs.checked.add_ordinal.Lts as lts
-use Rattle.builder.proofs.checked.add_ordinal.Tie as tie
-use Rattle.builder.proofs.checked.add_ordinal.Reads as reads
-
-abbrev After-key : Type 0
-After-key = lts.After-key tie.the-claims reads.Pre reads.Post
-
--- the key as `add` sees it
-key-is : (c : After-key) → let a = c.args in bits (to_z w32 (of_z w32 c.key.result)) ≡ key_of a.number a.id
-key-is c = ap bits (to_z-of_z {w = w32} (record { sfits = c.key.type_inv })) ∙ c.key.ensures
 
 pub returns-then-number-eq0 : goal.returns-then-number-eq0
-returns-then-number-eq0 c = number-zero _ _ _ _ c.if-number-eq0.true
-
-pub returns-then-number-ge16384 : goal.returns-then-number-ge16384
-returns-then-number-ge16384 c = number-high _ _ _ _ c.if-number-ge16384.true
+returns-then-number-eq0 c =
+    ⊎_elim (λ e. number-zero _ _ _ _ e) (λ h. number-high _ _ _ _ h.1) c.then-number-eq0.either
 
 pub returns : goal.returns
 returns c =
     let a = c.args in
+    let key-is : bits (to_z w32 (of_z w32 c.key.result)) ≡ key_of a.number a.id = ap bits (to_z-of_z {w = w32} (record { sfits = c.key.type_inv })) ∙ c.key.ensures in
     number-adds a.area.now a.id a.«data».now a.number c.if-number-eq0.false c.if-number-ge16384.false
-    ∙ ap (λ (k : ℕ). stored_table a.area.now (add_item (record { key = k; values = a.«data».now }) (items a.area.now))) (sym (key-is c.before.before))
+    ∙ ap (λ (k : ℕ). stored_table a.area.now (add_item (record { key = k; values = a.«data».now }) (items a.area.now))) (sym key-is)
     ∙ c.add.ensures

@@ -13,8 +13,8 @@ use Rattle.definitions.specs.TableCalls.{stored_table}
 use Rattle.definitions.specs.Builder.{add_to, next_kind, with_kind}
 use Rattle.format.specs.Answers.{stored_ints}
 use Rattle.format.specs.Numbers.{number}
-use Rattle.format.specs.declared.Stored.{Stored}
-use Rattle.format.specs.declared.Stored.TheVariants as write
+use Rattle.std.specs.Prelude.{Result, Ok, Err}
+use Rattle.format.specs.declared.Error.{Error}
 use Rattle.builder.specs.Building.{NoRoom}
 use Rattle.builder.proofs.Adding.{Added, added, items_more, held_more, takes-more, first-refused, first-stays}
 use Rattle.builder.proofs.Refusing.{not-40, Lacks, lacking, item_refused, not-too-long, second-lacks}
@@ -41,10 +41,10 @@ add-requires c =
     ∙ c.add-first.ensures in
     let area : List ℤ =
     c.add-first.new.area in
-    let told : add_to c.args.area.now (t) 0 (next_kind (t)) c.args.kind.now ≡ record { answer = stored_ints (write.Ints c.in-Ints.total); out = area } =
-    first-is ∙ ap (λ (r : Stored). record { answer = stored_ints r; out = area }) c.in-Ints.is in
-    let done : Added c.args.area.now (kind-item) (t) c.in-Ints.total area =
-    added c.args.area.now (kind-item) (t) c.in-Ints.total area told in
+    let told : add_to c.args.area.now (t) 0 (next_kind (t)) c.args.kind.now ≡ record { answer = stored_ints (Ok c.in-Ok.total); out = area } =
+    first-is ∙ ap (λ (r : Result ℕ Error). record { answer = stored_ints r; out = area }) c.in-Ok.is in
+    let done : Added c.args.area.now (kind-item) (t) c.in-Ok.total area =
+    added c.args.area.now (kind-item) (t) c.in-Ok.total area told in
     let d = c in
     let s = c in
     (held_more s.args.area.now s.args.n s.requires.held (kind-item) (small) _ _ (done), takes-more s.args.area.now s.args.n s.requires.held (kind-item) (small) _ _ (done))
@@ -64,17 +64,17 @@ refuse_without_room-requires c =
     ∙ c.add-first.ensures in
     let left : List ℤ =
     c.add-first.new.area in
-    let refusal : add_to c.args.area.now (t) 0 (next_kind (t)) c.args.kind.now ≡ record { answer = stored_ints (write.Refused c.in-Refused.e); out = left } =
-    first-is ∙ ap (λ (r : Stored). record { answer = stored_ints r; out = left }) c.in-Refused.is in
+    let refusal : add_to c.args.area.now (t) 0 (next_kind (t)) c.args.kind.now ≡ record { answer = stored_ints (Err c.in-Err.e); out = left } =
+    first-is ∙ ap (λ (r : Result ℕ Error). record { answer = stored_ints r; out = left }) c.in-Err.is in
     let lacks : let d = c in let s = c in (s.args.area.now ≡ left) × Lacks s.args.area.now (kind-item) (t) =
     let d = c in
     let s = c in
-    lacking s.args.area.now (kind-item) (t) (number d.in-Refused.e) (left) (refusal) (ap number c.in-CapacityError.is) in
+    lacking s.args.area.now (kind-item) (t) (number d.in-Err.e) (left) (refusal) (ap number c.in-CapacityError.is) in
     let s = c in
     not-too-long s.args.area.now s.args.n s.args.ints s.args.kinds s.requires s.args.kind.now (lacks).1
 
-pub returns-in-Ints : goal.returns-in-Ints
-returns-in-Ints c =
+pub returns-in-Ok : goal.returns-in-Ok
+returns-in-Ok c =
     let t : Table =
     items c.args.area.now in
     let number_is : 16384 + c.args.kinds ≡ next_kind t =
@@ -92,16 +92,16 @@ returns-in-Ints c =
     ∙ c.add-first.ensures in
     let area : List ℤ =
     c.add-first.new.area in
-    let told : add_to c.args.area.now (t) 0 (next_kind (t)) c.args.kind.now ≡ record { answer = stored_ints (write.Ints c.in-Ints.total); out = area } =
-    first-is ∙ ap (λ (r : Stored). record { answer = stored_ints r; out = area }) c.in-Ints.is in
-    let done : Added c.args.area.now (kind-item) (t) c.in-Ints.total area =
-    added c.args.area.now (kind-item) (t) c.in-Ints.total area told in
+    let told : add_to c.args.area.now (t) 0 (next_kind (t)) c.args.kind.now ≡ record { answer = stored_ints (Ok c.in-Ok.total); out = area } =
+    first-is ∙ ap (λ (r : Result ℕ Error). record { answer = stored_ints r; out = area }) c.in-Ok.is in
+    let done : Added c.args.area.now (kind-item) (t) c.in-Ok.total area =
+    added c.args.area.now (kind-item) (t) c.in-Ok.total area told in
     let d = c in
     let s = c in
     first-stays s.args.area.now s.args.id s.args.«data».now (t) s.args.kind.now _ _ (done).adds (told)
     ∙ ap (λ (u : Table). stored_table (area) (add_item (second) u)) (sym (items_more s.args.area.now s.args.n s.requires.held (kind-item) (small) _ _ (done)))
     ∙ ap (λ (k : ℕ). stored_table (area) (add_item (record { key = k; values = s.args.«data».now }) (items (area))))
-    (sym (ap bits (to_z-of_z {w = w32} (record { sfits = c.key-in-Ints.type_inv })) ∙ c.key-in-Ints.ensures ∙ ap (λ (k : ℕ). key_of k s.args.id) (number_is)))
+    (sym (ap bits (to_z-of_z {w = w32} (record { sfits = c.key-in-Ok.type_inv })) ∙ c.key-in-Ok.ensures ∙ ap (λ (k : ℕ). key_of k s.args.id) (number_is)))
     ∙ c.add.ensures
 
 pub returns-in-CapacityError : goal.returns-in-CapacityError
@@ -123,12 +123,12 @@ returns-in-CapacityError c =
     ∙ c.add-first.ensures in
     let left : List ℤ =
     c.add-first.new.area in
-    let refusal : add_to c.args.area.now (t) 0 (next_kind (t)) c.args.kind.now ≡ record { answer = stored_ints (write.Refused c.in-Refused.e); out = left } =
-    first-is ∙ ap (λ (r : Stored). record { answer = stored_ints r; out = left }) c.in-Refused.is in
+    let refusal : add_to c.args.area.now (t) 0 (next_kind (t)) c.args.kind.now ≡ record { answer = stored_ints (Err c.in-Err.e); out = left } =
+    first-is ∙ ap (λ (r : Result ℕ Error). record { answer = stored_ints r; out = left }) c.in-Err.is in
     let lacks : let d = c in let s = c in (s.args.area.now ≡ left) × Lacks s.args.area.now (kind-item) (t) =
     let d = c in
     let s = c in
-    lacking s.args.area.now (kind-item) (t) (number d.in-Refused.e) (left) (refusal) (ap number c.in-CapacityError.is) in
+    lacking s.args.area.now (kind-item) (t) (number d.in-Err.e) (left) (refusal) (ap number c.in-CapacityError.is) in
     let d = c in
     let s = c in
     let w = lacks in
@@ -152,10 +152,10 @@ returns-in_default c =
     ∙ c.add-first.ensures in
     let left : List ℤ =
     c.add-first.new.area in
-    let refusal : add_to c.args.area.now (t) 0 (next_kind (t)) c.args.kind.now ≡ record { answer = stored_ints (write.Refused c.in-Refused.e); out = left } =
-    first-is ∙ ap (λ (r : Stored). record { answer = stored_ints r; out = left }) c.in-Refused.is in
+    let refusal : add_to c.args.area.now (t) 0 (next_kind (t)) c.args.kind.now ≡ record { answer = stored_ints (Err c.in-Err.e); out = left } =
+    first-is ∙ ap (λ (r : Result ℕ Error). record { answer = stored_ints r; out = left }) c.in-Err.is in
     let d = c in
     let s = c in
     first-refused s.args.area.now s.args.id s.args.«data».now (t) s.args.kind.now (left) _
-    (item_refused s.args.area.now (kind-item) (t) (number d.in-Refused.e) (left) (refusal) (not-40 d.in-Refused.e c.in_default.not-CapacityError))
+    (item_refused s.args.area.now (kind-item) (t) (number d.in-Err.e) (left) (refusal) (not-40 d.in-Err.e c.in_default.not-CapacityError))
     (refusal)

@@ -8,54 +8,33 @@ use Rattle.definitions.specs.Tables.{key_at}
 use Rattle.builder.proofs.Counting.{left-start, all-run, ended, wrong-id, wrong-length, one_more}
 use Rattle.std.proofs.Common.{w32}
 use Rattle.builder.proofs.checked.count_kinds.Goals as goal
-use Rattle.builder.proofs.checked.count_kinds.Lts as lts
-use Rattle.builder.proofs.checked.count_kinds.Tie as tie
-use Rattle.builder.proofs.checked.count_kinds.Reads as reads
-
-abbrev After-to_bits-key : Type 0
-After-to_bits-key = lts.After-to_bits tie.the-claims reads.Pre reads.Post goal.the-invariant-loop-j goal.the-decreases-loop-j
-
--- the key of item j
-key-is : (c : After-to_bits-key) → c.to_bits-key.result ≡ key_at c.args.area.now c.loop-j.j
-key-is c = c.to_bits-key.ensures ∙ ap bits (to_z-of_z {w = w32} (record { sfits = c.key_at.type_inv })) ∙ c.key_at.ensures
 
 pub loop-j-init : goal.loop-j-init
 loop-j-init c = left-start _ _ c.requires
 
-pub key_at-requires : goal.key_at-requires
-key_at-requires c = (c.requires, c.loop-j-test.true)
-
 pub returns-then-key-ge65536 : goal.returns-then-key-ge65536
 returns-then-key-ge65536 c =
     let l = c.loop-j in
-    ended _ _ c.requires l.j l.invariant c.loop-j-test.true (omega (arith, key-is c.before))
-
-pub overflow_add-j : goal.overflow_add-j
-overflow_add-j c = let p = c.requires in omega (arith, c.loop-j-test.true, p.count-is, p.shape.few)
+    let key-is : c.to_bits-key.result ≡ key_at c.args.area.now c.loop-j.j = c.to_bits-key.ensures ∙ ap bits (to_z-of_z {w = w32} (record { sfits = c.key_at.type_inv })) ∙ c.key_at.ensures in
+    ended _ _ c.requires l.j l.invariant c.loop-j-test.true (omega (arith, key-is))
 
 pub returns-then-key-j : goal.returns-then-key-j
 returns-then-key-j c =
     let l = c.loop-j in
-    wrong-id _ _ c.requires l.j l.invariant c.loop-j-test.true (omega (arith, key-is c.before.before, c.if-key-ge65536.false)) (λ e. c.if-key-j.true (key-is c.before.before ∙ e))
-
-pub data_at-requires : goal.data_at-requires
-data_at-requires c = (c.requires, c.loop-j-test.true)
+    let key-is : c.to_bits-key.result ≡ key_at c.args.area.now c.loop-j.j = c.to_bits-key.ensures ∙ ap bits (to_z-of_z {w = w32} (record { sfits = c.key_at.type_inv })) ∙ c.key_at.ensures in
+    wrong-id _ _ c.requires l.j l.invariant c.loop-j-test.true (omega (arith, key-is, c.if-key-ge65536.false)) (λ e. c.if-key-j.true (key-is ∙ e))
 
 pub returns-then-data_at-ne4 : goal.returns-then-data_at-ne4
 returns-then-data_at-ne4 c =
     let l = c.loop-j in
-    wrong-length _ _ c.requires l.j l.invariant c.loop-j-test.true (omega (arith, key-is c.before.before.before.before, c.if-key-ge65536.false)) (sym (key-is c.before.before.before.before) ∙ c.if-key-j.false) (λ e. c.if-data_at-ne4.true (ap (length {A = ℤ}) c.data_at.ensures ∙ e))
-
-pub overflow_add-j-in-loop-j : goal.overflow_add-j-in-loop-j
-overflow_add-j-in-loop-j c = let p = c.requires in omega (arith, c.loop-j-test.true, p.count-is, p.shape.few)
-
-pub loop-j-smaller : goal.loop-j-smaller
-loop-j-smaller c = omega arith
+    let key-is : c.to_bits-key.result ≡ key_at c.args.area.now c.loop-j.j = c.to_bits-key.ensures ∙ ap bits (to_z-of_z {w = w32} (record { sfits = c.key_at.type_inv })) ∙ c.key_at.ensures in
+    wrong-length _ _ c.requires l.j l.invariant c.loop-j-test.true (omega (arith, key-is, c.if-key-ge65536.false)) (sym key-is ∙ c.if-key-j.false) (λ e. c.if-data_at-ne4.true (ap (length {A = ℤ}) c.data_at.ensures ∙ e))
 
 pub loop-j-preserved : goal.loop-j-preserved
 loop-j-preserved c =
     let l = c.loop-j in
-    one_more _ _ c.requires l.j l.invariant c.loop-j-test.true (omega (arith, key-is c.before.before.before.before, c.if-key-ge65536.false)) (sym (key-is c.before.before.before.before) ∙ c.if-key-j.false) (sym (ap (length {A = ℤ}) c.data_at.ensures) ∙ c.if-data_at-ne4.false)
+    let key-is : c.to_bits-key.result ≡ key_at c.args.area.now c.loop-j.j = c.to_bits-key.ensures ∙ ap bits (to_z-of_z {w = w32} (record { sfits = c.key_at.type_inv })) ∙ c.key_at.ensures in
+    one_more _ _ c.requires l.j l.invariant c.loop-j-test.true (omega (arith, key-is, c.if-key-ge65536.false)) (sym key-is ∙ c.if-key-j.false) (sym (ap (length {A = ℤ}) c.data_at.ensures) ∙ c.if-data_at-ne4.false)
 
 pub returns : goal.returns
 returns c =

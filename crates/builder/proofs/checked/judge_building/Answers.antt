@@ -1,46 +1,28 @@
 -- `checked::judge_building` meets its contract: by the form, the kinds, and the types. Assumes nothing.
-use mathlib.Core.Path.{◌≡◌, sym, ap, ◌∙◌}
-use Prim.Native.Nat.{◌+◌, ◌/◌}
-use Rattle.definitions.specs.Tables.{items, count, size}
-use Rattle.table.specs.Held.{Held}
+use mathlib.Core.Path.{sym, ◌∙◌}
 use Rattle.table.specs.Forms.{formed}
-use Rattle.types.specs.declared.checked.Types.{Types}
-use Rattle.format.specs.Sources.{uuid_excess}
-use Rattle.types.specs.Answers.{types_with}
 use Rattle.builder.proofs.Counting.{not-in-form, kinds-apart, types-refused, builds}
 use Rattle.builder.proofs.checked.judge_building.Goals as goal
 
-pub returns-in_default : goal.returns-in_default
-returns-in_default c = not-in-form _ (sym c.in_default.is ∙ c.form.ensures)
+pub returns-in_err-form : goal.returns-in_err-form
+returns-in_err-form c = rw c.from_residual.ensures (not-in-form _ c.in_err-form.ensures)
 
-pub count_kinds-kinds-requires : goal.count_kinds-kinds-requires
-count_kinds-kinds-requires c =
-    let holding : let a = c.args.area.now in Held a c.in-Table.items × (c.in-Table.ints ≡ 2 + count a + size a / 4) =
-    formed _ _ _ (sym c.in-Table.is ∙ c.form.ensures) in
-    (holding).0
+pub count_kinds-requires : goal.count_kinds-requires
+count_kinds-requires c = (formed _ _ _ c.in_ok-form.ensures).0
 
-pub returns-then-kinds-gt1024 : goal.returns-then-kinds-gt1024
-returns-then-kinds-gt1024 c =
-    let holding : let a = c.args.area.now in Held a c.in-Table.items × (c.in-Table.ints ≡ 2 + count a + size a / 4) =
-    formed _ _ _ (sym c.in-Table.is ∙ c.form.ensures) in
-    kinds-apart _ _ (holding).0 _ c.count_kinds-kinds.ensures c.if-kinds-gt1024.true
+pub returns-in_err-kinds : goal.returns-in_err-kinds
+returns-in_err-kinds c =
+    rw c.from_residual-in_err-kinds.ensures (kinds-apart _ _ (formed _ _ _ c.in_ok-form.ensures).0 c.in_err-kinds.ensures)
 
-pub judge_form-judged-requires : goal.judge_form-judged-requires
-judge_form-judged-requires c =
-    let holding : let a = c.args.area.now in Held a c.in-Table.items × (c.in-Table.ints ≡ 2 + count a + size a / 4) =
-    formed _ _ _ (sym c.in-Table.is ∙ c.form.ensures) in
-    holding
+pub judge_form-requires : goal.judge_form-requires
+judge_form-requires c = formed _ _ _ c.in_ok-form.ensures
 
-pub returns-in-Refused : goal.returns-in-Refused
-returns-in-Refused c =
-    let holding : let a = c.args.area.now in Held a c.in-Table.items × (c.in-Table.ints ≡ 2 + count a + size a / 4) =
-    formed _ _ _ (sym c.in-Table.is ∙ c.form.ensures) in
-    types-refused _ _ (holding).0 _ c.count_kinds-kinds.ensures c.if-kinds-gt1024.false _ _
-    (c.judge_form-judged.ensures ∙ ap (λ (y : Types). types_with (items c.args.area.now) y (uuid_excess c.judge_form-judged.result.excess)) c.in-Refused.is)
+pub returns-then-is_err : goal.returns-then-is_err
+returns-then-is_err c =
+    types-refused _ _ (formed _ _ _ c.in_ok-form.ensures).0 c.in_ok-kinds.kinds c.in_ok-kinds.ensures c.judge_form.result.types _
+    (sym c.is_err.ensures.value ∙ c.if-is_err.true) c.judge_form.ensures
 
 pub returns : goal.returns
 returns c =
-    let holding : let a = c.args.area.now in Held a c.in-Table.items × (c.in-Table.ints ≡ 2 + count a + size a / 4) =
-    formed _ _ _ (sym c.in-Table.is ∙ c.form.ensures) in
-    builds _ _ (holding).0 _ c.count_kinds-kinds.ensures c.if-kinds-gt1024.false _ _ (holding).1
-    (c.judge_form-judged.ensures ∙ ap (λ (y : Types). types_with (items c.args.area.now) y (uuid_excess c.judge_form-judged.result.excess)) c.in_default-types.is)
+    let h = formed _ _ _ c.in_ok-form.ensures in
+    builds _ _ h.0 c.in_ok-kinds.kinds c.in_ok-kinds.ensures _ c.judge_form.result.types _ h.1 (sym c.is_err.ensures.value ∙ c.if-is_err.false) c.judge_form.ensures

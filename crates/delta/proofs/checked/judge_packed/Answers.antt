@@ -2,7 +2,7 @@
 use mathlib.Core.Path.{◌∙◌}
 use native.Mathlib.Omega.{arith}
 use lib.ListN.{length}
-use Rattle.delta.proofs.ReadCalls.{answered, bytes-too-short, bytes-shorter, bytes-too-many, bytes-judged}
+use Rattle.delta.proofs.ReadCalls.{answered, bytes-too-short, bytes-shorter, bytes-too-many}
 use Rattle.delta.proofs.checked.judge_packed.Goals as goal
 
 pub returns-then-scratch-lt16384 : goal.returns-then-scratch-lt16384
@@ -19,8 +19,3 @@ pub returns-then-src-gt1048576 : goal.returns-then-src-gt1048576
 returns-then-src-gt1048576 c =
     let a = c.args in
     bytes-too-many a.src.now a.sizes.now a.out.now (length a.scratch.now) (omega arith) (omega arith) (omega arith) ∙ answered _ c.refused-then-src-gt1048576.ensures
-
-pub returns : goal.returns
-returns c =
-    let a = c.args in
-    bytes-judged a.src.now a.sizes.now a.out.now (length a.scratch.now) (omega arith) (omega arith) (omega arith) ∙ c.read_packed.ensures

@@ -19,26 +19,26 @@ store-requires c =
     let T = t.ensures F.values J.items (told F J) in
     (c.requires.0, F, weighs F J t.result T)
 
-pub counted-requires-in-Whole : goal.counted-requires-in-Whole
-counted-requires-in-Whole c =
+pub counted-requires-in-Ok : goal.counted-requires-in-Ok
+counted-requires-in-Ok c =
     let F = c.requires.1 in
     let J = c.judge_updates-judged.ensures in
     let t = c.tally-t in
     let T = t.ensures F.values J.items (told F J) in
     sums-small F J t.result T c.requires.0
 
-pub returns-in-Refused : goal.returns-in-Refused
-returns-in-Refused c =
+pub returns-in-Err : goal.returns-in-Err
+returns-in-Err c =
     let F = c.requires.1 in
     let J = c.judge_updates-judged.ensures in
     let t = c.tally-t in
     let T = t.ensures F.values J.items (told F J) in
-    refused-behind F J t.result T c.args.out.now c.in-Refused.error _ c.in-Refused.is c.counted.ensures
+    refused-behind F J t.result T c.args.out.now c.in-Err.error _ c.in-Err.is c.counted.ensures
 
-pub returns-in-Whole : goal.returns-in-Whole
-returns-in-Whole c =
+pub returns-in-Ok : goal.returns-in-Ok
+returns-in-Ok c =
     let F = c.requires.1 in
     let J = c.judge_updates-judged.ensures in
     let t = c.tally-t in
     let T = t.ensures F.values J.items (told F J) in
-    stored-behind F J t.result T c.args.out.now _ c.store.result _ c.in-Whole.is c.counted-in-Whole.ensures c.store.ensures
+    stored-behind F J t.result T c.args.out.now _ c.store.result _ c.in-Ok.is c.counted-in-Ok.ensures c.store.ensures

@@ -3,17 +3,6 @@ use native.Mathlib.Omega.{arith}
 use Rattle.delta_any_order.proofs.Weighing.{few-counts, weighed-refused, weighed-room, weighed-stored}
 use Rattle.delta_any_order.proofs.checked.store.Goals as goal
 
-pub overflow_add-front : goal.overflow_add-front
-overflow_add-front c =
-    let m = few-counts c.requires.2 c.requires.0 in
-    omega (arith, m.0, c.requires.1.few-keys, c.requires.0)
-
-pub overflow_add-front-2 : goal.overflow_add-front-2
-overflow_add-front-2 c =
-    let W = c.requires.2 in
-    let m = few-counts W c.requires.0 in
-    omega (arith, m.0, W.few-keys, W.few-room, c.requires.0)
-
 pub returns-then-out-front : goal.returns-then-out-front
 returns-then-out-front c = weighed-refused c.requires.2 c.args.out.now (omega arith)
 

@@ -1,6 +1,6 @@
 -- `checked::deleted_fit` meets its contract. The loop's invariant: the keys so far fit, and the next one must be above the last of them.
 -- Assumes nothing.
-use Prim.Native.Nat.{suc, ◌-◌, ◌≤◌}
+use Prim.Native.Nat.{suc}
 use mathlib.Core.Path.{◌≡◌}
 use mathlib.Core.Bool.{true}
 use Rattle.definitions.specs.Ints.{bits}
@@ -10,7 +10,4 @@ use Rattle.delta_form.proofs.checked.deleted_fit.Given as goal
 
 abbrev pub invariant-loop-i : goal.invariant-loop-i
 invariant-loop-i l =
-    (l.i ≤ l.n) × (all (deleted_fits l.area) l.i ≡ true) × (lowest_rank l.area l.i ≡ suc (rank (bits l.last)))
-
-abbrev pub decreases-loop-i : goal.decreases-loop-i
-decreases-loop-i l = l.n - l.i
+    (all (deleted_fits l.area) l.i ≡ true) × (lowest_rank l.area l.i ≡ suc (rank (bits l.last)))

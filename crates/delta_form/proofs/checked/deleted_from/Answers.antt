@@ -9,21 +9,9 @@ use Rattle.definitions.specs.Ints.{bits, signed_less}
 use Rattle.definitions.specs.Deltas.{rank, deleted_at}
 use Rattle.laws.specs.IntLaws.{less-ranks, not-less-ranks}
 use Rattle.delta_form.proofs.Ranks.{under_more}
-use borrow.Author.Rules.{rules}
 use Rattle.std.proofs.Common.{w32}
 use Rattle.delta_form.proofs.checked.deleted_from.Goals as goal
-use Rattle.delta_form.proofs.checked.deleted_from.Lts as lts
-use Rattle.delta_form.proofs.checked.deleted_from.Tie as tie
-use Rattle.delta_form.proofs.checked.deleted_from.Reads as reads
-
-abbrev After-signed_less : Type 0
-After-signed_less = lts.After-signed_less tie.the-claims reads.Pre reads.Post goal.the-invariant-loop-i goal.the-decreases-loop-i
-
-abbrev Else-not-signed_less : Type 0
-Else-not-signed_less = lts.Else1 tie.the-claims reads.Pre reads.Post goal.the-invariant-loop-i goal.the-decreases-loop-i
-
-abbrev Then-not-signed_less : Type 0
-Then-not-signed_less = lts.Then1 tie.the-claims reads.Pre reads.Post goal.the-invariant-loop-i goal.the-decreases-loop-i
+use Rattle.delta_form.proofs.checked.deleted_from.Goals.{After-signed_less, Else-not-signed_less, Then-not-signed_less}
 
 -- the deleted key at hand is compared in signed order
 compared : (c : After-signed_less) → let l = c.before.before.before in c.signed_less.result ≡ signed_less (get_or l.args.src.now (3 + l.loop-i.i) (pos 0)) l.args.key
@@ -43,26 +31,13 @@ not-below c =
     let l = c in
     not-less-ranks _ l.args.key (record { sfits = c.signed_less-arg-1.given }) l.ranges.key (sym (compared c.before) ∙ not-true _ c.if-not-signed_less.true-raw)
 
-pub loop-i-init : goal.loop-i-init
-unfolding bits
-loop-i-init c =
-    rw (to_z-of_z {w = w32} c.ranges.key)
-    ((c.requires.1, c.requires.2))
-
 pub returns-then-not-signed_less : goal.returns-then-not-signed_less
 unfolding bits
 returns-then-not-signed_less c =
-    let l = c.loop-i in
-    record { few = (rw (to_z-of_z {w = w32} c.ranges.key) at l.invariant).0; under = (rw (to_z-of_z {w = w32} c.ranges.key) at l.invariant).1; here = λ m. not-below c }
+    record { few = omega arith; under = rw (to_z-of_z {w = w32} c.ranges.key) at c.loop-i.invariant; here = λ m. not-below c }
 
 pub loop-i-preserved : goal.loop-i-preserved
 unfolding bits
 loop-i-preserved c =
     rw (to_z-of_z {w = w32} c.ranges.key)
-    ((search rules, under_more _ _ _ (rw (to_z-of_z {w = w32} c.ranges.key) at c.loop-i.invariant).1 (below c)))
-
-pub returns : goal.returns
-unfolding bits
-returns c =
-    let l = c.loop-i in
-    record { few = (rw (to_z-of_z {w = w32} c.ranges.key) at l.invariant).0; under = (rw (to_z-of_z {w = w32} c.ranges.key) at l.invariant).1; here = λ m. absurd (omega arith) }
+    (under_more _ _ _ (rw (to_z-of_z {w = w32} c.ranges.key) at c.loop-i.invariant) (below c))

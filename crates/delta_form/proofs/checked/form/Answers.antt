@@ -26,9 +26,10 @@ returns-then-not-deleted_fit c =
     let e = sym (not-true _ c.if-not-deleted_fit.true-raw) ∙ c.deleted_fit.ensures in
     bad _ _ (no_keys _ _ _ _ c.nat_at-deleted.ensures.0 c.nat_at-updated.ensures.0 e)
 
-pub returns-in_default : goal.returns-in_default
-returns-in_default c =
-    bad _ _ (no-updates _ _ _ _ c.nat_at-deleted.ensures.0 c.nat_at-updated.ensures.0 (sym c.in_default.is ∙ c.updates_fit.ensures))
+pub returns-in_err-ints : goal.returns-in_err-ints
+returns-in_err-ints c =
+    c.from_residual.ensures
+    ∙ bad _ _ (no-updates _ _ _ _ c.nat_at-deleted.ensures.0 c.nat_at-updated.ensures.0 c.in_err-ints.ensures)
 
 pub returns : goal.returns
 returns c =
@@ -36,5 +37,5 @@ returns c =
     let k = c.nat_at-deleted.ensures.0 in
     let u = c.nat_at-updated.ensures.0 in
     let d = sym (not-false _ c.if-not-deleted_fit.false-raw) ∙ c.deleted_fit.ensures in
-    let e = ended s.sizes.now s.area.now _ _ _ _ (sym c.in-End.is ∙ c.updates_fit.ensures) in
+    let e = ended s.sizes.now s.area.now _ _ _ _ c.in_ok-ints.ensures in
     good _ _ _ _ _ (all-passed _ _ _ _ k u (omega arith) (omega arith) (omega arith) (omega arith) d e.0) k u e.1

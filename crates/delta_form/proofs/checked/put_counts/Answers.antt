@@ -7,5 +7,4 @@ returns c =
     let c₃ = c in
     let c₂ = c in
     let c₁ = c in
-    let s = c in
-    three-laid s.args.out.now c₁.put.new.area c₂.put-2.new.area c₃.put-3.new.area s.args.at _ _ _ s.requires.0 c₁.put.ensures c₂.put-2.ensures c₃.put-3.ensures
+    three-laid c.args.out.now c₁.put.new.area c₂.put-2.new.area c₃.put-3.new.area c.args.at _ _ _ c.requires.0 c₁.put.ensures c₂.put-2.ensures c₃.put-3.ensures

@@ -1,7 +1,8 @@
 -- `checked::update_fits` meets its contract: each test is part of the form. Assumes nothing.
 use Rattle.delta_form.proofs.Turns.{no_end, end_is}
 use Prim.Native.Nat.{◌+◌}
-use mathlib.Core.Path.{ap₂, ◌∙◌}
+use Rattle.std.proofs.Common.{Some}
+use mathlib.Core.Path.{ap, ap₂, ◌∙◌}
 use Rattle.laws.specs.DeltaShape.{Update}
 use native.Mathlib.Omega.{arith}
 use Rattle.definitions.specs.Deltas.{update_end}
@@ -31,4 +32,4 @@ unfolding update_end
 returns c =
     let s = c.args in
     let u : Update s.sizes.now s.area.now s.p = record { head = omega arith; type-below = omega arith; id_below = omega arith; begins = omega arith; size_below = omega arith; ends = omega arith } in
-    ap₂ ◌+◌ c.data_at-from.ensures.0 c.size_at-size.ensures.0 ∙ end_is _ _ _ u
+    ap Some (ap₂ ◌+◌ c.data_at-from.ensures.0 c.size_at-size.ensures.0) ∙ end_is _ _ _ u

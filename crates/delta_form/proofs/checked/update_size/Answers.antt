@@ -12,6 +12,5 @@ count_at-requires c =
 
 pub returns : goal.returns
 returns c =
-    let s = c in
-    let e = c.count_at.ensures ∙ sym (area-size s.args.area.now s.args.p) in
-    (e, omega (arith, e, s.requires.size_below))
+    let e = c.count_at.ensures ∙ sym (area-size c.args.area.now c.args.p) in
+    (e, omega (arith, e, c.requires.size_below))

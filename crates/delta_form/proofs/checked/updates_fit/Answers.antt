@@ -7,24 +7,20 @@ use Rattle.laws.specs.DeltaShape.{Update}
 use Rattle.delta_form.proofs.Turns.{end-found, end-missing, none_left, unfit, turn}
 use Rattle.std.proofs.Common.{w32}
 use Rattle.delta_form.proofs.checked.updates_fit.Goals as goal
-use Rattle.delta_form.proofs.checked.updates_fit.Lts as lts
-use Rattle.delta_form.proofs.checked.updates_fit.Tie as tie
-use Rattle.delta_form.proofs.checked.updates_fit.Reads as reads
-
-abbrev Else-end-eq0 : Type 0
-Else-end-eq0 = lts.Else2 tie.the-claims reads.Pre reads.Post
+use Rattle.delta_form.proofs.checked.updates_fit.Goals.{In_ok-end}
 
 -- the first update is within the area
-lies : (c : Else-end-eq0) → let s = c.args in Update s.sizes.now s.area.now s.start × (c.update_fits-end.result ≡ update_end s.sizes.now s.area.now s.start)
-lies c = end-found _ _ _ _ c.update_fits-end.ensures c.if-end-eq0.false
+lies : (c : In_ok-end) → let s = c.args in Update s.sizes.now s.area.now s.start × (c.in_ok-end.end ≡ update_end s.sizes.now s.area.now s.start)
+lies c = end-found _ _ _ _ c.in_ok-end.ensures
 
 pub returns-then-n-eq0 : goal.returns-then-n-eq0
 returns-then-n-eq0 c = let s = c.args in none_left s.sizes.now s.area.now s.start 0 s.n (omega arith)
 
-pub returns-then-end-eq0 : goal.returns-then-end-eq0
-returns-then-end-eq0 c =
+pub returns-in_err-end : goal.returns-in_err-end
+returns-in_err-end c =
     let s = c.args in
-    unfit s.sizes.now s.area.now s.start 0 s.n (omega arith) (λ u m. end-missing _ _ _ _ c.update_fits-end.ensures c.if-end-eq0.true u)
+    c.from_residual.ensures
+    ∙ unfit s.sizes.now s.area.now s.start 0 s.n (omega arith) (λ u m. end-missing _ _ _ c.in_err-end.ensures u)
 
 pub update_key-requires : goal.update_key-requires
 update_key-requires c = let u = (lies c).0 in (u.head, u.type-below, u.id_below)
@@ -34,10 +30,8 @@ updates_fit_above-requires c = let u = lies c.before in omega (arith, u.0.ends, 
 
 pub returns : goal.returns
 returns c =
-    let k = c in
-    let f = c in
-    let s = f.args in
+    let s = c.args in
     let u = lies c.before.before in
     c.updates_fit_above.ensures
-    ∙ rw (to_z-of_z {w = w32} (record { sfits = k.update_key.type_inv }))
-    (turn s.sizes.now s.area.now s.start 0 s.n _ _ (omega arith) u.0 u.1 (ap rank k.update_key.ensures) (omega arith))
+    ∙ rw (to_z-of_z {w = w32} (record { sfits = c.update_key.type_inv }))
+    (turn s.sizes.now s.area.now s.start 0 s.n _ _ _ (omega arith) u.0 u.1 (ap rank c.update_key.ensures) (omega arith))

@@ -1,11 +1,7 @@
 -- `delta_index::checked::write_deleted` meets its contract. The loop's invariant: the deleted keys from entry i on remain to be laid. Assumes nothing.
-use Prim.Native.Nat.{◌-◌, ◌≤◌}
 use Rattle.sorting.specs.Pairs.{pairs}
 use Rattle.delta_index.proofs.Telling.{Putting}
 use Rattle.delta_index.proofs.checked.write_deleted.Given as goal
 
 abbrev pub invariant-loop-i : goal.invariant-loop-i
-invariant-loop-i l = (l.i ≤ l.n) × Putting (pairs l.index l.n) l.at l.initial.out l.i l.w l.d l.out
-
-abbrev pub decreases-loop-i : goal.decreases-loop-i
-decreases-loop-i l = l.n - l.i
+invariant-loop-i l = Putting (pairs l.index l.n) l.at l.initial.out l.i l.w l.d l.out

@@ -1,5 +1,4 @@
 -- `checked::find_differing` meets its contract. The loop's invariant: the first clash is that of the remaining items. Assumes nothing.
-use Prim.Native.Nat.{◌-◌, ◌≤◌}
 use mathlib.Core.Path.{◌≡◌}
 use Rattle.definitions.specs.Tables.{items}
 use Rattle.definitions.specs.DeltaMaking.{first_clash}
@@ -9,7 +8,4 @@ use Rattle.delta_making.proofs.checked.find_differing.Given as goal
 
 abbrev pub invariant-loop-i : goal.invariant-loop-i
 invariant-loop-i l =
-    (l.i ≤ l.nt) × Along l.base l.nb l.p l.target l.i × (first_clash (items l.base) (part l.i l.nt (items l.target)) ≡ first_clash (items l.base) (items l.target))
-
-abbrev pub decreases-loop-i : goal.decreases-loop-i
-decreases-loop-i l = l.nt - l.i
+    Along l.base l.nb l.p l.target l.i × (first_clash (items l.base) (part l.i l.nt (items l.target)) ≡ first_clash (items l.base) (items l.target))

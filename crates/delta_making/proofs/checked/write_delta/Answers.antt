@@ -14,27 +14,7 @@ use Rattle.laws.specs.DeltaReadBack.{length-delta_ints}
 use Rattle.delta_making.specs.Parts.{part, deleted_ints, changes_ints}
 use Rattle.delta_making.proofs.Parts.{delta-parts}
 use Rattle.delta_making.proofs.checked.write_delta.Goals as goal
-use Rattle.delta_making.proofs.checked.write_delta.Lts as lts
-use Rattle.delta_making.proofs.checked.write_delta.Tie as tie
-use Rattle.delta_making.proofs.checked.write_delta.Reads as reads
-
-abbrev After-put_counts : Type 0
-After-put_counts = lts.After-put_counts tie.the-claims reads.Pre reads.Post tie.handed_clauses
-
-abbrev After-walk_start-t : Type 0
-After-walk_start-t = lts.After-walk_start2 tie.the-claims reads.Pre reads.Post tie.handed_clauses
-
-abbrev After-write_deleted-w1 : Type 0
-After-write_deleted-w1 = lts.After-write_deleted tie.the-claims reads.Pre reads.Post tie.handed_clauses
-
-abbrev After-write_deleted-w2 : Type 0
-After-write_deleted-w2 = lts.After-write_deleted2 tie.the-claims reads.Pre reads.Post tie.handed_clauses
-
-abbrev After-write_updates : Type 0
-After-write_updates = lts.After-write_updates2 tie.the-claims reads.Pre reads.Post tie.handed_clauses
-
-abbrev After-write_updates-w3 : Type 0
-After-write_updates-w3 = lts.After-write_updates tie.the-claims reads.Pre reads.Post tie.handed_clauses
+use Rattle.delta_making.proofs.checked.write_delta.Goals.{After-put_counts, After-walk_start-t, After-write_deleted-w1, After-write_deleted-w2, After-write_updates, After-write_updates-w3}
 
 -- the delta, and its parts after the counts
 abbrev delta : After-walk_start-t → List ℤ
@@ -101,43 +81,31 @@ after-updates c =
     let q = from-updates c in
     lays_more (after-deleted2 c.before.before.before) _ _ (updated₁ q) (updated₂ q) refl c.write_updates-w3.ensures.out_after c.write_updates-w3.ensures.value
 
--- ---- preconditions
-pub walk_start-b-requires : goal.walk_start-b-requires
-walk_start-b-requires c = c.requires.0
-
-pub walk_start-t-requires : goal.walk_start-t-requires
-walk_start-t-requires c = c.requires.1
-
 pub put_counts-requires : goal.put_counts-requires
 put_counts-requires c =
-    let s = c in
-    let n = length-delta_ints [] (delta_from (items s.args.base.now) (items s.args.target.now)) in
-    (omega (arith, s.requires.5), omega (arith, s.requires.4, s.requires.0.count-is, s.requires.0.shape.few), omega (arith, s.requires.1.count-is, s.requires.1.shape.few), omega arith)
+    let n = length-delta_ints [] (delta_from (items c.args.base.now) (items c.args.target.now)) in
+    (omega (arith, c.requires.5), omega (arith, c.requires.4, c.requires.0.count-is, c.requires.0.shape.few), omega (arith, c.requires.1.count-is, c.requires.1.shape.few), omega arith)
 
 pub write_deleted-w1-requires : goal.write_deleted-w1-requires
 write_deleted-w1-requires c =
-    let p = c in
     let q = from-counts c.before.before in
     let s = q.before.before in
     (s.requires.0, s.requires.1, omega (arith, q.walk_start-b.ensures.within, s.requires.0.count-is), omega arith, lays-room (after-counts c.before.before) (deleted₁ q) (deleted₂ q ++ (updated₁ q ++ updated₂ q)) refl (omega (arith, s.requires.5)))
 
 pub write_deleted-w2-requires : goal.write_deleted-w2-requires
 write_deleted-w2-requires c =
-    let p = c in
     let q = from-deleted c.before.before in
     let s = q.before.before in
     (s.requires.0, s.requires.1, omega arith, omega (arith, q.walk_start-b.ensures.within, s.requires.0.count-is), lays-room (after-deleted c.before.before) (deleted₂ q) (updated₁ q ++ updated₂ q) refl (omega (arith, s.requires.5)))
 
 pub write_updates-w3-requires : goal.write_updates-w3-requires
 write_updates-w3-requires c =
-    let p = c in
     let q = from-deleted2 c.before.before in
     let s = q.before.before in
     (s.requires.0, s.requires.1, omega (arith, q.walk_start-t.ensures.within, s.requires.1.count-is), omega arith, s.requires.2, lays-room (after-deleted2 c.before.before) (updated₁ q) (updated₂ q) refl (omega (arith, s.requires.5)))
 
 pub write_updates-requires : goal.write_updates-requires
 write_updates-requires c =
-    let p = c in
     let q = from-updates c.before.before in
     let s = q.before.before in
     (s.requires.0, s.requires.1, omega arith, omega (arith, q.walk_start-t.ensures.within, s.requires.1.count-is), s.requires.2, lays-room (after-updates c.before.before) (updated₂ q) [] (sym (append-nil (updated₂ q))) (omega (arith, s.requires.5)))
@@ -147,9 +115,6 @@ whole : (c : After-write_updates) → Left (from-updates2 c) c.write_updates.new
 whole c =
     let q = from-updates2 c in
     lays_more (after-updates c.before.before.before) _ _ (updated₂ q) [] (sym (append-nil (updated₂ q))) c.write_updates.ensures.out_after c.write_updates.ensures.value
-
-pub shape_of-out : goal.shape_of-out
-shape_of-out c = (whole c.before).long
 
 pub returns : goal.returns
 returns c = (lays-end (whole c.before) refl).1

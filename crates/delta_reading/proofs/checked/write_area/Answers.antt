@@ -1,6 +1,6 @@
 -- `checked::write_area` meets its contract: by the room. Assumes nothing.
 use native.Mathlib.Omega.{arith}
-use Rattle.delta_reading.proofs.Whole.{front_length, whole-short, area-refused, area-stored}
+use Rattle.delta_reading.proofs.Whole.{whole-short, area-refused, area-stored}
 use Rattle.delta_reading.proofs.checked.write_area.Goals as goal
 
 pub overflow_add-n : goal.overflow_add-n
@@ -13,14 +13,8 @@ returns-then-out-n c =
     let s = c.args in
     area-refused s.sizes.now s.src.now s.deleted s.updated c.requires _ s.out.now c.updates_len.ensures c.if-out-n.true
 
-pub slice_bounds-copy_into-end : goal.slice_bounds-copy_into-end
-slice_bounds-copy_into-end c =
-    let b = c in
-    front_length b.args.sizes.now b.args.src.now b.args.deleted b.args.updated b.requires
-
 pub returns : goal.returns
 returns c =
-    let b = c in
-    let s = b.args in
+    let s = c.args in
     let w = c.write_updates.ensures in
-    area-stored s.sizes.now s.src.now s.deleted s.updated b.requires _ _ s.out.now _ _ _ c.updates_len.ensures c.if-out-n.false c.copy_into.ensures w.0 w.1
+    area-stored s.sizes.now s.src.now s.deleted s.updated c.requires _ _ s.out.now _ _ _ c.updates_len.ensures c.if-out-n.false c.copy_into.ensures w.0 w.1

@@ -1,10 +1,8 @@
 -- `checked::write_updates` meets its contract. The loop's invariant: with the rest written from here on, the area is as it should be.
 -- Assumes nothing.
+use Prim.Native.Nat.{◌-◌}
 use Rattle.delta_reading.proofs.Turns.{Writing}
 use Rattle.delta_reading.proofs.checked.write_updates.Given as goal
 
-abbrev pub invariant-loop-left : goal.invariant-loop-left
-invariant-loop-left l = Writing l.sizes l.src l.start l.n l.first l.initial.out l.out l.at l.p l.left
-
-abbrev pub decreases-loop-left : goal.decreases-loop-left
-decreases-loop-left l = l.left
+abbrev pub invariant-loop : goal.invariant-loop
+invariant-loop l = Writing l.sizes l.src l.start l.n l.first l.initial.out l.out l.at l.p (l.n - l.counter)

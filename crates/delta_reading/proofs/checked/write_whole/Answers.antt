@@ -4,6 +4,5 @@ use Rattle.delta_reading.proofs.checked.write_whole.Goals as goal
 
 pub returns-then-sizes-eq0 : goal.returns-then-sizes-eq0
 returns-then-sizes-eq0 c =
-    let b = c in
-    let s = b.args in
-    whole-stands s.sizes.now s.src.now s.deleted s.updated b.requires.0 b.requires.1 c.if-sizes-eq0.true s.out.now _ c.copy_whole.ensures
+    let s = c.args in
+    whole-stands s.sizes.now s.src.now s.deleted s.updated c.requires.0 c.requires.1 c.if-sizes-eq0.true s.out.now _ c.copy_whole.ensures

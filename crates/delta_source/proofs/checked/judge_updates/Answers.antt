@@ -1,134 +1,50 @@
-use mathlib.Core.Path.{◌≡◌, sym, ◌∙◌}
-use mathlib.Core.Bool.{false}
+use mathlib.Core.Path.{sym, ◌∙◌}
 use Prim.Native.Nat.{◌<◌, ◌^◌}
 use native.Mathlib.Omega.{arith}
-use borrow.Author.Tests.{not-true, not-false}
-use Rattle.definitions.specs.DeltaReading.{is_end}
-use Rattle.delta_source.specs.Source.{Source, source, size, from, Updates}
+use Rattle.delta_source.specs.Source.{source, size}
 use Rattle.delta_source.specs.SourceLaws.{size_below}
-use Rattle.delta_source.specs.declared.checked.Update.TheVariants as update
-use Rattle.delta_source.proofs.Judging.{start-judging, turn-judging, all-judged, one-refused, refused-sum, update-sums, update-on}
+use Rattle.delta_source.proofs.Judging.{start-judging, turn-judging, all-judged, one-refused, refused-sum, update-sums}
 use Rattle.delta_source.proofs.checked.judge_updates.Goals as goal
 
-pub loop-error-init : goal.loop-error-init
-loop-error-init c = start-judging _ c.args.sizes.now c.args.at c.requires
-
-pub at_end-requires : goal.at_end-requires
-at_end-requires c = c.loop-error.invariant.inside
-
-pub read_update-requires : goal.read_update-requires
-read_update-requires c = c.loop-error.invariant.inside
+pub loop-refusal-init : goal.loop-refusal-init
+loop-refusal-init c = start-judging _ c.args.sizes.now c.args.at c.requires
 
 pub overflow_add-result : goal.overflow_add-result
 overflow_add-result c =
-    let src : Source =
-    source c.args.packed c.args.bytes.now c.args.ints.now in
-    let small : size (src) < 2 ^ 63 =
-    size_below c.args.packed c.args.bytes.now c.args.ints.now (2 ^ 63) (omega arith) (omega arith) in
-    let refusal : let s = c in
-    let v = c in
-    Updates (src) s.args.sizes.now c.loop-error.here (update.Refused c.in-Refused.error c.in-Refused.overlong) =
-    rw c.in-Refused.is at c.read_update.ensures in
-    let m = refused-sum _ _ _ c.loop-error.invariant (refusal) in
-    omega (arith, small)
+    let a = c.args in
+    let small : size (source a.packed a.bytes.now a.ints.now) < 2 ^ 63 = size_below a.packed a.bytes.now a.ints.now (2 ^ 63) (omega arith) (omega arith) in
+    omega (arith, refused-sum _ _ _ c.loop-refusal.invariant c.in-Err.ensures, small)
 
-pub returns-in-Refused : goal.returns-in-Refused
-returns-in-Refused c =
-    let src : Source =
-    source c.args.packed c.args.bytes.now c.args.ints.now in
-    let more : is_end (from (src) c.loop-error.here) ≡ false =
-    sym c.at_end.ensures ∙ not-true _ c.loop-error-test.true-raw in
-    let refusal : let s = c in
-    let v = c in
-    Updates (src) s.args.sizes.now c.loop-error.here (update.Refused c.in-Refused.error c.in-Refused.overlong) =
-    rw c.in-Refused.is at c.read_update.ensures in
-    let s = c in
-    one-refused (src) s.args.sizes.now s.args.at c.loop-error.invariant
-    (more) (refusal)
+pub returns-in-Err : goal.returns-in-Err
+returns-in-Err c =
+    let more = sym c.at_end.ensures ∙ c.loop-refusal-test.true in
+    one-refused _ c.args.sizes.now c.args.at c.loop-refusal.invariant more c.in-Err.ensures
 
-pub overflow_add-t : goal.overflow_add-t
-overflow_add-t c =
-    let src : Source =
-    source c.args.packed c.args.bytes.now c.args.ints.now in
-    let small : size (src) < 2 ^ 63 =
-    size_below c.args.packed c.args.bytes.now c.args.ints.now (2 ^ 63) (omega arith) (omega arith) in
-    let i = c.loop-error.invariant in
-    omega (arith, i.few-updates, i.inside, small)
-
-pub overflow_add-t-in-Update : goal.overflow_add-t-in-Update
-overflow_add-t-in-Update c =
-    let src : Source =
-    source c.args.packed c.args.bytes.now c.args.ints.now in
-    let small : size (src) < 2 ^ 63 =
-    size_below c.args.packed c.args.bytes.now c.args.ints.now (2 ^ 63) (omega arith) (omega arith) in
-    let told : let s = c in
-    let v = c in
-    Updates (src) s.args.sizes.now c.loop-error.here
-    (update.Update c.in-Update.key c.in-Update.size c.in-Update.data c.in-Update.next c.in-Update.overlong) =
-    rw c.in-Update.is at c.read_update.ensures in
-    let m = update-sums _ _ _ c.loop-error.invariant (told) in
+pub overflow_add-t-in-Ok : goal.overflow_add-t-in-Ok
+overflow_add-t-in-Ok c =
+    let a = c.args in
+    let small : size (source a.packed a.bytes.now a.ints.now) < 2 ^ 63 = size_below a.packed a.bytes.now a.ints.now (2 ^ 63) (omega arith) (omega arith) in
+    let m = update-sums _ _ _ c.loop-refusal.invariant c.in-Ok.ensures in
     omega (arith, m.1, small)
 
-pub overflow_add-t-in-Update-2 : goal.overflow_add-t-in-Update-2
-overflow_add-t-in-Update-2 c =
-    let src : Source =
-    source c.args.packed c.args.bytes.now c.args.ints.now in
-    let small : size (src) < 2 ^ 63 =
-    size_below c.args.packed c.args.bytes.now c.args.ints.now (2 ^ 63) (omega arith) (omega arith) in
-    let told : let s = c in
-    let v = c in
-    Updates (src) s.args.sizes.now c.loop-error.here
-    (update.Update c.in-Update.key c.in-Update.size c.in-Update.data c.in-Update.next c.in-Update.overlong) =
-    rw c.in-Update.is at c.read_update.ensures in
-    let m = update-sums _ _ _ c.loop-error.invariant (told) in
+pub overflow_add-t-in-Ok-2 : goal.overflow_add-t-in-Ok-2
+overflow_add-t-in-Ok-2 c =
+    let a = c.args in
+    let small : size (source a.packed a.bytes.now a.ints.now) < 2 ^ 63 = size_below a.packed a.bytes.now a.ints.now (2 ^ 63) (omega arith) (omega arith) in
+    let m = update-sums _ _ _ c.loop-refusal.invariant c.in-Ok.ensures in
     omega (arith, m.1, small)
 
-pub overflow_add-t-in-Update-3 : goal.overflow_add-t-in-Update-3
-overflow_add-t-in-Update-3 c =
-    let src : Source =
-    source c.args.packed c.args.bytes.now c.args.ints.now in
-    let small : size (src) < 2 ^ 63 =
-    size_below c.args.packed c.args.bytes.now c.args.ints.now (2 ^ 63) (omega arith) (omega arith) in
-    let told : let s = c in
-    let v = c in
-    Updates (src) s.args.sizes.now c.loop-error.here
-    (update.Update c.in-Update.key c.in-Update.size c.in-Update.data c.in-Update.next c.in-Update.overlong) =
-    rw c.in-Update.is at c.read_update.ensures in
-    let m = update-sums _ _ _ c.loop-error.invariant (told) in
+pub overflow_add-t-in-Ok-3 : goal.overflow_add-t-in-Ok-3
+overflow_add-t-in-Ok-3 c =
+    let a = c.args in
+    let small : size (source a.packed a.bytes.now a.ints.now) < 2 ^ 63 = size_below a.packed a.bytes.now a.ints.now (2 ^ 63) (omega arith) (omega arith) in
+    let m = update-sums _ _ _ c.loop-refusal.invariant c.in-Ok.ensures in
     omega (arith, m.0, small)
 
-pub loop-error-smaller : goal.loop-error-smaller
-loop-error-smaller c =
-    let src : Source =
-    source c.args.packed c.args.bytes.now c.args.ints.now in
-    let more : is_end (from (src) c.loop-error.here) ≡ false =
-    sym c.at_end.ensures ∙ not-true _ c.loop-error-test.true-raw in
-    let told : let s = c in
-    let v = c in
-    Updates (src) s.args.sizes.now c.loop-error.here
-    (update.Update c.in-Update.key c.in-Update.size c.in-Update.data c.in-Update.next c.in-Update.overlong) =
-    rw c.in-Update.is at c.read_update.ensures in
-    let u = told in
-    let i = c.loop-error.invariant in
-    let n = turn-judging _ _ _ i (more) u in
-    omega (arith, update-on u, n.inside)
-
-pub loop-error-preserved : goal.loop-error-preserved
-loop-error-preserved c =
-    let src : Source =
-    source c.args.packed c.args.bytes.now c.args.ints.now in
-    let more : is_end (from (src) c.loop-error.here) ≡ false =
-    sym c.at_end.ensures ∙ not-true _ c.loop-error-test.true-raw in
-    let told : let s = c in
-    let v = c in
-    Updates (src) s.args.sizes.now c.loop-error.here
-    (update.Update c.in-Update.key c.in-Update.size c.in-Update.data c.in-Update.next c.in-Update.overlong) =
-    rw c.in-Update.is at c.read_update.ensures in
-    let s = c in
-    let i = c.loop-error.invariant in
-    turn-judging (src) s.args.sizes.now s.args.at i (more)
-    (told)
+pub loop-refusal-preserved : goal.loop-refusal-preserved
+loop-refusal-preserved c =
+    let more = sym c.at_end.ensures ∙ c.loop-refusal-test.true in
+    turn-judging _ c.args.sizes.now c.args.at c.loop-refusal.invariant more c.in-Ok.ensures
 
 pub returns : goal.returns
-returns c =
-    all-judged _ c.args.sizes.now c.args.at c.loop-error.invariant (sym c.at_end.ensures ∙ not-false _ c.loop-error-test.false-raw)
+returns c = all-judged _ c.args.sizes.now c.args.at c.loop-refusal.invariant (sym c.at_end.ensures ∙ c.loop-refusal-test.false)

@@ -1,14 +1,14 @@
 -- `checked::read_number` meets its contract: step by step as the definition. Assumes nothing.
 use Rattle.std.proofs.Common.{SFits}
 use borrow.Author.Rules.{rules}
-use mathlib.Core.Path.{◌≡◌, ap, ◌∙◌}
-use Prim.Native.Nat.{◌≤◌, ◌<◌}
-use native.Mathlib.Omega.{arith}
+use mathlib.Core.Path.{◌≡◌}
+use lib.IntN.{nat_abs}
 use mir.Syntax.{w32}
 use mir.Facts.{to_z-of_z}
+use Rattle.std.specs.Int.{FitsUnsignedBits}
 use Rattle.definitions.specs.Refusals.{unexpected_end}
-use Rattle.definitions.specs.Tables.{num}
 use Rattle.delta_source.proofs.Nexts.{missing-as}
+use Rattle.delta_source.proofs.Reading.{is-count, is-negative}
 use Rattle.delta_source.proofs.Heading.{no_number, negative-number, number_read}
 use Rattle.delta_source.proofs.checked.read_number.Goals as goal
 
@@ -17,22 +17,20 @@ returns-in_default c =
     let e = c.in_default.is in
     no_number _ c.args.at _ (rw e at c.next_int-read.ensures) (missing-as unexpected_end c.missing.ensures e)
 
-pub returns-then-number-ge4294967296 : goal.returns-then-number-ge4294967296
-returns-then-number-ge4294967296 c =
-    let a = c.args in
-    let v = c in
-    let f = (let it : SFits w32 c.in-Int.value = search rules in it).sfits in
-    let e : c.num-number.result ≡ num c.in-Int.value = c.num-number.ensures.0 ∙ ap num (to_z-of_z {w = w32} {z = c.in-Int.value} (record { sfits = f })) in
-    let h : 4294967296 ≤ num c.in-Int.value = omega arith in
+pub returns-in_default-try_from : goal.returns-in_default-try_from
+returns-in_default-try_from c =
+    let x = c.in-Ok.int.value in
+    let f = (let it : SFits w32 x = search rules in it).sfits in
+    let h : FitsUnsignedBits 64 x → ⊥ = rw (to_z-of_z {w = w32} {z = x} (record { sfits = f })) at c.in_default-try_from.ensures in
     rw c.one_if-overlong.ensures
-    (negative-number _ a.at c.in-Int.o (rw c.in-Int.is at c.next_int-read.ensures) f h)
+    (negative-number _ c.args.at (rw c.in-Ok.is at c.next_int-read.ensures) f (is-negative x f h))
 
 pub returns : goal.returns
 returns c =
-    let a = c.args in
-    let v = c in
-    let f = (let it : SFits w32 c.in-Int.value = search rules in it).sfits in
-    let e : c.num-number.result ≡ num c.in-Int.value = c.num-number.ensures.0 ∙ ap num (to_z-of_z {w = w32} {z = c.in-Int.value} (record { sfits = f })) in
-    let h : num c.in-Int.value < 4294967296 = omega arith in
-    rw (e, c.one_if-overlong.ensures)
-    (number_read _ a.at c.in-Int.o (rw c.in-Int.is at c.next_int-read.ensures) h)
+    let x = c.in-Ok.int.value in
+    let f = (let it : SFits w32 x = search rules in it).sfits in
+    let h : FitsUnsignedBits 64 x × (c.in-Ok-try_from.value ≡ nat_abs x) =
+    rw (to_z-of_z {w = w32} {z = x} (record { sfits = f })) at c.in-Ok-try_from.ensures in
+    let k = is-count x f h.0 in
+    rw (h.1, k.0, c.one_if-overlong.ensures)
+    (number_read _ c.args.at (rw c.in-Ok.is at c.next_int-read.ensures) k.1)

@@ -5,26 +5,10 @@ use lib.ListN.{length}
 use Rattle.delta_source.proofs.Skipping.{skip-too-few, skip-part}
 use Rattle.delta_source.proofs.checked.skip_ints.Goals as goal
 
-pub skip_packed-requires : goal.skip_packed-requires
-skip_packed-requires c = rw c.if-packed.true at c.requires
-
-pub returns-then-packed : goal.returns-then-packed
-returns-then-packed c =
-    let a = c.args in
-    rw c.if-packed.true (c.skip_packed.ensures a.ints.now)
-
-pub overflow_sub-ints : goal.overflow_sub-ints
-overflow_sub-ints c = rw c.if-packed.false at c.requires
-
 pub returns-then-ints-at : goal.returns-then-ints-at
 returns-then-ints-at c =
     let a = c.args in
     rw c.if-packed.false (skip-too-few a.bytes.now a.ints.now a.at a.n a.error c.if-ints-at.true)
-
-pub overflow_add-result : goal.overflow_add-result
-overflow_add-result c =
-    let h : c.args.at ≤ length c.args.ints.now = rw c.if-packed.false at c.requires in
-    omega arith
 
 pub returns : goal.returns
 returns c =

@@ -1,5 +1,5 @@
 -- `checked::sizes_match` meets its contract. The loop's invariant: the answer is that of the updates that are left. Assumes nothing.
-use Prim.Native.Nat.{◌+◌}
+use Prim.Native.Nat.{◌+◌, ◌-◌}
 use mathlib.Core.Path.{◌≡◌}
 use mathlib.Core.List.{[]}
 use Rattle.definitions.specs.Deltas.{updates}
@@ -7,9 +7,6 @@ use Rattle.definitions.specs.DeltaCalls.{sizes_match}
 use Rattle.laws.specs.DeltaShape.{Updates}
 use Rattle.delta_writing.proofs.checked.sizes_match.Given as goal
 
-abbrev pub invariant-loop-left : goal.invariant-loop-left
-invariant-loop-left l =
-    Updates [] l.area l.p l.left × (sizes_match l.sizes (updates [] l.area l.p l.left) ≡ sizes_match l.sizes (updates [] l.area (3 + l.deleted) l.updated))
-
-abbrev pub decreases-loop-left : goal.decreases-loop-left
-decreases-loop-left l = l.left
+abbrev pub invariant-loop : goal.invariant-loop
+invariant-loop l =
+    Updates [] l.area l.p (l.updated - l.counter) × (sizes_match l.sizes (updates [] l.area l.p (l.updated - l.counter)) ≡ sizes_match l.sizes (updates [] l.area (3 + l.deleted) l.updated))

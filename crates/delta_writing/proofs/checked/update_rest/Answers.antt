@@ -6,12 +6,7 @@ use Rattle.laws.specs.DeltaShape.{area-end}
 use Rattle.laws.specs.DeltaWriting.{rest-known, rest-unknown}
 use Rattle.delta_form.specs.Forms.{is_known, is-unknown}
 use Rattle.delta_writing.proofs.checked.update_rest.Goals as goal
-use Rattle.delta_writing.proofs.checked.update_rest.Lts as lts
-use Rattle.delta_writing.proofs.checked.update_rest.Tie as tie
-use Rattle.delta_writing.proofs.checked.update_rest.Reads as reads
-
-abbrev After-next_update-end : Type 0
-After-next_update-end = lts.After-next_update tie.the-claims reads.Pre reads.Post
+use Rattle.delta_writing.proofs.checked.update_rest.Goals.{After-next_update-end}
 
 -- the update has at least three ints
 far : (c : After-next_update-end) → c.args.p + 3 ≤ c.next_update-end.result

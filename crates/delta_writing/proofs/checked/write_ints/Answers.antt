@@ -1,6 +1,6 @@
 -- `checked::write_ints` meets its contract: by the room. Assumes nothing.
 use native.Mathlib.Omega.{arith}
-use Rattle.delta_writing.proofs.Whole.{front_length, ints-within, ints-refused, ints-stored}
+use Rattle.delta_writing.proofs.Whole.{ints-within, ints-refused, ints-stored}
 use Rattle.delta_writing.proofs.checked.write_ints.Goals as goal
 
 pub overflow_add-n : goal.overflow_add-n
@@ -12,11 +12,6 @@ pub returns-then-out-n : goal.returns-then-out-n
 returns-then-out-n c =
     let s = c.args in
     ints-refused s.sizes.now s.area.now s.deleted s.updated c.requires _ s.out.now c.updates_len.ensures c.if-out-n.true
-
-pub slice_bounds-copy_into-end : goal.slice_bounds-copy_into-end
-slice_bounds-copy_into-end c =
-    let s = c.args in
-    front_length s.sizes.now s.area.now s.deleted s.updated c.requires
 
 pub returns : goal.returns
 returns c =

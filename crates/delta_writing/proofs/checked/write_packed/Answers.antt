@@ -1,12 +1,7 @@
 -- `checked::write_packed` meets its contract: by the room. Assumes nothing.
 use native.Mathlib.Omega.{arith}
-use Rattle.delta_writing.proofs.Whole.{front_length, bytes-within, bytes-refused, front-room, updates-room, bytes-stored}
+use Rattle.delta_writing.proofs.Whole.{bytes-within, bytes-refused, bytes-stored}
 use Rattle.delta_writing.proofs.checked.write_packed.Goals as goal
-
-pub slice_bounds-packed_len-end : goal.slice_bounds-packed_len-end
-slice_bounds-packed_len-end c =
-    let s = c.args in
-    front_length s.sizes.now s.area.now s.deleted s.updated c.requires
 
 pub overflow_add-bytes : goal.overflow_add-bytes
 overflow_add-bytes c =
@@ -17,24 +12,6 @@ pub returns-then-out-bytes : goal.returns-then-out-bytes
 returns-then-out-bytes c =
     let s = c.args in
     bytes-refused s.sizes.now s.area.now s.deleted s.updated c.requires _ _ s.out.now c.packed_len.ensures c.updates_packed_len.ensures c.if-out-bytes.true
-
-pub slice_bounds-pack_at-end : goal.slice_bounds-pack_at-end
-slice_bounds-pack_at-end c =
-    let s = c.args in
-    front_length s.sizes.now s.area.now s.deleted s.updated c.requires
-
-pub pack_at-at-requires : goal.pack_at-at-requires
-pack_at-at-requires c =
-    let s = c.args in
-    front-room s.sizes.now s.area.now s.deleted s.updated c.requires _ _ s.out.now c.packed_len.ensures c.updates_packed_len.ensures c.if-out-bytes.false
-
-pub pack_updates-requires : goal.pack_updates-requires
-pack_updates-requires c =
-    let s = c.args in
-    let e = c.pack_at-at.ensures in (
-      c.requires.updates,
-      updates-room s.sizes.now s.area.now s.deleted s.updated c.requires _ _ s.out.now c.packed_len.ensures c.updates_packed_len.ensures c.if-out-bytes.false _ _ e.0 e.1,
-    )
 
 pub returns : goal.returns
 returns c =

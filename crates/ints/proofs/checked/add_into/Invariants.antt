@@ -8,7 +8,7 @@ use Rattle.ints.proofs.checked.add_into.Given as goal
 
 abbrev pub invariant-loop-i : goal.invariant-loop-i
 invariant-loop-i l =
-    (l.i ≤ length l.a) × (length l.out ≡ length l.initial.out) × (lay_at (l.at + l.i) (drop l.i (zip_with wrapping_add l.a l.b)) l.out ≡ lay_at l.at (zip_with wrapping_add l.a l.b) l.initial.out)
+    (l.i ≤ length l.a) × (lay_at (l.at + l.i) (drop l.i (zip_with wrapping_add l.a l.b)) l.out ≡ lay_at l.at (zip_with wrapping_add l.a l.b) l.initial.out)
 
 abbrev pub decreases-loop-i : goal.decreases-loop-i
 decreases-loop-i l = length l.a - l.i

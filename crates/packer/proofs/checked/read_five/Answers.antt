@@ -6,9 +6,6 @@ use Rattle.packer.proofs.Steps.{read_one, read_more}
 use Rattle.std.proofs.Common.{w32}
 use Rattle.packer.proofs.checked.read_five.Goals as goal
 
-pub overflow_cast-b : goal.overflow_cast-b
-overflow_cast-b c = omega (arith, c.shared_slice_known-2-1.given c.args.at)
-
 pub returns-then-b-lt128 : goal.returns-then-b-lt128
 returns-then-b-lt128 c =
     let a = c.args in

@@ -7,9 +7,6 @@ use Rattle.packer.specs.Answers.{int_read}
 use Rattle.packer.proofs.Steps.{two, three, four, from_second, from-third, from-fourth, more-last, second, third, fourth, last}
 use Rattle.packer.proofs.checked.read_four.Goals as goal
 
-pub overflow_cast-b1 : goal.overflow_cast-b1
-overflow_cast-b1 c = omega (arith, c.shared_slice_known-2-1.given c.args.start)
-
 pub returns-then-b1-lt128 : goal.returns-then-b1-lt128
 returns-then-b1-lt128 c =
     let a = c.args in
@@ -17,9 +14,6 @@ returns-then-b1-lt128 c =
     let pre = c.requires in
     more-last src a.start a.first a.sign (omega arith) second (omega arith) (inl c.if-b1-lt128.true)
     ∙ sym (ap int_read c.last_byte.ensures)
-
-pub overflow_cast-b2 : goal.overflow_cast-b2
-overflow_cast-b2 c = omega (arith, c.shared_slice_known-3-1.given (c.args.start + 1))
 
 pub returns-then-b2-lt128 : goal.returns-then-b2-lt128
 returns-then-b2-lt128 c =
@@ -30,9 +24,6 @@ returns-then-b2-lt128 c =
     ∙ more-last src (a.start + 1) (two src a.start a.first) a.sign (omega arith) third (omega arith) (inl c.if-b2-lt128.true)
     ∙ sym (ap int_read c.last_byte-then-b2-lt128.ensures)
 
-pub overflow_cast-b3 : goal.overflow_cast-b3
-overflow_cast-b3 c = omega (arith, c.shared_slice_known-4-1.given (c.args.start + 1 + 1))
-
 pub returns-then-b3-lt128 : goal.returns-then-b3-lt128
 returns-then-b3-lt128 c =
     let a = c.args in
@@ -41,15 +32,6 @@ returns-then-b3-lt128 c =
     from-third src a.start a.first a.sign pre.0 c.if-b1-lt128.false c.if-b2-lt128.false
     ∙ more-last src (a.start + 1 + 1) (three src a.start a.first) a.sign (omega arith) fourth (omega arith) (inl c.if-b3-lt128.true)
     ∙ sym (ap int_read c.last_byte-then-b3-lt128.ensures)
-
-pub overflow_cast-b4 : goal.overflow_cast-b4
-overflow_cast-b4 c = omega (arith, c.shared_slice_known-5-1.given (c.args.start + 1 + 1 + 1))
-
-pub overflow_mul-b4 : goal.overflow_mul-b4
-overflow_mul-b4 c = omega (arith, c.shared_slice_known-5-1.given (c.args.start + 1 + 1 + 1))
-
-pub overflow_add-d4-2 : goal.overflow_add-d4-2
-overflow_add-d4-2 c = omega (arith, c.shared_slice_known-5-1.given (c.args.start + 1 + 1 + 1))
 
 pub returns : goal.returns
 returns c =

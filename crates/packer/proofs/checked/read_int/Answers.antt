@@ -1,6 +1,5 @@
 -- `packer::checked::read_int` meets its contract: the first step of the definition. Assumes nothing.
 use mathlib.Core.Path.{◌∙◌}
-use native.Mathlib.Omega.{arith}
 use mir.Facts.{to_z-of_z}
 use Rattle.packer.proofs.Steps.{read-end, read_one, read_more}
 use Rattle.std.proofs.Common.{w32}
@@ -8,9 +7,6 @@ use Rattle.packer.proofs.checked.read_int.Goals as goal
 
 pub returns-then-src-at : goal.returns-then-src-at
 returns-then-src-at c = let a = c.args in read-end a.src.now a.at c.if-src-at.true
-
-pub overflow_cast-b : goal.overflow_cast-b
-overflow_cast-b c = omega (arith, c.shared_slice_known-2-1.given c.args.at)
 
 pub returns-then-b-lt128 : goal.returns-then-b-lt128
 returns-then-b-lt128 c =

@@ -22,7 +22,9 @@ module _ (c : Then-is_last) where
   final = get_or c.args.src.now c.loop-at.at 0
 
   weight-fits : final * c.loop-at.weight < 2 ^ 35
-  weight-fits = heavy c.loop-at.invariant.weighs (omega (arith, c.shared_slice_known-in-loop-at-1.given c.loop-at.at))
+  weight-fits =
+      let small : final < 256 = search rules in
+      heavy c.loop-at.invariant.weighs small
 
 -- a byte that another one follows
 module _ (c : Else-is_last) where
@@ -44,9 +46,6 @@ module _ (c : Else-is_last) where
 pub loop-at-init : goal.loop-at-init
 loop-at-init c = record { left = 3; weighs = second; few = search rules; same = refl }
 
-pub overflow_cast-b : goal.overflow_cast-b
-overflow_cast-b c = omega (arith, c.shared_slice_known-in-loop-at-1.given c.loop-at.at)
-
 pub overflow_mul-b : goal.overflow_mul-b
 overflow_mul-b c = omega (arith, weight-fits c.before)
 
@@ -61,15 +60,6 @@ returns-then-is_last c =
     ∙ more-last a.src.now l.at l.digits a.sign c.loop-at-test.true l.invariant.weighs l.invariant.few
     (is_last (final c.before.before) l.weight (sym c.is_last.ensures ∙ c.if-is_last.true))
     ∙ sym (ap int_read c.last_byte.ensures)
-
-pub overflow_mul-digits : goal.overflow_mul-digits
-overflow_mul-digits c = omega (arith, digit-fits c.before, weight-small c.before)
-
-pub overflow_add-digits-in-loop-at : goal.overflow_add-digits-in-loop-at
-overflow_add-digits-in-loop-at c = omega (arith, digit-fits c.before, weight-small c.before, c.loop-at.invariant.few)
-
-pub overflow_mul-weight : goal.overflow_mul-weight
-overflow_mul-weight c = omega (arith, weight-small c.before)
 
 pub loop-at-smaller : goal.loop-at-smaller
 loop-at-smaller c = omega (arith, c.loop-at-test.true)

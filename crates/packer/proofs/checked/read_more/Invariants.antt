@@ -1,11 +1,6 @@
 -- `packer::checked::read_more` meets its contract. The loop's invariant: what is left to read comes to the same as all of it. Assumes nothing.
-use Prim.Native.Nat.{◌-◌}
-use lib.ListN.{length}
 use Rattle.packer.proofs.Steps.{Reading}
 use Rattle.packer.proofs.checked.read_more.Given as goal
 
 abbrev pub invariant-loop-at : goal.invariant-loop-at
 invariant-loop-at l = Reading l.src l.start l.first l.sign l.at l.digits l.weight
-
-abbrev pub decreases-loop-at : goal.decreases-loop-at
-decreases-loop-at l = length l.src - l.at

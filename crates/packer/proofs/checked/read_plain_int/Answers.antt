@@ -2,7 +2,7 @@
 use mir.Facts.{to_z-of_z}
 use native.Mathlib.Omega.{arith}
 use Rattle.laws.specs.ReaderLaws.{int-end, int-found}
-use Rattle.std.proofs.Common.{w32}
+use Rattle.std.proofs.Common.{SFits, get_or, pos, w32, rules}
 use Rattle.packer.proofs.checked.read_plain_int.Goals as goal
 
 pub returns-then-src-at : goal.returns-then-src-at
@@ -11,4 +11,5 @@ returns-then-src-at c = let a = c.args in int-end a.src.now a.at c.if-src-at.tru
 pub returns : goal.returns
 returns c =
     let a = c.args in
-    rw (to_z-of_z {w = w32} (record { sfits = c.result-1.given })) (int-found a.src.now a.at (omega arith))
+    let fits : SFits w32 (get_or a.src.now a.at (pos 0)) = search rules in
+    rw (to_z-of_z {w = w32} fits) (int-found a.src.now a.at (omega arith))

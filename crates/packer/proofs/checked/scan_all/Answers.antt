@@ -6,6 +6,8 @@ use lib.IntN.{ℤ}
 use lib.ListN.{length, drop}
 use mir.Syntax.{w32}
 use mir.Facts.{to_z-of_z}
+use mir.Val.{SFits}
+use borrow.Author.Rules.{rules}
 use Rattle.definitions.specs.Warnings.{none}
 use Rattle.definitions.specs.Packed.{warned}
 use Rattle.definitions.specs.Stream.{stream, ints}
@@ -25,7 +27,7 @@ abbrev After-out-1 : Type 0
 After-out-1 = lts.After-out tie.the-claims reads.Pre reads.Post goal.the-invariant-loop-at goal.the-decreases-loop-at
 
 pub loop-at-init : goal.loop-at-init
-loop-at-init c = rw c.nothing-t.ensures (start c.args.src.now c.args.out.now)
+loop-at-init c = start c.args.src.now c.args.out.now _ c.default-t.ensures
 
 pub shape_of-out-in_default : goal.shape_of-out-in_default
 shape_of-out-in_default c = c.loop-at.invariant.same
@@ -35,28 +37,28 @@ returns-in_default c =
     let l = c.loop-at in
     let src = c.args.src.now in
     let n = number c.in_default.field-0 in
-    let i : l.at < length src = omega (arith, c.loop-at-test.true, c.places_of_five-limit.ensures) in
+    let i : l.at < length src = omega (arith, c.loop-at-test.true, c.saturating_sub-limit.ensures) in
     let refused = c.read_five-read.ensures ∙ ap int_read c.in_default.is in
     rw (c.stopped.ensures, c.in_default.is) (at-refusal n l.invariant (ended src l.at n none i refused))
 
 pub loop-at-smaller : goal.loop-at-smaller
 loop-at-smaller c =
-    let i = c.in-Int in
+    let i = c.in-Ok.int in
     -- the integer that was read
-    let g = found c.args.src.now c.loop-at.at i.value i.next (warned i.overlong) (c.read_five-read.ensures ∙ ap int_read i.is) in
+    let g = found c.args.src.now c.loop-at.at i.value i.next (warned i.overlong) (c.read_five-read.ensures ∙ ap int_read c.in-Ok.is) in
     omega (arith, g.on, g.inside)
 
 pub loop-at-preserved : goal.loop-at-preserved
 loop-at-preserved c =
-    let i = c.in-Int in
+    let i = c.in-Ok.int in
     let l = c.loop-at in
     -- the integer that was read
-    let g = found c.args.src.now l.at i.value i.next (warned i.overlong) (c.read_five-read.ensures ∙ ap int_read i.is) in
-    let typed = rw i.is at c.read_five-read.type_inv in
+    let g = found c.args.src.now l.at i.value i.next (warned i.overlong) (c.read_five-read.ensures ∙ ap int_read c.in-Ok.is) in
+    let fits : SFits w32 i.value = search rules in
     -- there is room for an int
     let room : l.t.count < length l.out =
-    omega (arith, l.invariant.few, l.invariant.same, c.requires, c.loop-at-test.true, c.places_of_five-limit.ensures) in
-    rw (c.one_if.ensures, to_z-of_z {w = w32} {z = i.value} (record { sfits = typed.1.1.1.1.0.1 })) (turn-set i.overlong l.invariant room g)
+    omega (arith, l.invariant.few, l.invariant.same, c.requires, c.loop-at-test.true, c.saturating_sub-limit.ensures) in
+    rw (c.one_if.ensures, to_z-of_z {w = w32} fits) (turn-set i.overlong l.invariant room g)
 
 -- what the pass over the last bytes told
 module _ (c : After-out-1) where

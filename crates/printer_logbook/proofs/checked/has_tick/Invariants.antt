@@ -1,12 +1,9 @@
--- `checked::has_tick` meets its contract, one more tick at each turn. Assumes nothing.
+-- `checked::has_tick` meets its contract: none of the ticks so far is the one. Assumes nothing.
 use mathlib.Core.Path.{◌≡◌}
-use Prim.Native.Nat.{◌-◌, ◌≤◌}
+use mathlib.Core.Bool.{false}
 use Rattle.definitions.specs.Logbook.{has_tick}
 use Rattle.printer_logbook.specs.States.{ticks_in}
 use Rattle.printer_logbook.proofs.checked.has_tick.Given as goal
 
-abbrev pub invariant-loop-i : goal.invariant-loop-i
-invariant-loop-i l = (l.i ≤ l.n) × (l.found ≡ has_tick l.tick.0 (ticks_in l.i l.held))
-
-abbrev pub decreases-loop-i : goal.decreases-loop-i
-decreases-loop-i l = l.n - l.i
+abbrev pub invariant-loop-x : goal.invariant-loop-x
+invariant-loop-x l = false ≡ has_tick l.tick.0 (ticks_in l.x-index l.held)

@@ -1,11 +1,7 @@
 -- `checked::not_below` meets its contract: a turn drops a tick below another. Assumes nothing.
-use Prim.Native.Nat.{◌-◌, ◌≤◌}
 use Rattle.definitions.specs.Logbook.{not_below}
 use Rattle.printer_logbook.proofs.Lists.{Keeps}
 use Rattle.printer_logbook.proofs.checked.not_below.Given as goal
 
 abbrev pub invariant-loop-i : goal.invariant-loop-i
-invariant-loop-i l = (l.i ≤ l.n) × Keeps (not_below l.tick.0) l.initial.held l.held l.kept l.i
-
-abbrev pub decreases-loop-i : goal.decreases-loop-i
-decreases-loop-i l = l.n - l.i
+invariant-loop-i l = Keeps (not_below l.tick.0) l.initial.held l.held l.kept l.i

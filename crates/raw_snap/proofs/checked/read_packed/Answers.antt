@@ -1,35 +1,13 @@
 -- `checked::read_packed` meets its contract: by what was unpacked. Assumes nothing.
-use mathlib.Core.Path.{sym}
 use lib.ListN.{length}
-use lib.Seq.{length-take-le}
-use Rattle.raw_snap.specs.Unpacking.{Unpacks}
 use Rattle.raw_snap.proofs.Unpacking.{refused-raw, read-raw}
 use Rattle.raw_snap.proofs.checked.read_packed.Goals as goal
 
-pub slice_bounds-read_table-end : goal.slice_bounds-read_table-end
-slice_bounds-read_table-end c =
-    let unpacks : let a = c.args in Unpacks a.src.now (length a.scratch.now) c.unpack-unpacked.new.scratch c.in-Ints.all =
-    rw c.in-Ints.is at c.unpack-unpacked.ensures in
-    (unpacks).within
+pub returns-in-Err : goal.returns-in-Err
+returns-in-Err c = let a = c.args in refused-raw a.src.now (length a.scratch.now) a.out.now c.in-Err.ensures
 
-pub slice_bounds-read_table-end-in-Ints : goal.slice_bounds-read_table-end-in-Ints
-slice_bounds-read_table-end-in-Ints c =
-    let unpacks : let a = c.args in Unpacks a.src.now (length a.scratch.now) c.unpack-unpacked.new.scratch c.in-Ints.all =
-    rw c.in-Ints.is at c.unpack-unpacked.ensures in
-    sym (length-take-le _ _ (unpacks).within)
-
-pub returns-in-Refused : goal.returns-in-Refused
-returns-in-Refused c =
+pub returns-in-Ok : goal.returns-in-Ok
+returns-in-Ok c =
     let a = c.args in
-    let u = rw c.in-Refused.is at c.unpack-unpacked.ensures in
-    refused-raw a.src.now (length a.scratch.now) a.out.now u
-
-pub returns-in-Ints : goal.returns-in-Ints
-returns-in-Ints c =
-    let unpacks : let a = c.args in Unpacks a.src.now (length a.scratch.now) c.unpack-unpacked.new.scratch c.in-Ints.all =
-    rw c.in-Ints.is at c.unpack-unpacked.ensures in
-    let k = c in
-    let a = k.args in
-    let t = k.in-Ints.all in
     let r = c.read_table-read in
-    read-raw a.src.now (length a.scratch.now) a.out.now _ t _ r.result.answer r.result.excess _ (unpacks) r.ensures c.packed_warnings.ensures
+    read-raw a.src.now (length a.scratch.now) a.out.now _ c.in-Ok.all _ r.result.answer r.result.excess _ c.in-Ok.ensures r.ensures c.packed_warnings.ensures

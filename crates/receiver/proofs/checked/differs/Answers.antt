@@ -1,7 +1,10 @@
 -- `checked::differs` meets its contract: number by number. Assumes nothing.
-use mathlib.Core.Path.{◌≡◌, sym, ◌∙◌}
+use mathlib.Core.Path.{◌≡◌, refl, sym, ap, ◌∙◌}
+use mathlib.Core.Bool.{not}
+use Rattle.std.proofs.Common.{SFits, rules}
+use Rattle.ints.specs.Same.{equal-same}
+use Rattle.definitions.specs.Ints.{bits}
 use mir.Syntax.{w32}
-use mir.Val.{of_z, to_z}
 use mir.Facts.{to_z-of_z}
 use borrow.Author.Tests.{eqb-false, not-true, not-false}
 use Rattle.definitions.specs.Messages.{base_tick}
@@ -16,18 +19,19 @@ use Rattle.receiver.proofs.checked.differs.Lts as lts
 use Rattle.receiver.proofs.checked.differs.Tie as tie
 use Rattle.receiver.proofs.checked.differs.Reads as reads
 
-abbrev After-is_same : Type 0
-After-is_same = lts.After-is_same tie.the-claims reads.Pre reads.Post
+abbrev After-ne : Type 0
+After-ne = lts.After-ne tie.the-claims reads.Pre reads.Post
 
 abbrev After-num : Type 0
 After-num = lts.After-num tie.the-claims reads.Pre reads.Post
 
-abbrev After-same : Type 0
-After-same = lts.After-same tie.the-claims reads.Pre reads.Post
-
--- whether the base is the first part's
-near : (c : After-is_same) → let a = c.args in c.is_same.result ≡ Receiver.same (base_tick a.m.tick.0 (distance_of a.m.delta_tick)) a.o.delta_tick.0
-near c = rw (c.is_same.ensures, c.minus-base.ensures)
+-- whether the base is another than the first part's
+near : (c : After-ne) → let a = c.args in c.ne.result ≡ not (Receiver.same (base_tick a.m.tick.0 (distance_of a.m.delta_tick)) a.o.delta_tick.0)
+near c =
+    let f : SFits w32 c.minus-base.result.0 = search rules in
+    let g : SFits w32 c.args.o.delta_tick.0 = search rules in
+    let e : c.ne.result ≡ not (Receiver.same c.minus-base.result.0 c.args.o.delta_tick.0) = c.ne.ensures ∙ ap not (equal-same f g) in
+    rw c.minus-base.ensures at e
 
 -- the part count
 count : (c : After-num) → c.num.result ≡ num c.args.m.num_parts
@@ -35,17 +39,10 @@ count c =
     let m = c.args.m in
     rw (to_z-of_z {w = w32} {z = m.num_parts} (record { sfits = c.struct_told-1.given.1.1.0.1 })) at c.num.ensures.0
 
--- whether the sum is the first part's
-sum : (c : After-same) → let a = c.args in c.same.result ≡ Receiver.same a.m.crc a.o.crc
-sum c =
+pub returns-then-ne : goal.returns-then-ne
+returns-then-ne c =
     let a = c.args in
-    let s : c.same.result ≡ Receiver.same (to_z w32 (of_z w32 a.m.crc)) (to_z w32 (of_z w32 a.o.crc)) = c.same.ensures in
-    rw (to_z-of_z {w = w32} {z = a.m.crc} (record { sfits = c.struct_told-2-1.given.1.1.1.1.0.1 }), to_z-of_z {w = w32} {z = a.o.crc} (record { sfits = c.struct_told-3-1.given.1.1.1.0.1 })) at s
-
-pub returns-then-not-is_same : goal.returns-then-not-is_same
-returns-then-not-is_same c =
-    let a = c.args in
-    sym (other-base (current_in a.o) (part_of a.m) (eqb-false _ _ (sym (near c.before) ∙ not-true _ c.if-not-is_same.true-raw)))
+    sym (other-base (current_in a.o) (part_of a.m) (eqb-false _ _ (not-true _ (sym (near c.before) ∙ c.if-ne.true))))
 
 pub returns-then-num-k : goal.returns-then-num-k
 returns-then-num-k c =
@@ -53,6 +50,7 @@ returns-then-num-k c =
     sym (other-count (current_in a.o) (part_of a.m) (λ q. c.if-num-k.true (count c.before ∙ q)))
 
 pub returns : goal.returns
+unfolding bits
 returns c =
     let a = c.args in
-    by-sum (current_in a.o) (part_of a.m) _ (sym (near c.before.before.before.before.before.before.before.before) ∙ not-false _ c.if-not-is_same.false-raw) (sym (count c.before.before.before.before) ∙ c.if-num-k.false) (sum c)
+    by-sum (current_in a.o) (part_of a.m) _ (not-false _ (sym (near c.before.before.before.before.before.before.before) ∙ c.if-ne.false)) (sym (count c.before.before.before.before) ∙ c.if-num-k.false) refl

@@ -1,5 +1,5 @@
 -- `checked::put_bytes` meets its contract: the block begins with the bytes. Assumes nothing.
-use mathlib.Core.Path.{◌≡◌, sym, ap, ◌∙◌}
+use mathlib.Core.Path.{◌≡◌, ap, ◌∙◌}
 use mathlib.Core.List.{List}
 use Prim.Native.Nat.{ℕ}
 use lib.ListN.{length, take}
@@ -16,12 +16,6 @@ After-block-2-1 = lts.After-block2 tie.the-claims reads.Pre reads.Post
 -- what the block begins with
 block : (c : After-block-2-1) → let s = c.before.before.before.before.before in take (length s.args.xs.now) c.copy_bytes.new.out ≡ s.args.xs.now
 block c = let s = c in through _ _ s.args.xs.now s.requires.0 c.copy_bytes.ensures
-
-pub slice_bounds-copy_bytes-end-2 : goal.slice_bounds-copy_bytes-end-2
-slice_bounds-copy_bytes-end-2 c = sym (ap length (block c.before.before.before))
-
-pub copy_bytes-requires-2 : goal.copy_bytes-requires-2
-copy_bytes-requires-2 c = rw (block c.before.before.before) c.requires.1
 
 pub returns : goal.returns
 returns c =

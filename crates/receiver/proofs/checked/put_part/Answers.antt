@@ -1,5 +1,4 @@
 -- `checked::put_part` meets its contract: by how many parts are in. Assumes nothing.
-use borrow.Author.Rules.{rules}
 use mir.Syntax.{w32}
 use mir.Facts.{to_z-of_z}
 use Rattle.definitions.specs.Receiver.{no_parts}
@@ -11,9 +10,6 @@ returns-then-n-k c =
     let s = c in
     let a = s.args in
     waiting a.previous_tick a.o a.warnings a.n a.lengths.now a.parts.now a.joined.now s.requires.0 c.if-n-k.true
-
-pub join-len-requires : goal.join-len-requires
-join-len-requires c = (c.join-arg-2-1.given, search rules, search rules)
 
 pub returns : goal.returns
 returns c =

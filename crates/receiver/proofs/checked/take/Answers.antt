@@ -3,7 +3,6 @@ use mathlib.Core.Path.{◌≡◌, sym, ap, ◌∙◌}
 use mathlib.Core.Bool.{false}
 use mathlib.Core.List.{List}
 use Prim.Native.Nat.{ℕ}
-use native.Mathlib.Omega.{arith}
 use borrow.Author.Rules.{rules}
 use Rattle.definitions.specs.Receiver as Receiver
 use Rattle.format.specs.Totals.{counts}
@@ -23,25 +22,10 @@ After-received-w = lts.After-received tie.the-claims reads.Pre reads.Post tie.ha
 told : (c : After-received-w) → counts c.received-w.result ≡ flagged false (Receiver.differs (current_in c.opened-o.result) (part_of c.args.m))
 told c = c.received-w.ensures ∙ ap (flagged false) c.differs.ensures
 
-pub opened-o-requires : goal.opened-o-requires
-opened-o-requires c = c.requires.num_parts_bound.0
-
-pub is_in-requires : goal.is_in-requires
-is_in-requires c = (c.requires.num_parts_bound.1, c.is_in-arg-2-1.given)
-
 pub returns-then-is_in : goal.returns-then-is_in
 returns-then-is_in c =
     let a = c.args in
     twice a.r a.m a.p a.lengths.now a.«data».now a.parts.now a.joined.now _ (c.is_current-current.ensures a.lengths.now) c.opened-o.result c.received-w.result c.opened-o.ensures (told c.before.before.before.before.before) (sym c.is_in.ensures ∙ c.if-is_in.true)
-
-pub put_length-requires : goal.put_length-requires
-put_length-requires c = (c.requires.num_parts_bound.1, c.requires.num_parts_bound.2)
-
-pub put_bytes-requires : goal.put_bytes-requires
-put_bytes-requires c = let p = c.requires.num_parts_bound in (omega (arith, p.2), omega (arith, p.1, p.2, p.3))
-
-pub count_with-n-requires : goal.count_with-n-requires
-count_with-n-requires c = c.requires.n_value.1
 
 pub put_part-requires : goal.put_part-requires
 put_part-requires c =

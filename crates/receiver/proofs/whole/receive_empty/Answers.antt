@@ -28,9 +28,6 @@ told : (c : After-received-warnings) → let a = c.args in counts c.received-war
 told c =
     rw (c.is_current-duplicate.ensures c.args.lengths.now) at c.received-warnings.ensures
 
-pub count_in-n-requires : goal.count_in-n-requires
-count_in-n-requires c = c.count_in-arg-2-1.given
-
 pub returns-then-not-ticks_form : goal.returns-then-not-ticks_form
 returns-then-not-ticks_form c area second =
     let a = c.args in

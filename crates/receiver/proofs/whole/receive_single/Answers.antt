@@ -1,7 +1,6 @@
 -- `whole::receive_single` meets its contract: refusal by refusal. Assumes nothing.
 use mathlib.Core.Path.{◌≡◌, sym, ◌∙◌}
 use mathlib.Core.Bool.{true, false}
-use native.Mathlib.Omega.{arith}
 use borrow.Author.Tests.{not-true, not-false}
 use mir.Facts.{to_z-of_z}
 use Rattle.definitions.specs.Receiver.{no_parts, receiver_form, is_current}
@@ -31,9 +30,6 @@ told : (c : After-received-warnings) → let a = c.args in counts c.received-war
 told c =
     rw (c.is_current.ensures c.args.lengths.now) at c.received-warnings.ensures
 
-pub count_in-n-requires : goal.count_in-n-requires
-count_in-n-requires c = c.count_in-arg-2-1.given
-
 pub returns-then-not-ticks_form : goal.returns-then-not-ticks_form
 returns-then-not-ticks_form c area =
     let a = c.args in
@@ -57,10 +53,6 @@ returns-then-is_old c area =
     let a = c.args in
     single-20 (receiver_with a.r a.lengths.now) a.tick.0 (distance_of a.delta_tick) a.crc a.«data».now a.joined.now (formed c.before.before.before.before.before.before) c.if-joined-lt-AREA_SIZE.false c.if-data-gt-PART_SIZE.false (sym (c.is_old.ensures a.lengths.now) ∙ c.if-is_old.true) area
     ∙ c.refused-then-is_old.ensures a.lengths.now area a.joined.now
-
-pub put_bytes-requires : goal.put_bytes-requires
-put_bytes-requires c =
-    (omega (arith, c.if-data-gt-PART_SIZE.false), omega (arith, c.if-data-gt-PART_SIZE.false, c.if-joined-lt-AREA_SIZE.false))
 
 pub returns : goal.returns
 returns c area =

@@ -1,28 +1,14 @@
-use mathlib.Core.Path.{◌≡◌, refl}
-use mathlib.Core.List.{[]}
-use native.Mathlib.Omega.{arith}
-use lib.ListN.{drop, drop_of_length-le}
-use Rattle.rule_text.proofs.Digits.{digit-next, digit_low, digit-high}
-use borrow.Author.Rules.{rules}
+-- `rule_text::arguments::are_digits` meets its contract. Assumes nothing.
+use mathlib.Core.Path.{◌∙◌}
+use borrow.Author.Tests.{tests}
+use Rattle.std.proofs.Common.{rules}
+use Rattle.std.proofs.lemmas.Iterator.{YieldsList-from_slice}
+use Rattle.std.proofs.lemmas.Iterator.Search.{all_from_yields_List}
+use Rattle.std.specs.Char.{is_ascii_digit}
+use Rattle.rule_text.proofs.Digits.{all-digits}
 use Rattle.rule_text.proofs.arguments.are_digits.Goals as goal
-
-pub loop-i-init : goal.loop-i-init
-loop-i-init c = (search rules, refl)
-
-pub returns-then-text-i-lt48 : goal.returns-then-text-i-lt48
-returns-then-text-i-lt48 c = digit_low _ _ c.loop-i-test.true c.loop-i.invariant.1 c.if-text-i-lt48.true
-
-pub returns-then-text-i-gt57 : goal.returns-then-text-i-gt57
-returns-then-text-i-gt57 c = digit-high _ _ c.loop-i-test.true c.loop-i.invariant.1 c.if-text-i-gt57.true
-
-pub loop-i-preserved : goal.loop-i-preserved
-loop-i-preserved c =
-    let inside = c.loop-i-test.true in
-    let same = c.loop-i.invariant.1 in
-    (omega arith, digit-next _ _ inside same c.if-text-i-lt48.false c.if-text-i-gt57.false)
 
 pub returns : goal.returns
 returns c =
-    let l = c.loop-i in
-    let e : drop l.i c.args.text.now ≡ [] = drop_of_length-le c.args.text.now c.loop-i-test.false in
-    rw e at l.invariant.1
+    all_from_yields_List is_ascii_digit _ _ c.all.result c.all.ensures.ran (YieldsList-from_slice c.args.text.now cc) (λ x b q k. search (rules, tests))
+    ∙ all-digits c.args.text.now

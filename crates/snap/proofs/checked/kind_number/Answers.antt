@@ -19,13 +19,7 @@ loop-i-init c =
     to_z w32 (of_z w32 c.args.a) ∷ to_z w32 (of_z w32 c.args.b) ∷ to_z w32 (of_z w32 c.args.c) ∷ to_z w32 (of_z w32 c.args.d) ∷ [] in
     let a = c.args in
     let e : a.n - 0 ≡ a.n = omega arith in
-    (omega arith, rw e (ap (kind_number (kind)) (items-seg a.area.now a.n c.requires))))
-
-pub names_kind-requires : goal.names_kind-requires
-names_kind-requires c = (c.requires, c.loop-i-test.true)
-
-pub key_at-requires : goal.key_at-requires
-key_at-requires c = (c.requires, omega (arith, c.loop-i-test.true))
+    rw e (ap (kind_number kind) (items-seg a.area.now a.n c.requires)))
 
 pub returns-then-names_kind : goal.returns-then-names_kind
 returns-then-names_kind c =
@@ -36,15 +30,9 @@ returns-then-names_kind c =
     let a = c.args in
     let l = c.loop-i in
     same_kind
-    ∙ sym l.invariant.1
+    ∙ sym l.invariant
     ∙ number-here (kind) (item_at a.area.now) a.n l.i c.loop-i-test.true (sym c.names_kind.ensures ∙ c.if-names_kind.true) c.key_to_id.result
     (c.key_to_id.ensures ∙ ap (λ (z : ℤ). bits z % 65536) (to_z-of_z {w = w32} (record { sfits = c.key_at.type_inv })) ∙ ap (λ (k : ℕ). k % 65536) c.key_at.ensures)
-
-pub overflow_add-i : goal.overflow_add-i
-overflow_add-i c = omega arith
-
-pub loop-i-smaller : goal.loop-i-smaller
-loop-i-smaller c = omega arith
 
 pub loop-i-preserved : goal.loop-i-preserved
 loop-i-preserved c =
@@ -52,7 +40,7 @@ loop-i-preserved c =
     to_z w32 (of_z w32 c.args.a) ∷ to_z w32 (of_z w32 c.args.b) ∷ to_z w32 (of_z w32 c.args.c) ∷ to_z w32 (of_z w32 c.args.d) ∷ [] in
     let a = c.args in
     let l = c.loop-i in
-    (omega arith, sym (number-on (kind) (item_at a.area.now) a.n l.i c.loop-i-test.true (sym c.names_kind.ensures ∙ c.if-names_kind.false)) ∙ l.invariant.1))
+    (sym (number-on (kind) (item_at a.area.now) a.n l.i c.loop-i-test.true (sym c.names_kind.ensures ∙ c.if-names_kind.false)) ∙ l.invariant))
 
 pub returns : goal.returns
 returns c =
@@ -62,4 +50,4 @@ returns c =
     rw (to_z-of_z {w = w32} c.ranges.a, to_z-of_z {w = w32} c.ranges.b, to_z-of_z {w = w32} c.ranges.c, to_z-of_z {w = w32} c.ranges.d) in
     let a = c.args in
     let l = c.loop-i in
-    same_kind ∙ sym l.invariant.1 ∙ number-none (kind) (item_at a.area.now) a.n l.i c.loop-i-test.false
+    same_kind ∙ sym l.invariant ∙ number-none (kind) (item_at a.area.now) a.n l.i c.loop-i-test.false

@@ -1,26 +1,39 @@
 -- `checked::names` meets its contract: int by int. Assumes nothing.
+use native.Mathlib.Omega.{arith}
+use borrow.Author.Tests.{lt-leb}
+use mathlib.Core.Bool.{false≢true}
+use mathlib.Core.Path.{refl, sym, ◌∙◌}
 use Rattle.definitions.specs.Ints.{bits}
-use Rattle.snap.proofs.Naming.{short-names, not_first, not-second, not_third, by-fourth}
+use Rattle.snap.proofs.Naming.{then-is, by-ints}
 use Rattle.snap.proofs.checked.names.Goals as goal
-
-pub returns-then-data-lt4 : goal.returns-then-data-lt4
-returns-then-data-lt4 c = let a = c.args in short-names a.«data».now a.a a.b a.c a.d c.if-data-lt4.true
-
-pub returns-then-data-a : goal.returns-then-data-a
-unfolding bits
-returns-then-data-a c = let a = c.args in not_first a.«data».now a.a a.b a.c a.d c.if-data-lt4.false c.if-data-a.true
-
-pub returns-then-data-b : goal.returns-then-data-b
-unfolding bits
-returns-then-data-b c =
-    let a = c.args in not-second a.«data».now a.a a.b a.c a.d c.if-data-lt4.false c.if-data-a.false c.if-data-b.true
+use Rattle.snap.proofs.checked.names.Goals.{then-data-ge4, else-data-ge4, then-data-a, else-data-a, then-data-b, else-data-b}
 
 pub returns-then-data-c : goal.returns-then-data-c
 unfolding bits
 returns-then-data-c c =
-    let a = c.args in not_third a.«data».now a.a a.b a.c a.d c.if-data-lt4.false c.if-data-a.false c.if-data-b.false c.if-data-c.true
+    let a = c.args in
+    by-ints a.«data».now a.a a.b a.c a.d c.if-data-ge4.value c.if-data-a.value c.if-data-b.value _
+    (λ l. elim c.if-data-ge4.branch [ then-data-ge4 w ↦ w.value-is | else-data-ge4 w ↦ absurd (omega arith) ])
+    (λ l. elim c.if-data-ge4.branch [ then-data-ge4 w ↦ absurd (omega arith) | else-data-ge4 w ↦ w.value-is ∙ lt-leb 4 _ l ])
+    (then-is _ _ _
+    (λ e. elim c.if-data-a.branch [ then-data-a w ↦ w.value-is | else-data-a w ↦ absurd (false≢true (sym w.if-data-a.false ∙ e)) ])
+    (λ e. elim c.if-data-a.branch [ then-data-a w ↦ absurd (false≢true (sym e ∙ w.if-data-a.true)) | else-data-a w ↦ w.value-is ∙ e ]))
+    (then-is _ _ _
+    (λ e. elim c.if-data-b.branch [ then-data-b w ↦ w.value-is | else-data-b w ↦ absurd (false≢true (sym w.if-data-b.false ∙ e)) ])
+    (λ e. elim c.if-data-b.branch [ then-data-b w ↦ absurd (false≢true (sym e ∙ w.if-data-b.true)) | else-data-b w ↦ w.value-is ∙ e ]))
+    (rw c.if-data-c.true refl)
 
-pub returns : goal.returns
+pub returns-else-data-c : goal.returns-else-data-c
 unfolding bits
-returns c =
-    let a = c.args in by-fourth a.«data».now a.a a.b a.c a.d c.if-data-lt4.false c.if-data-a.false c.if-data-b.false c.if-data-c.false
+returns-else-data-c c =
+    let a = c.args in
+    by-ints a.«data».now a.a a.b a.c a.d c.if-data-ge4.value c.if-data-a.value c.if-data-b.value _
+    (λ l. elim c.if-data-ge4.branch [ then-data-ge4 w ↦ w.value-is | else-data-ge4 w ↦ absurd (omega arith) ])
+    (λ l. elim c.if-data-ge4.branch [ then-data-ge4 w ↦ absurd (omega arith) | else-data-ge4 w ↦ w.value-is ∙ lt-leb 4 _ l ])
+    (then-is _ _ _
+    (λ e. elim c.if-data-a.branch [ then-data-a w ↦ w.value-is | else-data-a w ↦ absurd (false≢true (sym w.if-data-a.false ∙ e)) ])
+    (λ e. elim c.if-data-a.branch [ then-data-a w ↦ absurd (false≢true (sym e ∙ w.if-data-a.true)) | else-data-a w ↦ w.value-is ∙ e ]))
+    (then-is _ _ _
+    (λ e. elim c.if-data-b.branch [ then-data-b w ↦ w.value-is | else-data-b w ↦ absurd (false≢true (sym w.if-data-b.false ∙ e)) ])
+    (λ e. elim c.if-data-b.branch [ then-data-b w ↦ absurd (false≢true (sym e ∙ w.if-data-b.true)) | else-data-b w ↦ w.value-is ∙ e ]))
+    (then-is _ _ _ (λ e. absurd (false≢true (sym c.if-data-c.false ∙ e))) (λ e. e))

@@ -8,11 +8,11 @@ use Rattle.store_area.specs.Stores.{not-held, told, Told}
 use Rattle.storage.specs.States.{store_of}
 use Rattle.table.specs.Forms.{formed, unformed}
 use Rattle.table.specs.Held.{form_of}
-use Rattle.table.specs.declared.checked.TableForm.TheVariants as table_form
 use mathlib.Core.Logic.{inl, inr}
 use mathlib.Core.Option.{some}
 use mathlib.Core.Path.{◌≡◌, sym, ◌∙◌}
 use native.Mathlib.Omega.{arith}
+use Rattle.std.specs.Prelude.{Some}
 use Rattle.storage.proofs.Storage.add_snap.Goals as goal
 
 pub returns-in_default : goal.returns-in_default
@@ -38,11 +38,11 @@ returns-in_default-form c =
 pub returns-then-self-eq-MAX_STORED_SNAPSHOT : goal.returns-then-self-eq-MAX_STORED_SNAPSHOT
 returns-then-self-eq-MAX_STORED_SNAPSHOT c =
     let it =
-    let in-form : let s = c.args in Told (store_of s.self) s.area.now c.in-Tables.ints =
-    told _ _ _ (sym c.in-Tables.is ∙ c.form.ensures) in
+    let in-form : let s = c.args in Told (store_of s.self) s.area.now c.in-Some.ints =
+    told _ _ _ (sym c.in-Some.is ∙ c.form.ensures) in
     let new_told : let t = c.args.table.now in let k = c in
-    table_form.Table c.in-Table.items c.in-Table.size ≡ form_of (table_of t) =
-    sym c.in-Table.is ∙ c.form-2.ensures in
+    Some c.in-Some-form.form ≡ form_of (table_of t) =
+    sym c.in-Some-form.is ∙ c.form-2.ensures in
     let table_is : let t = c.args.table.now in table_of t ≡ some (items t) =
     some_is _ (formed _ _ _ (new_told)).0.shape in
     let d = c in
@@ -57,22 +57,22 @@ returns-then-self-eq-MAX_STORED_SNAPSHOT c =
 
 pub add-requires : goal.add-requires
 add-requires c =
-    let in-form : let s = c.args in Told (store_of s.self) s.area.now c.in-Tables.ints =
-    told _ _ _ (sym c.in-Tables.is ∙ c.form.ensures) in
+    let in-form : let s = c.args in Told (store_of s.self) s.area.now c.in-Some.ints =
+    told _ _ _ (sym c.in-Some.is ∙ c.form.ensures) in
     let new_told : let t = c.args.table.now in let k = c in
-    table_form.Table c.in-Table.items c.in-Table.size ≡ form_of (table_of t) =
-    sym c.in-Table.is ∙ c.form-2.ensures in
+    Some c.in-Some-form.form ≡ form_of (table_of t) =
+    sym c.in-Some-form.is ∙ c.form-2.ensures in
     let t = (in-form).holds in
     (t, omega (arith, t.few), new_told)
 
 pub returns : goal.returns
 returns c =
     let it =
-    let in-form : let s = c.args in Told (store_of s.self) s.area.now c.in-Tables.ints =
-    told _ _ _ (sym c.in-Tables.is ∙ c.form.ensures) in
+    let in-form : let s = c.args in Told (store_of s.self) s.area.now c.in-Some.ints =
+    told _ _ _ (sym c.in-Some.is ∙ c.form.ensures) in
     let new_told : let t = c.args.table.now in let k = c in
-    table_form.Table c.in-Table.items c.in-Table.size ≡ form_of (table_of t) =
-    sym c.in-Table.is ∙ c.form-2.ensures in
+    Some c.in-Some-form.form ≡ form_of (table_of t) =
+    sym c.in-Some-form.is ∙ c.form-2.ensures in
     let table_is : let t = c.args.table.now in table_of t ≡ some (items t) =
     some_is _ (formed _ _ _ (new_told)).0.shape in
     let d = c in

@@ -13,8 +13,8 @@ returns-in_default c =
 
 pub returns-then-is_negative : goal.returns-then-is_negative
 returns-then-is_negative c =
-    let in-form : let s = c.args in Told (store_of s.self) s.area.now c.in-Tables.ints =
-    told _ _ _ (sym c.in-Tables.is ∙ c.form.ensures) in
+    let in-form : let s = c.args in Told (store_of s.self) s.area.now c.in-Some.ints =
+    told _ _ _ (sym c.in-Some.is ∙ c.form.ensures) in
     let s = c in
     let t = in-form in
     let w = c.weird in
@@ -23,14 +23,14 @@ returns-then-is_negative c =
 
 pub set_base-requires : goal.set_base-requires
 set_base-requires c =
-    let in-form : let s = c.args in Told (store_of s.self) s.area.now c.in-Tables.ints =
-    told _ _ _ (sym c.in-Tables.is ∙ c.form.ensures) in
+    let in-form : let s = c.args in Told (store_of s.self) s.area.now c.in-Some.ints =
+    told _ _ _ (sym c.in-Some.is ∙ c.form.ensures) in
     ((in-form).holds, sym c.is_negative.ensures ∙ c.if-is_negative.false)
 
 pub returns : goal.returns
 returns c =
-    let in-form : let s = c.args in Told (store_of s.self) s.area.now c.in-Tables.ints =
-    told _ _ _ (sym c.in-Tables.is ∙ c.form.ensures) in
+    let in-form : let s = c.args in Told (store_of s.self) s.area.now c.in-Some.ints =
+    told _ _ _ (sym c.in-Some.is ∙ c.form.ensures) in
     let s = c in
     let t = in-form in
     set-held (store_of s.args.self) s.args.area.now s.args.tick.0 (holds_in (store_of s.args.self) s.args.area.now) t.is

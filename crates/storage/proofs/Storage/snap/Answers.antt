@@ -13,22 +13,22 @@ returns-in_default c =
 
 pub table_at-requires : goal.table_at-requires
 table_at-requires c =
-    let in-form : let s = c.args in Told (store_of s.self) s.area.now c.in-Tables.field-0 =
-    told _ _ _ (sym c.in-Tables.is ∙ c.form.ensures) in
+    let in-form : let s = c.args in Told (store_of s.self) s.area.now c.in-Some.field-0 =
+    told _ _ _ (sym c.in-Some.is ∙ c.form.ensures) in
     ((in-form).holds.held, omega (arith, c.if-i-self.true))
 
 pub returns-then-i-self : goal.returns-then-i-self
 returns-then-i-self c =
-    let in-form : let s = c.args in Told (store_of s.self) s.area.now c.in-Tables.field-0 =
-    told _ _ _ (sym c.in-Tables.is ∙ c.form.ensures) in
+    let in-form : let s = c.args in Told (store_of s.self) s.area.now c.in-Some.field-0 =
+    told _ _ _ (sym c.in-Some.is ∙ c.form.ensures) in
     let s = c.args in
     let t = in-form in
     c.table_at.ensures ∙ table-there (store_of s.self) s.area.now s.i t.holds.held t.is c.if-i-self.true
 
 pub returns : goal.returns
 returns c =
-    let in-form : let s = c.args in Told (store_of s.self) s.area.now c.in-Tables.field-0 =
-    told _ _ _ (sym c.in-Tables.is ∙ c.form.ensures) in
+    let in-form : let s = c.args in Told (store_of s.self) s.area.now c.in-Some.field-0 =
+    told _ _ _ (sym c.in-Some.is ∙ c.form.ensures) in
     let s = c.args in
     let t = in-form in
     table-past (store_of s.self) s.area.now s.i t.holds.held t.is c.if-i-self.false

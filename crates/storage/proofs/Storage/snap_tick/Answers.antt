@@ -13,22 +13,22 @@ returns-in_default c =
 
 pub tick_at-requires : goal.tick_at-requires
 tick_at-requires c =
-    let in-form : let s = c.args in Told (store_of s.self) s.area.now c.in-Tables.field-0 =
-    told _ _ _ (sym c.in-Tables.is ∙ c.form.ensures) in
+    let in-form : let s = c.args in Told (store_of s.self) s.area.now c.in-Some.field-0 =
+    told _ _ _ (sym c.in-Some.is ∙ c.form.ensures) in
     ((in-form).holds.held, omega (arith, c.if-i-self.true))
 
 pub returns-then-i-self : goal.returns-then-i-self
 returns-then-i-self c =
-    let in-form : let s = c.args in Told (store_of s.self) s.area.now c.in-Tables.field-0 =
-    told _ _ _ (sym c.in-Tables.is ∙ c.form.ensures) in
+    let in-form : let s = c.args in Told (store_of s.self) s.area.now c.in-Some.field-0 =
+    told _ _ _ (sym c.in-Some.is ∙ c.form.ensures) in
     let s = c.args in
     let t = in-form in
     tick-there (store_of s.self) s.area.now s.i t.holds.held t.is c.if-i-self.true ∙ rw c.tick_at.ensures
 
 pub returns : goal.returns
 returns c =
-    let in-form : let s = c.args in Told (store_of s.self) s.area.now c.in-Tables.field-0 =
-    told _ _ _ (sym c.in-Tables.is ∙ c.form.ensures) in
+    let in-form : let s = c.args in Told (store_of s.self) s.area.now c.in-Some.field-0 =
+    told _ _ _ (sym c.in-Some.is ∙ c.form.ensures) in
     let s = c.args in
     let t = in-form in
     tick-past (store_of s.self) s.area.now s.i t.holds.held t.is c.if-i-self.false

@@ -41,9 +41,6 @@ overflow_add-room-2 c = let w = bounds c in omega (arith, w)
 pub make_delta-result-requires : goal.make_delta-result-requires
 make_delta-result-requires c = let s = c in (s.requires.0.held, (formed s.args.table.now _ _ s.requires.2).0)
 
-pub base_tick-base-requires : goal.base_tick-base-requires
-base_tick-base-requires c = c.requires.0.held
-
 pub slice_bounds-finish-end : goal.slice_bounds-finish-end
 slice_bounds-finish-end c = let s = c in form-length s.args.table.now s.requires.2
 

@@ -2,7 +2,6 @@
 use Rattle.definitions.specs.Storage as Store
 use Rattle.storage.proofs.Forms.{chosen-empty, chosen-itself, chosen-oldest}
 use mathlib.Core.Path.{sym, ap, ◌∙◌}
-use native.Mathlib.Omega.{arith}
 use Rattle.storage.proofs.checked.base_tick.Goals as goal
 
 pub returns-in_default : goal.returns-in_default
@@ -18,9 +17,6 @@ returns-then-s-eq0 c t =
     let n = c.in-Some.is in
     let e = chosen-itself x.s (record { tick = x.tick.0; snap = t }) _ x.s.count n s.requires.many c.if-s-eq0.true in
     ap (λ (y : Store.StoredSnap). y.tick) (sym e)
-
-pub tick_at-requires : goal.tick_at-requires
-tick_at-requires c = (c.requires, omega arith)
 
 pub returns : goal.returns
 returns c t =

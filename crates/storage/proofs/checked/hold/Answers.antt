@@ -1,13 +1,12 @@
 -- `checked::hold` meets its contract: by the room that the area has. Assumes nothing.
 use Rattle.definitions.specs.Storage as Store
-use Rattle.laws.specs.StoreForm.{store_room}
 use Rattle.laws.specs.StoreRoom.{room_take}
 use Rattle.storage.proofs.Deltas.{hold-40, hold-done}
 use Rattle.store_area.specs.Held.{snaps_in}
 use Rattle.store_area.specs.Laid.{leaves-more}
 use lib.ListN.{length}
 use mathlib.Core.List.{List}
-use mathlib.Core.Path.{sym, ap, ◌∙◌}
+use mathlib.Core.Path.{ap}
 use native.Mathlib.Omega.{arith}
 use Rattle.storage.proofs.checked.hold.Goals as goal
 use Rattle.storage.proofs.checked.hold.Lts as lts
@@ -33,22 +32,6 @@ returns-then-area-used c t sum e f =
     let u = c.used-used in
     hold-40 s.args.s s.args.area.now s.args.ints s.requires.0 k.result u.result k.ensures.0 u.ensures
     (k.ensures.2 (L c.before.before.before) s.requires.0.held.many) s.args.tick t _ (ap length e) s.args.warnings sum f c.if-area-used.true
-
-pub cut-requires : goal.cut-requires
-cut-requires c =
-    let h = c.requires.0 in
-    (h.held, h.ints-are, c.stay-kept.ensures.0)
-
-pub push-requires : goal.push-requires
-push-requires c =
-    let k = c.cut in
-    let h = k.ensures in
-    let u = c.used-used in (
-      h.held,
-      u.ensures ∙ ap (λ (l : List Store.StoredSnap). store_room l) (sym h.snaps-are),
-      omega (arith, c.if-area-used.false, k.auto.area),
-      c.requires.1,
-    )
 
 pub returns : goal.returns
 returns c t sum e f =

@@ -1,28 +1,22 @@
 -- `checked::is_oldest` meets its contract: by the tick of the last table. Assumes nothing.
-use Prim.Native.Nat.{◌-◌}
-use Rattle.definitions.specs.Receiver.{same}
-use Rattle.storage.proofs.Forms.{no-oldest, oldest-of}
-use Rattle.store_area.specs.Held.{snaps_in, snap_at}
 use mathlib.Core.Path.{◌≡◌, ◌∙◌}
+use borrow.Author.Tests.{eq-eqb}
+use Rattle.std.proofs.Common.{SFits, w32, rules}
+use Rattle.definitions.specs.Receiver.{same}
+use Rattle.ints.specs.Same.{equal-same}
+use Rattle.storage.proofs.Forms.{no-oldest, oldest-of}
+use Rattle.store_area.specs.Held.{snaps_in}
 use Rattle.storage.proofs.checked.is_oldest.Goals as goal
-use Rattle.storage.proofs.checked.is_oldest.Lts as lts
-use Rattle.storage.proofs.checked.is_oldest.Tie as tie
-use Rattle.storage.proofs.checked.is_oldest.Reads as reads
 
-abbrev After-is_same : Type 0
-After-is_same = lts.After-is_same tie.the-claims reads.Pre reads.Post
+pub returns-then-count-ne0 : goal.returns-then-count-ne0
+returns-then-count-ne0 c =
+    let a = c.args in
+    let f : SFits w32 c.tick_at.result.0 = search rules in
+    let g : SFits w32 a.tick.0 = search rules in
+    let e : c.eq.result ≡ same c.tick_at.result.0 a.tick.0 = c.eq.ensures ∙ equal-same f g in
+    (rw c.tick_at.ensures at e) ∙ oldest-of a.tick.0 (snaps_in a.count a.area.now) a.count c.requires.many c.if-count-ne0.true
 
--- the tick of the last table is compared
-compared : (c : After-is_same)
-    → let s = c.args in c.is_same.result ≡ same (snap_at (snaps_in s.count s.area.now) (s.count - 1)).tick s.tick.0
-compared c = rw c.tick_at-oldest.ensures at c.is_same.ensures
-
-pub returns-then-count-eq0 : goal.returns-then-count-eq0
-returns-then-count-eq0 c =
-    let s = c in
-    no-oldest s.args.tick.0 (snaps_in s.args.count s.args.area.now) s.args.count s.requires.many c.if-count-eq0.true
-
-pub returns : goal.returns
-returns c =
-    let s = c in
-    compared c ∙ oldest-of s.args.tick.0 (snaps_in s.args.count s.args.area.now) s.args.count s.requires.many c.if-count-eq0.false
+pub returns-else-count-ne0 : goal.returns-else-count-ne0
+returns-else-count-ne0 c =
+    let a = c.args in
+    rw (eq-eqb a.count 0 c.if-count-ne0.false) (no-oldest a.tick.0 (snaps_in a.count a.area.now) a.count c.requires.many c.if-count-ne0.false)

@@ -55,9 +55,6 @@ returns-then-s-eq0 c =
     λ at. ap (λ (y : Store.StoredSnap). y.snap) (sym (chosen-itself s.args.s (new at) (L) s.args.s.count n s.requires.0.many z)) in
     let t = items s.args.table.now in record { table_value = λ at. (by-base _ _ _ _ _ t m.result (e at) (m.ensures.target_value, m.ensures.result_value)).0; result_value = λ at. (by-base _ _ _ _ _ t m.result (e at) (m.ensures.target_value, m.ensures.result_value)).1 }
 
-pub table_at-base-requires : goal.table_at-base-requires
-table_at-base-requires c = (c.requires.0, omega arith)
-
 pub make-requires-2 : goal.make-requires-2
 make-requires-2 c =
     let L : List Store.StoredSnap =

@@ -27,12 +27,6 @@ Left s = Store.drop_older s.args.tick.0 (L s)
 oldest : (c : After-is_oldest) → let s = c in c.is_oldest.result ≡ Store.is_held (Store.oldest_at s.args.tick.0 (Left c.before.before.before.before))
 oldest c = rw c.drop_older-left.ensures.snaps-are at c.is_oldest.ensures
 
-pub drop_older-left-requires : goal.drop_older-left-requires
-drop_older-left-requires c = (c.requires.0.held, c.requires.0.ints-are)
-
-pub is_oldest-requires : goal.is_oldest-requires
-is_oldest-requires c = c.drop_older-left.ensures.held
-
 pub returns-then-is_oldest : goal.returns-then-is_oldest
 returns-then-is_oldest c =
     let d = c in

@@ -21,8 +21,8 @@ returns-in_default c =
 
 pub returns-in_default-form : goal.returns-in_default-form
 returns-in_default-form c =
-    let in-form : let x = c.args in Told (store_of x.s) x.area.now c.in-Tables.ints =
-    told _ _ _ (sym c.in-Tables.is ∙ c.form.ensures) in
+    let in-form : let x = c.args in Told (store_of x.s) x.area.now c.in-Some.ints =
+    told _ _ _ (sym c.in-Some.is ∙ c.form.ensures) in
     let x = c.args in
     let a = x.area.now in
     delta-47 (store_of x.s) a (sum_of x.m) x.m.delta_tick.0 x.m.tick.0 x.delta.now (length x.scratch.now)
@@ -31,12 +31,12 @@ returns-in_default-form c =
 
 pub returns-then-scratch-lt16384 : goal.returns-then-scratch-lt16384
 returns-then-scratch-lt16384 c =
-    let in-form : let x = c.args in Told (store_of x.s) x.area.now c.in-Tables.ints =
-    told _ _ _ (sym c.in-Tables.is ∙ c.form.ensures) in
+    let in-form : let x = c.args in Told (store_of x.s) x.area.now c.in-Some.ints =
+    told _ _ _ (sym c.in-Some.is ∙ c.form.ensures) in
     let D : List ℤ =
     c.args.delta.now in
-    let held : let k = c in HeldDelta [] (D) c.in-Delta.deleted c.in-Delta.updated =
-    (DeltaForms.formed [] (D) _ _ _ (sym c.in-Delta.is ∙ c.form-2.ensures)).0 in
+    let held : let k = c in HeldDelta [] (D) c.in-Some-form.form.deleted c.in-Some-form.form.updated =
+    (DeltaForms.formed [] (D) _ _ _ (sym c.in-Some-form.is ∙ c.form-2.ensures)).0 in
     let d = c in
     let n = c in
     let x = n.args in
@@ -47,23 +47,23 @@ returns-then-scratch-lt16384 c =
 
 pub take_judged-requires : goal.take_judged-requires
 take_judged-requires c =
-    let in-form : let x = c.args in Told (store_of x.s) x.area.now c.in-Tables.ints =
-    told _ _ _ (sym c.in-Tables.is ∙ c.form.ensures) in
+    let in-form : let x = c.args in Told (store_of x.s) x.area.now c.in-Some.ints =
+    told _ _ _ (sym c.in-Some.is ∙ c.form.ensures) in
     let D : List ℤ =
     c.args.delta.now in
-    let held : let k = c in HeldDelta [] (D) c.in-Delta.deleted c.in-Delta.updated =
-    (DeltaForms.formed [] (D) _ _ _ (sym c.in-Delta.is ∙ c.form-2.ensures)).0 in
+    let held : let k = c in HeldDelta [] (D) c.in-Some-form.form.deleted c.in-Some-form.form.updated =
+    (DeltaForms.formed [] (D) _ _ _ (sym c.in-Some-form.is ∙ c.form-2.ensures)).0 in
     let d = c in
     ((in-form).holds, held, c.if-scratch-lt16384.false)
 
 pub returns : goal.returns
 returns c =
-    let in-form : let x = c.args in Told (store_of x.s) x.area.now c.in-Tables.ints =
-    told _ _ _ (sym c.in-Tables.is ∙ c.form.ensures) in
+    let in-form : let x = c.args in Told (store_of x.s) x.area.now c.in-Some.ints =
+    told _ _ _ (sym c.in-Some.is ∙ c.form.ensures) in
     let D : List ℤ =
     c.args.delta.now in
-    let held : let k = c in HeldDelta [] (D) c.in-Delta.deleted c.in-Delta.updated =
-    (DeltaForms.formed [] (D) _ _ _ (sym c.in-Delta.is ∙ c.form-2.ensures)).0 in
+    let held : let k = c in HeldDelta [] (D) c.in-Some-form.form.deleted c.in-Some-form.form.updated =
+    (DeltaForms.formed [] (D) _ _ _ (sym c.in-Some-form.is ∙ c.form-2.ensures)).0 in
     let d = c in
     let n = c in
     let x = n.args in

@@ -8,9 +8,6 @@ use mathlib.Core.List.{[]}
 use mathlib.Core.Path.{sym, ◌∙◌}
 use Rattle.storage.proofs.checked.take_judged.Goals as goal
 
-pub is_newer-requires : goal.is_newer-requires
-is_newer-requires c = c.requires.0.held
-
 pub returns-then-not-is_newer : goal.returns-then-not-is_newer
 returns-then-not-is_newer c =
     let s = c in
@@ -19,9 +16,6 @@ returns-then-not-is_newer c =
     take-30 (store_of x.s) a (sum_of x.m) x.m.delta_tick.0 x.m.tick.0 (delta_in [] x.delta.now) x.ints s.requires.0
     (sym c.is_newer.ensures ∙ not-true _ c.if-not-is_newer.true-raw)
     ∙ c.not_taken.ensures a
-
-pub take_on-requires : goal.take_on-requires
-take_on-requires c = c.requires
 
 pub returns : goal.returns
 returns c =

@@ -8,12 +8,6 @@ use mathlib.Core.List.{List, []}
 use mathlib.Core.Path.{sym, ◌∙◌}
 use Rattle.storage.proofs.checked.take_on.Goals as goal
 
-pub drop_for-left-requires : goal.drop_for-left-requires
-drop_for-left-requires c = (c.requires.0.held, c.requires.0.ints-are)
-
-pub has_base-requires : goal.has_base-requires
-has_base-requires c = c.drop_for-left.ensures.held
-
 pub returns-then-not-has_base : goal.returns-then-not-has_base
 returns-then-not-has_base c =
     let Base : ℤ =
@@ -28,13 +22,6 @@ returns-then-not-has_base c =
     c.without_ack.result c.none.result (sym b.has_base.ensures ∙ not-true _ c.if-not-has_base.true-raw)
     c.without_ack.ensures c.none.ensures
 
-pub apply_on-made-requires : goal.apply_on-made-requires
-apply_on-made-requires c =
-    let b = c in
-    let d = c in
-    let s = c in
-    (d.drop_for-left.ensures.held, sym b.has_base.ensures ∙ not-false _ c.if-not-has_base.false-raw, s.requires.1, s.requires.2)
-
 pub hold_made-requires : goal.hold_made-requires
 hold_made-requires c =
     let Base : ℤ =
@@ -47,11 +34,6 @@ hold_made-requires c =
     let x = s.args in
     let w = c.with_count in
     (left-holds x.s (A) x.ints s.requires.0 (Base) _ _ _ d.drop_for-left.ensures w.result w.ensures, m.apply_on-made.ensures.stands)
-
-pub shape_of-area : goal.shape_of-area
-shape_of-area c =
-    let m = c in
-    c.hold_made.auto.area ∙ m.drop_for-left.auto.area
 
 pub returns : goal.returns
 returns c =

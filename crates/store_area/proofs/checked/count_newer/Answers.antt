@@ -4,7 +4,9 @@ use Rattle.store_area.proofs.Steps.{place-zero, place-turn, here, newer-start, o
 use Rattle.store_area.specs.Held.{snaps_in, snap_at}
 use Rattle.store_area.proofs.Places.{Entry}
 use mathlib.Core.List.{List}
-use mathlib.Core.Path.{◌≡◌, sym, ◌∙◌}
+use mathlib.Core.Path.{◌≡◌, sym, ap, ◌∙◌}
+use Prim.Native.Nat.{ℕ}
+use lib.ListN.{take}
 use mir.Facts.{to_z-of_z}
 use mir.Syntax.{w32}
 use native.Mathlib.Omega.{arith}
@@ -32,7 +34,7 @@ stands : (c : In-loop-i) → let l = c.before in Entry l.args.area.now l.loop-i.
 stands c =
     let l = c in
     let s = c in
-    here s.args.area.now s.args.count s.requires l.loop-i.i l.loop-i.p (omega arith) l.loop-i.invariant.1
+    here s.args.area.now s.args.count s.requires l.loop-i.i l.loop-i.p (omega arith) l.loop-i.invariant.0
 
 -- its tick is compared
 compared : (c : After-is_before) → let l = c in let s = c in
@@ -41,7 +43,7 @@ compared c =
     rw (to_z-of_z {w = w32} (record { sfits = c.held-1.given }), (stands c.before.before).tick_is) at c.is_before.ensures
 
 pub loop-i-init : goal.loop-i-init
-loop-i-init c = (search rules, place-zero (L c), newer-start _ _)
+loop-i-init c = (place-zero (L c), newer-start _ _)
 
 pub offset_bounds-area-p : goal.offset_bounds-area-p
 offset_bounds-area-p c = let e = stands c in omega (arith, e.room)
@@ -53,7 +55,7 @@ pub returns-then-is_before : goal.returns-then-is_before
 returns-then-is_before c =
     let l = c in
     let s = c in
-    (search rules, older-here s.args.tick.0 (L c.before.before.before.before.before) l.loop-i.i l.loop-i.invariant.2 (omega (arith, s.requires.many)) (sym (compared c.before) ∙ c.if-is_before.true))
+    (search rules, older-here s.args.tick.0 (L c.before.before.before.before.before) l.loop-i.i l.loop-i.invariant.1 (omega (arith, s.requires.many)) (sym (compared c.before) ∙ c.if-is_before.true))
 
 pub overflow_add-p : goal.overflow_add-p
 overflow_add-p c = let e = stands c.before.before.before in omega (arith, e.room)
@@ -73,13 +75,13 @@ pub loop-i-preserved : goal.loop-i-preserved
 loop-i-preserved c =
     let l = c in
     let s = c in (
-      search rules,
-      place-turn s.args.area.now s.args.count s.requires l.loop-i.i l.loop-i.p _ (omega arith) l.loop-i.invariant.1 c.nat_at.ensures.0,
-      newer-turn s.args.tick.0 (L c.before.before.before.before.before.before) l.loop-i.i l.loop-i.invariant.2 (omega (arith, s.requires.many)) (sym (compared c.before.before) ∙ c.if-is_before.false),
+      place-turn s.args.area.now s.args.count s.requires l.loop-i.i l.loop-i.p _ (omega arith) l.loop-i.invariant.0 c.nat_at.ensures.0,
+      newer-turn s.args.tick.0 (L c.before.before.before.before.before.before) l.loop-i.i l.loop-i.invariant.1 (omega (arith, s.requires.many)) (sym (compared c.before.before) ∙ c.if-is_before.false),
     )
 
 pub returns : goal.returns
 returns c =
-    let l = c in
     let s = c in
-    (search rules, none-older s.args.tick.0 (L c.before.before) l.loop-i.i l.loop-i.invariant.2 (omega (arith, s.requires.many)))
+    let l = L c.before.before in
+    let e : c.loop-i.i ≡ s.args.count = omega arith in
+    (search rules, none-older s.args.tick.0 l c.loop-i.i c.loop-i.invariant.1 (omega (arith, s.requires.many)) ∙ ap (λ (k : ℕ). take k l) e)

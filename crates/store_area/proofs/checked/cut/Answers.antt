@@ -9,9 +9,6 @@ use mathlib.Core.Path.{sym}
 use native.Mathlib.Omega.{arith}
 use Rattle.store_area.proofs.checked.cut.Goals as goal
 
-pub place-from-requires : goal.place-from-requires
-place-from-requires c = (c.requires.0, c.requires.2)
-
 pub offset_bounds-area-from : goal.offset_bounds-area-from
 offset_bounds-area-from c =
     let r = room_take c.args.left (snaps_in c.args.count c.args.area.now) in
@@ -24,11 +21,6 @@ slice_bounds-clear-count c =
 
 pub slice_bounds-clear-start : goal.slice_bounds-clear-start
 slice_bounds-clear-start c =
-    let r = room_take c.args.left (snaps_in c.args.count c.args.area.now) in
-    omega (arith, r, c.place-from.ensures, c.requires.1, c.requires.0.stands.room)
-
-pub slice_bounds-clear-end : goal.slice_bounds-clear-end
-slice_bounds-clear-end c =
     let r = room_take c.args.left (snaps_in c.args.count c.args.area.now) in
     omega (arith, r, c.place-from.ensures, c.requires.1, c.requires.0.stands.room)
 

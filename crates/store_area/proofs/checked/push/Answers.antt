@@ -1,24 +1,10 @@
 -- `checked::push` meets its contract: what its steps leave is the table before the others. Assumes nothing.
 use Rattle.store_area.proofs.Laying.{lays-first, pushes}
 use Rattle.store_area.specs.Held.{snaps_in}
-use lib.ListN.{length-set}
 use mathlib.Core.Path.{◌∙◌}
 use mir.Facts.{to_z-of_z}
 use mir.Syntax.{w32}
-use native.Mathlib.Omega.{arith}
 use Rattle.store_area.proofs.checked.push.Goals as goal
-
-pub put-requires : goal.put-requires
-put-requires c =
-    let h = c in
-    (rw length-set (omega (arith, h.shift.auto.area, h.requires.2)), omega (arith, h.requires.3))
-
-pub shape_of-area : goal.shape_of-area
-shape_of-area c =
-    let f = c in
-    let p = c in
-    let h = c in
-    f.copy_into.auto.out ∙ (p.put.auto.area ∙ rw length-set h.shift.auto.area)
 
 pub returns : goal.returns
 returns c t w =

@@ -21,9 +21,6 @@ stands c =
     let s = c in
     here s.args.area.now s.args.count s.requires.0 s.args.i c.place-p.result s.requires.1 c.place-p.ensures
 
-pub place-p-requires : goal.place-p-requires
-place-p-requires c = (c.requires.0, omega arith)
-
 pub overflow_add-from : goal.overflow_add-from
 overflow_add-from c = let e = stands c in omega (arith, e.room)
 
@@ -38,12 +35,6 @@ overflow_add-result c = let e = stands c.before in omega (arith, e.room, e.size_
 
 pub offset_bounds-area-from : goal.offset_bounds-area-from
 offset_bounds-area-from c = let e = stands c.before in omega (arith, e.room, e.size_is, c.nat_at-size.ensures.0)
-
-pub slice_bounds-result-count : goal.slice_bounds-result-count
-slice_bounds-result-count c = let e = stands c.before in omega (arith, e.room, e.size_is, c.nat_at-size.ensures.0)
-
-pub slice_bounds-result-start : goal.slice_bounds-result-start
-slice_bounds-result-start c = let e = stands c.before in omega (arith, e.room, e.size_is, c.nat_at-size.ensures.0)
 
 pub slice_bounds-result-end : goal.slice_bounds-result-end
 slice_bounds-result-end c = let e = stands c.before in omega (arith, e.room, e.size_is, c.nat_at-size.ensures.0)

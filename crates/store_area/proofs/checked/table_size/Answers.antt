@@ -19,18 +19,18 @@ returns-in_default c =
     let k = n.nat_at-size in
     no_table x.area.now x.p (omega arith) k.result k.ensures.0 (sym c.in_default.is ∙ c.form.ensures)
 
-pub returns-then-ints-size : goal.returns-then-ints-size
-returns-then-ints-size c =
+pub returns-then-form-size : goal.returns-then-form-size
+returns-then-form-size c =
     let n = c in
     let x = n.args in
     let k = n.nat_at-size in
-    let f = sym c.in-Table.is ∙ c.form.ensures in
-    table_is x.area.now x.p (omega arith) k.result k.ensures.0 _ _ f c.if-ints-size.true
+    let f = sym c.in-Some.is ∙ c.form.ensures in
+    table_is x.area.now x.p (omega arith) k.result k.ensures.0 _ _ f c.if-form-size.true
 
 pub returns : goal.returns
 returns c =
     let n = c in
     let x = n.args in
     let k = n.nat_at-size in
-    let f = sym c.in-Table.is ∙ c.form.ensures in
-    other_length x.area.now x.p (omega arith) k.result k.ensures.0 _ _ f c.if-ints-size.false
+    let f = sym c.in-Some.is ∙ c.form.ensures in
+    other_length x.area.now x.p (omega arith) k.result k.ensures.0 _ _ f c.if-form-size.false

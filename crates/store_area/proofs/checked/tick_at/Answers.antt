@@ -20,9 +20,6 @@ stands c =
     let s = c in
     here s.args.area.now s.args.count s.requires.0 s.args.i c.place-p.result s.requires.1 c.place-p.ensures
 
-pub place-p-requires : goal.place-p-requires
-place-p-requires c = (c.requires.0, omega arith)
-
 pub offset_bounds-area-p : goal.offset_bounds-area-p
 offset_bounds-area-p c = let e = stands c in omega (arith, e.room)
 

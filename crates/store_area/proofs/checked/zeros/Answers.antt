@@ -1,16 +1,12 @@
 use Rattle.store_area.proofs.Forms.{zero-passed, all-zeros}
-use mathlib.Core.Path.{refl}
 use native.Mathlib.Omega.{arith}
 use Rattle.store_area.proofs.checked.zeros.Goals as goal
-
-pub loop-i-init : goal.loop-i-init
-loop-i-init c = refl
 
 pub loop-i-preserved : goal.loop-i-preserved
 loop-i-preserved c =
     let l = c in
     let a = l.args.area.now in
-    rw c.still_zero-all.ensures (zero-passed l.loop-i.all c.nat_at.result a l.args.from l.loop-i.i (omega arith) c.nat_at.ensures.0 l.loop-i.invariant)
+    zero-passed l.loop-i.all c.nat_at.result a l.args.from l.loop-i.i (omega arith) c.nat_at.ensures.0 l.loop-i.invariant
 
 pub returns : goal.returns
 returns c =

@@ -1,13 +1,8 @@
 -- `checked::after_four` meets its contract. Assumes nothing.
 use Prim.Native.Nat.{◌+◌}
-use mathlib.Core.Path.{ap, ◌∙◌}
 use native.Mathlib.Omega.{arith}
-use Rattle.table.specs.Keys.{last_key}
 use Rattle.table.proofs.KeyLaws.{rising, still-none}
 use Rattle.table.proofs.checked.after_four.Goals as goal
-
-pub after_two-half-requires : goal.after_two-half-requires
-after_two-half-requires c = (c.requires.0, omega (arith, c.requires.1), c.requires.2)
 
 pub returns-then-half-eq4294967296 : goal.returns-then-half-eq4294967296
 returns-then-half-eq4294967296 c =
@@ -18,8 +13,3 @@ pub after_two-requires : goal.after_two-requires
 after_two-requires c =
     let s = c.before.before in
     (rising s.args.area.now s.args.n s.args.size s.args.i s.args.last s.requires.0 _ _ (omega arith) c.after_two-half.ensures c.if-half-eq4294967296.false, omega (arith, s.requires.1), s.requires.2)
-
-pub returns : goal.returns
-returns c =
-    let s = c.before.before.before in
-    c.after_two.ensures ∙ ap (last_key s.args.area.now) (omega arith)

@@ -2,9 +2,6 @@
 use Rattle.table.proofs.KeyLaws.{comes, too-low}
 use Rattle.table.proofs.checked.after_item.Goals as goal
 
-pub key_bits-key-requires : goal.key_bits-key-requires
-key_bits-key-requires c = (c.requires.0.head, c.requires.0.ended, c.requires.1, c.requires.2)
-
 pub returns-then-key-last : goal.returns-then-key-last
 returns-then-key-last c =
     let s = c.before.before in

@@ -1,38 +1,23 @@
-use mathlib.Core.Path.{◌≡◌, ◌∙◌}
-use native.Mathlib.Omega.{arith}
-use Rattle.definitions.specs.Tables.{nat}
-use Rattle.table_adding.proofs.Turns.{raise-same, raise-turn, raise-all}
-use borrow.Author.Rules.{rules}
+use Rattle.std.proofs.Common.{ap, ◌∙◌, arith, w32, to_z-of_z, set, ◌≡◌}
+use Rattle.std.proofs.lemmas.Int.{to_z_pos}
+use Rattle.definitions.specs.Tables.{num, nat}
+use Rattle.table_adding.proofs.Turns.{raise-same, raise-turn}
 use Rattle.table_adding.proofs.checked.raise.Goals as goal
-use Rattle.table_adding.proofs.checked.raise.Lts as lts
-use Rattle.table_adding.proofs.checked.raise.Tie as tie
-use Rattle.table_adding.proofs.checked.raise.Reads as reads
-
-abbrev After-nat_at : Type 0
-After-nat_at = lts.After-nat_at tie.the-claims reads.Pre reads.Post goal.the-invariant-loop-i goal.the-decreases-loop-i
+use Rattle.table_adding.proofs.checked.raise.Goals.{After-num}
 
 -- the count that is read has not changed yet
-counted : (c : After-nat_at) → c.nat_at.result ≡ nat c.args.part.now c.loop-i.i
+counted : (c : After-num) → c.num.result ≡ nat c.args.part.now c.loop-count.count-index
+unfolding nat
 counted c =
-    let at = c in
-    c.nat_at.ensures.0
-    ∙ raise-same at.args.by at.args.part.now at.loop-i.part at.loop-i.i (omega arith) at.loop-i.invariant.2
+    c.num.ensures.0 ∙ ap num (to_z-of_z {w = w32} (record { sfits = c.num-arg-1.given }))
+    ∙ raise-same c.args.by c.args.part.now c.loop-count.part c.loop-count.count-index c.loop-count-test.true c.loop-count.invariant
 
-pub put-requires : goal.put-requires
-put-requires c =
-    let at = c in
-    (search rules, omega (arith, at.requires.1 at.loop-i.i (omega arith), counted c))
+pub overflow_cast-count : goal.overflow_cast-count
+overflow_cast-count c =
+    record { sfits = omega (arith, c.requires.1 c.loop-count.count-index c.loop-count-test.true, counted (goal.at.overflow_cast-count c).After-num) }
 
-pub loop-i-preserved : goal.loop-i-preserved
-loop-i-preserved c =
-    let at = c in
-    let s = at.args in (
-      search rules,
-      search rules,
-      c.put.ensures
-          ∙ raise-turn s.by s.part.now at.loop-i.part at.loop-i.i (omega arith) at.loop-i.invariant.2 _
-          (omega (arith, counted c.before.before)),
-    )
-
-pub returns : goal.returns
-returns c = raise-all _ _ _ c.loop-i.i (search rules) c.loop-i.invariant.2
+pub loop-count-preserved : goal.loop-count-preserved
+loop-count-preserved c =
+    let e = counted (goal.at.loop-count-preserved c).After-num in
+    ap (set c.loop-count.part c.loop-count.count-index) (to_z_pos w32 _ (omega (arith, c.requires.1 c.loop-count.count-index c.loop-count-test.true, e)))
+    ∙ raise-turn c.args.by c.args.part.now c.loop-count.part c.loop-count.count-index c.loop-count-test.true c.loop-count.invariant _ (omega (arith, e))

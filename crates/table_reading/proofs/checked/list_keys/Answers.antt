@@ -1,4 +1,4 @@
-use mathlib.Core.Path.{◌≡◌, refl, sym, ap, subst, ◌∙◌}
+use mathlib.Core.Path.{◌≡◌, sym, ap, subst, ◌∙◌}
 use mathlib.Core.Bool.{true}
 use mathlib.Core.List.{List, [], ◌∷◌, ◌++◌}
 use Prim.Native.Nat.{ℕ, ◌+◌, ◌/◌, ◌^◌, ◌<◌}
@@ -35,57 +35,56 @@ returns-then-edge-ne0 c =
 pub loop-i-init : goal.loop-i-init
 loop-i-init c =
     let e = sym c.edge.ensures.0 ∙ c.if-edge-ne0.false in
-    (fine-zero c.args.src.now c.args.n c.args.len c.requires.0 e, sym e, refl, none-numbered c.args.src.now c.args.keys.now)
+    (fine-zero c.args.src.now c.args.n c.args.len c.requires.0 e, sym e, none-numbered c.args.src.now c.args.keys.now)
 
-pub returns-then-next-eq0 : goal.returns-then-next-eq0
-returns-then-next-eq0 c =
+pub returns-in_default : goal.returns-in_default
+returns-in_default c =
     let l = c.loop-i in
     record {
       few = omega (arith, l.invariant.0.few);
-      keys-are = l.invariant.3;
-      ending = ends-badly l.invariant.0 c.loop-i-test.true (bad-end c.args.src.now l.i _ c.item_end-next.ensures c.if-next-eq0.true);
+      keys-are = l.invariant.2;
+      ending = ends-badly l.invariant.0 c.loop-i-test.true (bad-end c.args.src.now l.i c.in_default.ensures);
     }
 
 pub bounds-src-at : goal.bounds-src-at
 bounds-src-at c =
     let l = c.loop-i in
-    let ok = good-end c.args.src.now l.i _ c.item_end-next.ensures c.if-next-eq0.false in
+    let ok = good-end c.args.src.now l.i _ c.in-Some.ensures in
     begins-inside c.args.src.now _ _ _ l.invariant.0 c.loop-i-test.true ok.0 l.here l.invariant.1
 
-pub judge_size-judged-requires : goal.judge_size-judged-requires
-judge_size-judged-requires c =
+pub judge_size-requires : goal.judge_size-requires
+judge_size-requires c =
     let l = c.loop-i in
-    let ok = good-end c.args.src.now l.i _ c.item_end-next.ensures c.if-next-eq0.false in
+    let ok = good-end c.args.src.now l.i _ c.in-Some.ensures in
     (l.invariant.0.few, omega (arith, ok.1, small-end c.args.src.now _ _ _ l.invariant.0 c.loop-i-test.true ok.0))
 
-pub returns-in-Refused : goal.returns-in-Refused
-returns-in-Refused c =
+pub returns-in-Err : goal.returns-in-Err
+returns-in-Err c =
     let a = c.args.src.now in
     let l = c.loop-i in
-    let ok = good-end a l.i _ c.item_end-next.ensures c.if-next-eq0.false in
+    let ok = good-end a l.i _ c.in-Some.ensures in
     record {
       few = omega (arith, l.invariant.0.few);
-      keys-are = listed a _ _ l.i l.here l.keys c.put_pair.new.a l.invariant.0 c.loop-i-test.true ok.0 l.invariant.1 l.invariant.3 (omega arith) c.put_pair.ensures;
-      ending = oversized a _ _ _ l.invariant.0 c.loop-i-test.true ok.0 _ _ ok.1 (sym c.judge_size-judged.ensures ∙ c.in-Refused.is);
+      keys-are = listed a _ _ l.i l.here l.keys c.put_pair.new.a l.invariant.0 c.loop-i-test.true ok.0 l.invariant.1 l.invariant.2 (omega arith) c.put_pair.ensures;
+      ending = oversized a _ _ _ l.invariant.0 c.loop-i-test.true ok.0 _ _ ok.1 (sym c.judge_size.ensures ∙ c.in-Err.is);
     }
 
 pub loop-i-preserved : goal.loop-i-preserved
 loop-i-preserved c =
     let a = c.args.src.now in
     let l = c.loop-i in
-    let ok = good-end a l.i _ c.item_end-next.ensures c.if-next-eq0.false in (
-      fine_more a _ _ _ l.invariant.0 c.loop-i-test.true ok.0 l.here _ l.invariant.1 ok.1 (omega arith) (sym c.judge_size-judged.ensures ∙ c.in_default.is),
+    let ok = good-end a l.i _ c.in-Some.ensures in (
+      fine_more a _ _ _ l.invariant.0 c.loop-i-test.true ok.0 l.here _ l.invariant.1 ok.1 (omega arith) (sym c.judge_size.ensures ∙ c.in_default-judge_size.is),
       ok.1,
-      c.put_pair.auto.a ∙ l.invariant.2,
-      listed a _ _ l.i l.here l.keys c.put_pair.new.a l.invariant.0 c.loop-i-test.true ok.0 l.invariant.1 l.invariant.3 (omega arith) c.put_pair.ensures,
+      listed a _ _ l.i l.here l.keys c.put_pair.new.a l.invariant.0 c.loop-i-test.true ok.0 l.invariant.1 l.invariant.2 (omega arith) c.put_pair.ensures,
     )
 
 pub returns : goal.returns
 returns c =
     let l = c.loop-i in
-    let e : l.i ≡ c.args.n = omega (arith, l.invariant.0.some) in
+    let e : l.i ≡ c.args.n = omega arith in
     record {
       few = omega (arith, l.invariant.0.few);
-      keys-are = subst (λ (k : ℕ). pairs l.keys k ≡ numbered c.args.src.now k) e l.invariant.3;
+      keys-are = subst (λ (k : ℕ). pairs l.keys k ≡ numbered c.args.src.now k) e l.invariant.2;
       ending = all (subst (Fine c.args.src.now c.args.n c.args.len) e l.invariant.0);
     }

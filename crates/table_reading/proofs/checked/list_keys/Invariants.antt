@@ -1,7 +1,5 @@
 -- `checked::list_keys` meets its contract. The loop's invariant: the items so far are fine, and their keys are listed. Assumes nothing.
 use mathlib.Core.Path.{◌≡◌}
-use Prim.Native.Nat.{◌-◌}
-use lib.ListN.{length}
 use Rattle.definitions.specs.Tables.{edge}
 use Rattle.sorting.specs.Pairs.{pairs}
 use Rattle.table_reading.specs.Reading.{Fine, numbered}
@@ -9,7 +7,4 @@ use Rattle.table_reading.proofs.checked.list_keys.Given as goal
 
 abbrev pub invariant-loop-i : goal.invariant-loop-i
 invariant-loop-i l =
-    Fine l.src l.n l.len l.i × (l.here ≡ edge l.src l.i) × (length l.keys ≡ length l.initial.keys) × (pairs l.keys l.i ≡ numbered l.src l.i)
-
-abbrev pub decreases-loop-i : goal.decreases-loop-i
-decreases-loop-i l = l.n - l.i
+    Fine l.src l.n l.len l.i × (l.here ≡ edge l.src l.i) × (pairs l.keys l.i ≡ numbered l.src l.i)

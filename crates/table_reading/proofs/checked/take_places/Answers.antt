@@ -1,10 +1,10 @@
-use mathlib.Core.Path.{◌≡◌, refl, sym, ap, subst, ◌∙◌}
+use mathlib.Core.Path.{◌≡◌, refl, sym, ap, ◌∙◌}
 use mathlib.Core.List.{List, [], ◌∷◌, ◌++◌, map}
 use Prim.Native.Nat.{ℕ, ◌+◌, ◌<◌}
 use native.Mathlib.Numerals.{add-one}
 use native.Mathlib.Omega.{arith}
 use lib.IntN.{ℤ}
-use lib.ListN.{length, take, set, length-set}
+use lib.ListN.{length, take, set}
 use lib.Seq.{take-suc-set}
 use Rattle.definitions.specs.Tables.{list}
 use Rattle.sorting.specs.Pairs.{pair_at, pairs, place}
@@ -27,38 +27,8 @@ unfolding list
 none keys = refl
 
 pub loop-j-init : goal.loop-j-init
-loop-j-init c = (omega arith, refl, sym (none c.args.keys.now))
-
-pub place_at-requires : goal.place_at-requires
-place_at-requires c = omega (arith, c.requires.0)
-
-pub overflow_cast-index : goal.overflow_cast-index
-overflow_cast-index c = let p = c.requires in omega (arith, c.place_at.ensures, p.2 c.loop-j.j c.loop-j-test.true)
-
-pub offset_bounds-index-j : goal.offset_bounds-index-j
-offset_bounds-index-j c = omega (arith, c.requires.1)
-
-pub bounds-index-j : goal.bounds-index-j
-bounds-index-j c = let p = c.requires in omega (arith, p.1, c.loop-j.invariant.1)
-
-pub overflow_add-j : goal.overflow_add-j
-overflow_add-j c = omega arith
-
-pub loop-j-smaller : goal.loop-j-smaller
-loop-j-smaller c = omega arith
+loop-j-init c = sym (none c.args.keys.now)
 
 pub loop-j-preserved : goal.loop-j-preserved
 loop-j-preserved c =
-    let l = c.loop-j in
-    let p = c.requires in (
-      omega arith,
-      simp length-set l.invariant.1,
-      turn c.args.keys.now l.index l.j c.place_at.result (omega (arith, p.1, l.invariant.1)) l.invariant.2 c.place_at.ensures,
-    )
-
-pub shape_of-index : goal.shape_of-index
-shape_of-index c = c.loop-j.invariant.1
-
-pub returns : goal.returns
-returns c =
-    let l = c.loop-j in let e : l.j ≡ c.args.n = omega (arith, l.invariant.0) in subst (λ (k : ℕ). take k l.index ≡ map place (pairs c.args.keys.now k)) e l.invariant.2
+    turn c.args.keys.now c.loop-j.index c.loop-j.j c.place_at.result (omega (arith, c.requires.1, c.loop-j.auto.index)) c.loop-j.invariant c.place_at.ensures

@@ -1,87 +1,48 @@
-use mathlib.Core.Path.{◌≡◌, refl, sym, ap₂, ◌∙◌}
+use mathlib.Core.Path.{◌≡◌, sym, ap, ap₂, ◌∙◌}
 use Prim.Native.Nat.{ℕ, ◌+◌, ◌-◌, ◌<◌}
 use native.Mathlib.Omega.{arith}
-use lib.ListN.{length, get_or, length-set}
+use lib.ListN.{length, get_or}
+use lib.Seq.{get_or-take}
 use Rattle.definitions.specs.Tables.{offsets, edge}
 use Rattle.laws.specs.AreaLaws.{lay_at-nothing}
-use Rattle.table_reading.proofs.Laying.{body-long, small, within, less-left, offset-turn, none_left}
-use borrow.Author.Rules.{rules}
+use Rattle.table_reading.proofs.Laying.{length-l, within, less-left, offset-turn, none_left}
 use Rattle.table_reading.proofs.checked.write_offsets.Goals as goal
+use Rattle.table_reading.proofs.checked.write_offsets.Goals.{After-edge-in-loop-j}
 
-pub loop-j-init : goal.loop-j-init
-loop-j-init c = (search rules, refl, omega arith, refl)
+-- the numbers are those of the n items
+counted : (c : After-edge-in-loop-j) → c.loop-j.j < c.args.n
+counted c = omega (arith, length-l _ _ _ _ c.requires.indexed)
 
-pub offset_bounds-index-j : goal.offset_bounds-index-j
-offset_bounds-index-j c = omega (arith, c.requires.indexed.few)
-
-pub bounds-index-j : goal.bounds-index-j
-bounds-index-j c = let x = c.requires.indexed in omega (arith, x.few, x.long)
-
-pub overflow_add-j : goal.overflow_add-j
-overflow_add-j c = omega (arith, c.requires.indexed.few)
-
-pub put-requires : goal.put-requires
-put-requires c =
-    let w = c.requires in
-    let l = c.loop-j in
-    let m = body-long _ _ _ _ w.indexed in
-    let k = small _ _ _ _ w.indexed in
-    (omega (arith, w.fits, l.invariant.1), omega (arith, l.invariant.2))
-
-pub overflow_add-item : goal.overflow_add-item
-overflow_add-item c = omega (arith, c.requires.indexed.within c.loop-j.j c.loop-j-test.true, c.requires.indexed.few)
-
-pub edge-requires : goal.edge-requires
-edge-requires c = let x = c.requires.indexed.ints in (x.count-is, omega (arith, x.room))
-
-pub edge-requires-in-loop-j : goal.edge-requires-in-loop-j
-edge-requires-in-loop-j c = let x = c.requires.indexed.ints in (x.count-is, omega (arith, x.room))
+-- where the item ends and begins
+ends_at : (c : After-edge-in-loop-j) → let k = get_or c.args.index.now c.loop-j.j 0 in (c.edge.result ≡ edge c.args.src.now (k + 1)) × (c.edge-in-loop-j.result ≡ edge c.args.src.now k)
+ends_at c =
+    let e = get_or-take c.args.n c.args.index.now c.loop-j.j 0 (counted c) in
+    (c.edge.ensures.0 ∙ ap (λ (k : ℕ). edge c.args.src.now (k + 1)) e, c.edge-in-loop-j.ensures.0 ∙ ap (edge c.args.src.now) e)
 
 pub overflow_sub-offset : goal.overflow_sub-offset
 overflow_sub-offset c =
     let x = c.requires.indexed in
-    let l = c.loop-j in
-    let v = within _ _ _ _ x (get_or c.args.index.now l.j 0) (x.within l.j c.loop-j-test.true) in
-    let u = small _ _ _ _ x in
-    omega (arith, c.edge-in-loop-j.ensures.0, c.edge.ensures.0)
-
-pub overflow_add-offset : goal.overflow_add-offset
-overflow_add-offset c =
-    let x = c.requires.indexed in
-    let l = c.loop-j in
-    let v = within _ _ _ _ x (get_or c.args.index.now l.j 0) (x.within l.j c.loop-j-test.true) in
-    let u = small _ _ _ _ x in
-    let m = body-long _ _ _ _ x in
-    omega (arith, c.edge-in-loop-j.ensures.0, c.edge.ensures.0, l.invariant.2)
-
-pub overflow_add-j-in-loop-j : goal.overflow_add-j-in-loop-j
-overflow_add-j-in-loop-j c = omega arith
-
-pub loop-j-smaller : goal.loop-j-smaller
-loop-j-smaller c = omega arith
+    let v = within _ _ _ _ x (get_or c.args.index.now c.loop-j.j 0) (x.within c.loop-j.j (counted (goal.at.overflow_sub-offset c).After-edge-in-loop-j)) in
+    let e = ends_at (goal.at.overflow_sub-offset c).After-edge-in-loop-j in
+    omega (arith, e.0, e.1)
 
 pub loop-j-preserved : goal.loop-j-preserved
 loop-j-preserved c =
-    let w = c.requires in
-    let x = w.indexed in
+    let x = c.requires.indexed in
     let l = c.loop-j in
-    let h = c.loop-j-test.true in
-    let e : c.edge.result - c.edge-in-loop-j.result ≡ edge c.args.src.now (get_or c.args.index.now l.j 0 + 1) - edge c.args.src.now (get_or c.args.index.now l.j 0) =
-    ap₂ (λ (u v : ℕ). u - v) c.edge.ensures.0 c.edge-in-loop-j.ensures.0 in
-    let r : 2 + l.j < length l.out = omega (arith, w.fits, l.invariant.1) in (
-      omega arith,
-      rw c.put.ensures (simp length-set l.invariant.1),
-      rw e (less-left _ _ _ _ x l.j h l.offset _ l.invariant.2),
-      rw (e, c.put.ensures) (sym (offset-turn _ _ _ _ x l.j h l.offset l.out r) ∙ l.invariant.3),
+    let h = counted (goal.at.loop-j-preserved c).After-edge-in-loop-j in
+    let k = get_or c.args.index.now l.j 0 in
+    let p = ends_at (goal.at.loop-j-preserved c).After-edge-in-loop-j in
+    let e : c.edge.result - c.edge-in-loop-j.result ≡ edge c.args.src.now (k + 1) - edge c.args.src.now k = ap₂ (λ (u v : ℕ). u - v) p.0 p.1 in
+    let r : 2 + l.j < length l.out = omega (arith, h, c.requires.fits, l.auto.out) in (
+      rw e (less-left _ _ _ _ x l.j h l.offset _ l.invariant.0),
+      rw (e, c.put.ensures) (sym (offset-turn _ _ _ _ x l.j h l.offset l.out r) ∙ l.invariant.1),
     )
-
-pub shape_of-out : goal.shape_of-out
-shape_of-out c = c.loop-j.invariant.1
 
 pub returns : goal.returns
 unfolding offsets
 returns c =
     let x = c.requires.indexed in
     let l = c.loop-j in
-    let e = none_left _ _ _ _ x l.j c.loop-j-test.false in
-    sym (lay_at-nothing (2 + l.j) l.out) ∙ (rw e at l.invariant.3)
+    let e = none_left _ _ _ _ x l.j (omega (arith, length-l _ _ _ _ x)) in
+    sym (lay_at-nothing (2 + l.j) l.out) ∙ (rw e at l.invariant.1)

@@ -8,7 +8,7 @@ returns-then-src-gt8192 c = long-read _ c.if-src-gt8192.true
 
 pub returns : goal.returns
 returns c =
-    let r = c.read-read in
+    let r = c.read in
     let few = c.if-src-gt8192.false in
     let room = c.requires in
     all_read _ few _ _ 16384 _ room refl r.result.answer r.ensures.0

@@ -1,9 +1,10 @@
--- `Tick::is_same` meets its contract. Assumes nothing.
-use mir.Syntax.{w32}
-use mir.Facts.{to_z-of_z}
+-- `Tick::is_same` meets its contract: equal ints have equal bits. Assumes nothing.
+use Rattle.std.proofs.Common.{◌∙◌, SFits, w32, rules}
+use Rattle.ints.specs.Same.{equal-same}
 use Rattle.ticks.proofs.Tick.is_same.Goals as goal
 
 pub returns : goal.returns
 returns c =
-    let a = c.args in
-    rw (c.same.ensures, to_z-of_z {w = w32} {z = a.self.0} (record { sfits = c.struct_told-1.given.0.1 }), to_z-of_z {w = w32} {z = a.other.0} (record { sfits = c.struct_told-2-1.given.0.1 }))
+    let f : SFits w32 c.args.self.0 = search rules in
+    let g : SFits w32 c.args.other.0 = search rules in
+    c.eq.ensures ∙ equal-same f g

@@ -1,7 +1,6 @@
 -- `checked::all_ordinal` meets its contract: all keys are between the first and the last. Assumes nothing.
 use Prim.Native.Nat.{◌-◌}
 use mathlib.Core.Path.{◌≡◌, ap, ◌∙◌}
-use mathlib.Core.Bool.{false≢true}
 use native.Mathlib.Omega.{arith}
 use borrow.Author.Tests.{ltb-true}
 use mir.Facts.{to_z-of_z}
@@ -15,9 +14,6 @@ pub returns-then-n-eq0 : goal.returns-then-n-eq0
 returns-then-n-eq0 c e =
     let s = c in
     ordinals-sound s.args.area.now s.args.n s.requires (λ l. absurd (omega (arith, l, c.if-n-eq0.true))) (λ l. absurd (omega (arith, l, c.if-n-eq0.true)))
-
-pub returns-then-to_bits-lt65536 : goal.returns-then-to_bits-lt65536
-returns-then-to_bits-lt65536 c e = absurd (false≢true e)
 
 pub returns : goal.returns
 returns c e =

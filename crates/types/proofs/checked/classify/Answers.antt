@@ -9,10 +9,10 @@ pub returns-then-all_first : goal.returns-then-all_first
 returns-then-all_first c =
     let a = c.args in
     let l = c.loop-i in
-    settled (halves a.src.now a.index.now) (l.i + 1) a.m c.refine.new.classes c.refine.ensures 8 (omega (arith, l.invariant.0, c.loop-i-test.true)) (c.all_first.ensures c.if-all_first.true)
+    settled (halves a.picked.src.now a.picked.index.now) (l.i + 1) a.m c.refine.new.classes c.refine.ensures 8 (omega (arith, c.loop-i.auto.i-end, c.loop-i-test.true)) (c.all_first.ensures c.if-all_first.true)
 
 pub returns : goal.returns
 returns c =
     let l = c.loop-i in
-    let e : l.i ≡ 8 = omega (arith, l.invariant.0) in
-    subst (λ (k : ℕ). Firsts (halves c.args.src.now c.args.index.now) k c.args.m l.classes) e l.invariant.2
+    let e : l.i ≡ 8 = omega (arith, c.loop-i.auto.i-end) in
+    subst (λ (k : ℕ). Firsts (halves c.args.picked.src.now c.args.picked.index.now) k c.args.m l.classes) e l.invariant

@@ -9,6 +9,6 @@ unfolding Kinds.half
 returns-then-i-eq0 c =
     (rw (c.bits_at-bits.ensures.0, eq-eqb _ _ c.if-i-eq0.true), omega (arith, c.bits_at-bits.ensures.1))
 
-pub returns : goal.returns
+pub returns-else-i-eq0 : goal.returns-else-i-eq0
 unfolding Kinds.half
-returns c = (rw (c.bits_at-bits.ensures.0, ne_eqb _ _ c.if-i-eq0.false), omega arith)
+returns-else-i-eq0 c = (rw (c.bits_at-bits.ensures.0, ne_eqb _ _ c.if-i-eq0.false), omega arith)

@@ -11,4 +11,4 @@ classify-requires c =
     let p = c.requires in
     let a = c.args in
     let w = c.count_whole-m.ensures.whole in
-    (p.0, w, refl, firsts-none (halves a.src.now a.index.now) c.count_whole-m.result (replicate 1024 0) (λ j h. get_or-replicate 1024 j 0 0 (omega (arith, w.some, p.0.indexed.few))))
+    (w, refl, firsts-none (halves a.picked.src.now a.picked.index.now) c.count_whole-m.result (replicate 1024 0) (λ j h. get_or-replicate 1024 j 0 0 (omega (arith, w.some, a.picked.picks.indexed.few))))

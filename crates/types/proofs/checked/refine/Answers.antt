@@ -14,22 +14,22 @@ pub list_halves-requires : goal.list_halves-requires
 list_halves-requires c =
     let p = c.requires in
     let a = c.args in
-    (p.0, p.1, p.2, p.3, first-le (halves a.src.now a.index.now) a.i a.m a.classes.now p.4, p.5)
+    (p.0, p.1, p.2, first-le (halves a.picked.src.now a.picked.index.now) a.i a.m a.classes.now p.3, p.4)
 
 pub take_leaders-requires : goal.take_leaders-requires
 take_leaders-requires c =
     let p = c.requires in
     let a = c.args in
-    let few : a.m ≤ 1024 = omega (arith, p.0.indexed.few, p.1.some) in
-    let sorted : list (pair_at c.sort.new.a) a.m ≡ Sort.sort (keyed (halves a.src.now a.index.now) a.classes.now a.i a.m) =
+    let few : a.m ≤ 1024 = omega (arith, a.picked.picks.indexed.few, p.0.some) in
+    let sorted : list (pair_at c.sort.new.a) a.m ≡ Sort.sort (keyed (halves a.picked.src.now a.picked.index.now) a.classes.now a.i a.m) =
     c.sort.ensures.0 ∙ ap Sort.sort c.list_halves.ensures.0 in
-    (omega (arith, p.5, c.list_halves.auto.list, c.sort.auto.a), few, p.3, sorted-pairs (pair_at c.sort.new.a) (key_with (halves a.src.now a.index.now) a.classes.now a.i) a.m few sorted)
+    (omega (arith, p.4, c.list_halves.auto.list, c.sort.auto.a), few, p.2, sorted-pairs (pair_at c.sort.new.a) (key_with (halves a.picked.src.now a.picked.index.now) a.classes.now a.i) a.m few sorted)
 
 pub returns : goal.returns
 returns c =
     let p = c.requires in
     let a = c.args in
-    let few : a.m ≤ 1024 = omega (arith, p.0.indexed.few, p.1.some) in
-    let sorted : list (pair_at c.sort.new.a) a.m ≡ Sort.sort (keyed (halves a.src.now a.index.now) a.classes.now a.i a.m) =
+    let few : a.m ≤ 1024 = omega (arith, a.picked.picks.indexed.few, p.0.some) in
+    let sorted : list (pair_at c.sort.new.a) a.m ≡ Sort.sort (keyed (halves a.picked.src.now a.picked.index.now) a.classes.now a.i a.m) =
     c.sort.ensures.0 ∙ ap Sort.sort c.list_halves.ensures.0 in
-    refined (halves a.src.now a.index.now) a.i a.m a.classes.now p.4 (pair_at c.sort.new.a) few c.list_halves.ensures.1 sorted c.take_leaders.new.classes c.take_leaders.ensures
+    refined (halves a.picked.src.now a.picked.index.now) a.i a.m a.classes.now p.3 (pair_at c.sort.new.a) few c.list_halves.ensures.1 sorted c.take_leaders.new.classes c.take_leaders.ensures

@@ -1,2 +1,0 @@
--- Facts that the proofs of `capi_deltas` share. Assumes nothing.
-pub mod Creations

@@ -1,2 +1,0 @@
--- Lemmas of `capi_rules`' proofs. Assumes nothing.
-mod Outputs

@@ -1,2 +1,0 @@
--- Facts that the proofs of `capi_snaps` share. Assumes nothing.
-pub mod Calls

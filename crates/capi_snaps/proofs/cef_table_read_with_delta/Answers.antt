@@ -1,9 +1,0 @@
--- `capi_snaps::cef_table_read_with_delta` meets its contract: by what `read_with_delta` answered. Assumes nothing.
-use Rattle.boundary.specs.Outcomes.{told-read}
-use Rattle.capi_snaps.proofs.cef_table_read_with_delta.Goals as goal
-
-pub returns : goal.returns
-returns c =
-    let read = c.read_with_delta-read.ensures in
-    let t = told-read _ c.read_with_delta-read.result.answer read.0 _ _ _ _ c.told.ensures.value c.told.ensures.count_after c.row.ensures in
-    record { value = t.0; out_after = t.1.0; scratch_after = read.1; count_after = t.1.1.0; warnings_after = t.1.1.1 }

@@ -1,2 +1,0 @@
--- Facts that the proofs of `capi_tables` share. Assumes nothing.
-pub mod Parts

@@ -1,8 +1,0 @@
--- `areas::int_area` meets its contract. Assumes nothing.
-use mathlib.Core.Path.{sym}
-use lib.IntN.{pos}
-use lib.ListN.{length-replicate}
-use Rattle.replay_text.proofs.areas.int_area.Goals as goal
-
-pub returns : goal.returns
-returns c = sym (length-replicate 16384 (pos 0))

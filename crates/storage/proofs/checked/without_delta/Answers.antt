@@ -1,6 +1,0 @@
--- `checked::without_delta` meets its contract. Assumes nothing.
-use mathlib.Core.Path.{refl}
-use Rattle.storage.proofs.checked.without_delta.Goals as goal
-
-pub returns : goal.returns
-returns c = refl
