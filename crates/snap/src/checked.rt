@@ -23,7 +23,7 @@ use table::checked::{data_at, find, key_at};
 use table_reading::checked::{place_items, read_header, write_table};
 use typed_applying::checked::{Typed, apply_typed};
 use types::checked::judge;
-use types::picked::Picked;
+use types::checked::picked::Picked;
 
 // The result of placing the items of a table, and how many kinds have more than four ints.
 #[derive(Clone, Copy)]

@@ -11,7 +11,9 @@ ghost use Rattle.table.specs.Held.{Head, Held, form_of, data_in};
 ghost use Rattle.table.specs.Offsets.{behind_at, joined, tally};
 ghost use Rattle.table.specs.Keys.{Rising, last_key};
 
-use crate::search::first_not;
+use search::first_not;
+
+pub mod search;
 
 // The number of items, and of ints, of the table with which an area begins.
 #[derive(Clone, Copy)]
@@ -327,7 +329,7 @@ pub fn walk_start(area: &[i32], n: usize) -> usize
     requires { Held area.now n }
     ensures { Place area.now (2 ^ 31) result }
 {
-    first_not(n, |i| 0 <= key_at(area, n, i))
+    first_not(n, |i| !ints::signed_less(key_at(area, n, i), 0))
 }
 
 // The place of the i-th of the n items in signed key order.

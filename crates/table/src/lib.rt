@@ -2,4 +2,3 @@
 #![tactic(auto)]
 
 pub mod checked;
-pub mod search;

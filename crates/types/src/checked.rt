@@ -10,11 +10,13 @@ ghost use Rattle.types.specs.Picks.{item_of, table_in, seg};
 ghost use Rattle.types.specs.Kinds.{half, keyed, Whole, Firsts, SortedPairs, Leader, Leaders, WholeUpTo, KindsFirst, halves};
 ghost use Rattle.types.specs.Answers.{judged, judged_table};
 
-use crate::picked::Picked;
 use format::Error;
+use picked::Picked;
 use sorting::checked::{place_at, put_pair, sort};
 use table::checked::{bits_at, key_at};
 use table_reading::checked::place_items;
+
+pub mod picked;
 
 // Whether types are sound, or why they are refused; and how many items of type 0 had more than four ints, up to the refusal.
 #[derive(Clone, Copy)]

@@ -2,7 +2,7 @@
 use mathlib.Core.Path.{◌∙◌}
 use borrow.Author.Tests.{le-ltb}
 use Rattle.types.proofs.Lacking.{absent, tested}
-use Rattle.types.proofs.picked.Picked.has_key.Goals as goal
+use Rattle.types.proofs.checked.picked.Picked.has_key.Goals as goal
 
 pub returns-then-p-self : goal.returns-then-p-self
 returns-then-p-self c = tested _ _ _ c.args.self.picks _ _ c.lower-p.ensures _ c.key_of.ensures.0 c.if-p-self.true

@@ -1,7 +1,7 @@
--- `search::first_not` meets its contract. The loop's invariant: the test holds below lo and fails from hi on. Assumes nothing.
+-- `checked::search::first_not` meets its contract. The loop's invariant: the test holds below lo and fails from hi on. Assumes nothing.
 use Rattle.std.specs.Prelude.{◌≡◌, Bool, true, false, ℕ, ◌-◌, ◌<◌, ◌≤◌}
 use Rattle.table.specs.Searching.{Tells, Falls}
-use Rattle.table.proofs.search.first_not.Given as goal
+use Rattle.table.proofs.checked.search.first_not.Given as goal
 
 abbrev pub invariant-loop-lo : goal.invariant-loop-lo
 invariant-loop-lo g l =

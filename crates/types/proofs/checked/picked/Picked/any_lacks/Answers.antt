@@ -1,6 +1,6 @@
 use mathlib.Core.Path.{sym, ◌∙◌}
 use Rattle.types.proofs.Lacking.{first-lacks, none-lacks}
-use Rattle.types.proofs.picked.Picked.any_lacks.Goals as goal
+use Rattle.types.proofs.checked.picked.Picked.any_lacks.Goals as goal
 
 pub returns-then-lacks_kind : goal.returns-then-lacks_kind
 returns-then-lacks_kind c =

@@ -3,7 +3,7 @@ use native.Mathlib.Omega.{arith}
 use mathlib.Core.Path.{◌∙◌}
 use Rattle.definitions.specs.Tables.{key_at}
 use Rattle.types.proofs.Places.{placed}
-use Rattle.types.proofs.picked.Picked.key_of.Goals as goal
+use Rattle.types.proofs.checked.picked.Picked.key_of.Goals as goal
 
 pub bits_at-requires : goal.bits_at-requires
 bits_at-requires c =

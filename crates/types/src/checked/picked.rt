@@ -4,8 +4,8 @@ ghost use Rattle.definitions.specs.Tables.{find, is_some};
 ghost use Rattle.types.specs.Picks.{Picks, key_in, values_of, item_of, table_in, seg, Lower, lacks_kind, any_lacks};
 ghost use Rattle.types.specs.Kinds.{WholeUpTo};
 
+use table::checked::search::first_not;
 use table::checked::{bits_at, edge};
-use table::search::first_not;
 
 // The n items of a table of ints, in the order of an index.
 #[derive(Clone, Copy)]

@@ -2,7 +2,7 @@
 use mathlib.Core.Path.{◌≡◌}
 use Prim.Native.Nat.{◌-◌}
 use Rattle.types.specs.Picks.{table_in, item_of, seg, any_lacks}
-use Rattle.types.proofs.picked.Picked.any_lacks.Given as goal
+use Rattle.types.proofs.checked.picked.Picked.any_lacks.Given as goal
 
 abbrev pub invariant-loop-j : goal.invariant-loop-j
 invariant-loop-j l =

@@ -1,7 +1,7 @@
 -- `Picked::lower` meets its contract: the keys below the sought one come first. Assumes nothing.
-use Rattle.std.proofs.Common.{sym, ◌∙◌, rules}
+use Rattle.std.proofs.Common.{rules}
 use Rattle.types.proofs.Places.{falls, lowered}
-use Rattle.types.proofs.picked.Picked.lower.Goals as goal
+use Rattle.types.proofs.checked.picked.Picked.lower.Goals as goal
 
 pub returns : goal.returns
 returns c =

@@ -3,7 +3,7 @@ use mathlib.Core.Path.{ap, ◌∙◌}
 use borrow.Author.Tests.{lt-leb}
 use Prim.Native.Nat.{ℕ, ◌/◌}
 use Rattle.types.proofs.Lacking.{lacks-not, lacks-found}
-use Rattle.types.proofs.picked.Picked.lacks_kind.Goals as goal
+use Rattle.types.proofs.checked.picked.Picked.lacks_kind.Goals as goal
 
 pub returns-then-type_id-ge16384 : goal.returns-then-type_id-ge16384
 returns-then-type_id-ge16384 c =

@@ -2,7 +2,7 @@
 use native.Mathlib.Omega.{arith}
 use Rattle.definitions.specs.Tables.{values_at}
 use Rattle.types.proofs.Places.{placed}
-use Rattle.types.proofs.picked.Picked.data_of.Goals as goal
+use Rattle.types.proofs.checked.picked.Picked.data_of.Goals as goal
 
 pub slice_bounds-result-count : goal.slice_bounds-result-count
 slice_bounds-result-count c =
