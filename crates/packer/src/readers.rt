@@ -108,7 +108,8 @@ impl<'a> IntUnpacker<'a> {
 pub fn read_bytes(src: &[u8], at: usize) -> ReaderAnswer
     ensures { Answered (read_int_call src.now at) src.now at result }
 {
-    let mut reader = Unpacker { src, at };
+    let mut reader = Unpacker::new(src);
+    reader.at = at;
     let read = reader.read_int();
     ReaderAnswer {
         read,
@@ -122,7 +123,8 @@ pub fn read_bytes(src: &[u8], at: usize) -> ReaderAnswer
 pub fn read_ints(src: &[i32], at: usize) -> ReaderAnswer
     ensures { Answered (plain_int_call src.now at) src.now at result }
 {
-    let mut reader = IntUnpacker { src, at };
+    let mut reader = IntUnpacker::new(src);
+    reader.at = at;
     let read = reader.read_int();
     ReaderAnswer {
         read,
