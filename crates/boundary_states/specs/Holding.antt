@@ -1,5 +1,6 @@
 -- The rows of a state hold it, and equal those of an equal state. Assumes nothing.
 use Rattle.std.specs.Prelude.{◌≡◌, refl, List, ℕ, ℤ}
+use Rattle.std.proofs.Common.{ap, ◌∙◌}
 use Rattle.std.proofs.Math.Option.{Option, some, none}
 use Rattle.definitions.specs.Receiver.{Current, Receiver}
 use Rattle.definitions.specs.Storage.{Store}
@@ -26,3 +27,14 @@ receiver-rows r p q l = rw (p, q, l) (receiver-held r)
 
 pub store-rows : (s : Store) {ticks : List ℤ} {counts : List ℕ} → ticks ≡ store_ticks s → counts ≡ store_counts s → held_store ticks counts ≡ s
 store-rows s p q = rw (p, q) (store-held s)
+
+-- ---- for an equal state
+
+module _ {r f : Receiver} {ticks : List ℤ} {counts lengths : List ℕ} (e : r ≡ f) where
+  pub receiver-told : (ticks ≡ ticks_of_receiver r) × ((counts ≡ counts_of_receiver r) × (lengths ≡ r.parts)) → (ticks ≡ ticks_of_receiver f) × ((counts ≡ counts_of_receiver f) × (lengths ≡ f.parts))
+  receiver-told h =
+      (h.0 ∙ ap ticks_of_receiver e, (h.1.0 ∙ ap counts_of_receiver e, h.1.1 ∙ ap (λ (x : Receiver). x.parts) e))
+
+module _ {s f : Store} {ticks : List ℤ} {counts : List ℕ} (e : s ≡ f) where
+  pub store_told : (ticks ≡ store_ticks s) × (counts ≡ store_counts s) → (ticks ≡ store_ticks f) × (counts ≡ store_counts f)
+  store_told h = (h.0 ∙ ap store_ticks e, h.1 ∙ ap store_counts e)

@@ -2,3 +2,4 @@
 pub mod Rows
 pub mod Holding
 pub mod Few
+pub mod Emptied
