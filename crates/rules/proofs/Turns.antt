@@ -1,16 +1,19 @@
 -- The turns of the search: items are taken from the last to the first. Assumes nothing.
 use mathlib.Core.Path.{◌≡◌, refl, sym, ap, ◌∙◌, subst}
-use mathlib.Core.Bool.{true, false}
+use mathlib.Core.Bool.{Bool, true, false}
+use mathlib.Core.Logic.{◌⊎◌, inl, inr}
 use mathlib.Core.List.{List, [], ◌∷◌}
 use mathlib.Core.Option.{Option, some, none}
 use Prim.Native.Nat.{ℕ, zero, suc, ◌+◌, ◌/◌, ◌<◌, ◌≤◌}
 use native.Mathlib.Omega.{arith}
 use native.Mathlib.Numerals.{add-one}
-use borrow.Author.Tests.{eq-eqb, ne_eqb}
+use borrow.Author.Tests.{eq-eqb, ne_eqb, eqb-true}
 use Rattle.std.specs.Prelude.{Some, None}
 use Rattle.std.specs.Prelude as Code
 use Rattle.std.specs.List.{list_any}
 use Rattle.std.proofs.lemmas.Bool.Decides.{nat_tests}
+use Rattle.std.proofs.lemmas.Grind.{get_or_default_zero}
+use Rattle.std.proofs.lemmas.List.Folds.{list_any_at, Any-from_list_any}
 use lib.Dec.{eqb}
 use lib.IntN.{ℤ, pos}
 use lib.ListN.{length, get_or, drop, drop_of_length-le}
@@ -42,6 +45,20 @@ eqb-sym m k = grind (arith, nat_tests)
 pub named-is : (k : ℕ) (l : List ℕ) → list_any (λ x. eqb x k) l ≡ elem k l
 named-is k [] = refl
 named-is k (x ∷ l) = rw (eqb-sym x k, named-is k l)
+
+-- a list contains what one of its entries is
+pub elem-entry : (k : ℕ) (l : List ℕ) (i d : ℕ) → i < length l → get_or l i d ≡ k → elem k l ≡ true
+elem-entry k l i d b e = sym (named-is k l) ∙ list_any_at (λ x. eqb x k) l i d b (eq-eqb (get_or l i d) k e)
+
+-- what it contains is one of its entries
+pub elem-place : (k : ℕ) (l : List ℕ) → (elem k l ≡ false) ⊎ ((i : ℕ) × (i < length l) × (get_or l i 0 ≡ k))
+elem-place k l = go (elem k l) refl
+  where
+    go : (b : Bool) → elem k l ≡ b → (elem k l ≡ false) ⊎ ((i : ℕ) × (i < length l) × (get_or l i 0 ≡ k))
+    go false e = inl e
+    go true e =
+        let a = Any-from_list_any (λ x. eqb x k) l (named-is k l ∙ e) in
+        inr (a.0, a.2, sym (get_or_default_zero l a.0 a.1 a.2) ∙ a.3 ∙ eqb-true a.1 k a.4)
 
 -- ---- the rules of a table, item by item
 

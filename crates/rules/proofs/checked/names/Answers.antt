@@ -1,7 +1,7 @@
--- `checked::names` meets its contract. Assumes nothing.
-use mathlib.Core.Path.{◌∙◌}
-use Rattle.rules.proofs.Turns.{named-is}
+-- `checked::names` meets its contract, by what is known of each entry. It cites no call, so that right bodies by `any` prove as well. Assumes nothing.
+use native.Mathlib.Omega.{arith}
+use Rattle.rules.proofs.Turns.{elem-entry, elem-place}
 use Rattle.rules.proofs.checked.names.Goals as goal
 
 pub returns : goal.returns
-returns c = c.contains.ensures.value ∙ named-is c.args.raw_type_id c.args.types.now
+returns c = grind (arith, elem-entry, elem-place)
